@@ -1,0 +1,201 @@
+// Plan bytes: reading a record, the faults with their numbers, and operation 1, check. `check` is the whole.
+ghost use mathlib.Core.Path.{_≡_};
+ghost use Prim.Native.Nat.{_+_, _*_, _<_};
+ghost use lib.ListN.{length};
+ghost use Rattle.temporal.specs.Bytes.{wordAt, contactAt};
+ghost use Rattle.temporal.specs.Cause.{first, isAbove, recordCauses, planFault};
+ghost use Rattle.plan.specs.Fault.{planNumber, callNumber, faultNumber, checkNumber};
+ghost use Rattle.plan.specs.Record.{contactOf};
+
+// A fault of the plan, document 01's causes 1 to 5 in turn.
+pub enum PlanFault {
+    Limits,
+    Length,
+    Slot,
+    Ends,
+    Order,
+}
+
+// A fault of the call, document 01's causes 6 to 10 in turn.
+pub enum CallFault {
+    Station,
+    SameStation,
+    Short,
+    TooMany,
+    NotOffered,
+}
+
+// Why an operation refuses.
+pub enum Fault {
+    Plan(PlanFault),
+    Call(CallFault),
+}
+
+// What check answers. A refusal of a plan is a fault of the plan.
+pub enum CheckAnswer {
+    Accepted,
+    Refused(PlanFault),
+}
+
+// Document 01's number of a fault of the plan.
+pub fn plan_number(fault: PlanFault) -> usize
+    ensures { λ r. ⌜ r ≡ planNumber fault ⌝ }
+{
+    match fault {
+        PlanFault::Limits => 1,
+        PlanFault::Length => 2,
+        PlanFault::Slot => 3,
+        PlanFault::Ends => 4,
+        PlanFault::Order => 5,
+    }
+}
+
+// Document 01's number of a fault of the call.
+pub fn call_number(fault: CallFault) -> usize
+    ensures { λ r. ⌜ r ≡ callNumber fault ⌝ }
+{
+    match fault {
+        CallFault::Station => 6,
+        CallFault::SameStation => 7,
+        CallFault::Short => 8,
+        CallFault::TooMany => 9,
+        CallFault::NotOffered => 10,
+    }
+}
+
+// Document 01's number of a fault.
+pub fn fault_number(fault: Fault) -> usize
+    ensures { λ r. ⌜ r ≡ faultNumber fault ⌝ }
+{
+    match fault {
+        Fault::Plan(f) => plan_number(f),
+        Fault::Call(f) => call_number(f),
+    }
+}
+
+// Document 01's number of check's answer, 0 where the plan is accepted.
+pub fn check_number(answer: CheckAnswer) -> usize
+    ensures { λ r. ⌜ r ≡ checkNumber answer ⌝ }
+{
+    match answer {
+        CheckAnswer::Accepted => 0,
+        CheckAnswer::Refused(f) => plan_number(f),
+    }
+}
+
+// A record: two stations that hear each other in a slot.
+pub struct Contact {
+    pub slot: usize,
+    pub a: usize,
+    pub b: usize,
+}
+
+fn wide(x: u8) -> usize
+    ensures { λ r. ⌜ (r ≡ x) × (r < 256) ⌝ }
+{
+    x as usize
+}
+
+// The 16-bit number whose first byte stands at k, high byte first.
+fn word_at(bytes: &[u8], k: usize) -> usize
+    requires { ⌜ k + 1 < length (now bytes) ⌝ }
+    ensures { λ r. ⌜ r ≡ wordAt (now (bytes .entry)) k ⌝ }
+{
+    wide(bytes[k]) * 256 + wide(bytes[k + 1])
+}
+
+// The record at position i.
+pub fn contact_at(bytes: &[u8], i: usize) -> Contact
+    requires { ⌜ i * 6 + 5 < length (now bytes) ⌝ }
+    ensures { λ r. ⌜ contactOf r ≡ contactAt (now (bytes .entry)) i ⌝ }
+{
+    let at = i * 6;
+    Contact {
+        slot: word_at(bytes, at),
+        a: word_at(bytes, at + 2),
+        b: word_at(bytes, at + 4),
+    }
+}
+
+// Whether d is above c, compared by slot, then a, then b.
+fn is_above(c: Contact, d: Contact) -> bool
+    ensures { λ r. ⌜ r ≡ isAbove (contactOf c) (contactOf d) ⌝ }
+{
+    if c.slot < d.slot {
+        return true;
+    }
+    if d.slot < c.slot {
+        return false;
+    }
+    if c.a < d.a {
+        return true;
+    }
+    if d.a < c.a {
+        return false;
+    }
+    c.b < d.b
+}
+
+// The first of the causes 3, 4 and 5 of the record at i, which is compared with its neighbour only once it passed 3 and 4.
+fn check_record(plan: &[u8], n: usize, t: usize, i: usize) -> CheckAnswer
+    requires { ⌜ i * 6 + 5 < length (now plan) ⌝ }
+    ensures { λ r. ⌜ checkNumber r ≡ first (recordCauses (now (plan .entry)) n t i) ⌝ }
+{
+    let c = contact_at(plan, i);
+    if c.slot == 0 {
+        return CheckAnswer::Refused(PlanFault::Slot);
+    }
+    if t < c.slot {
+        return CheckAnswer::Refused(PlanFault::Slot);
+    }
+    if c.b <= c.a {
+        return CheckAnswer::Refused(PlanFault::Ends);
+    }
+    if n <= c.b {
+        return CheckAnswer::Refused(PlanFault::Ends);
+    }
+    if i == 0 {
+        return CheckAnswer::Accepted;
+    }
+    if is_above(contact_at(plan, i - 1), c) {
+        CheckAnswer::Accepted
+    } else {
+        CheckAnswer::Refused(PlanFault::Order)
+    }
+}
+
+// Operation 1, check: accepts a plan of n stations and t slots exactly where no cause 1 to 5 holds, and else gives the
+// first in document 01's order, record by record.
+pub fn check(plan: &[u8], n: usize, t: usize) -> CheckAnswer
+    ensures { λ r. ⌜ checkNumber r ≡ planFault (now (plan .entry)) n t ⌝ }
+{
+    if n == 0 {
+        return CheckAnswer::Refused(PlanFault::Limits);
+    }
+    if 256 < n {
+        return CheckAnswer::Refused(PlanFault::Limits);
+    }
+    if t == 0 {
+        return CheckAnswer::Refused(PlanFault::Limits);
+    }
+    if 255 < t {
+        return CheckAnswer::Refused(PlanFault::Limits);
+    }
+    let size = plan.len();
+    if size % 6 != 0 {
+        return CheckAnswer::Refused(PlanFault::Length);
+    }
+    let m = size / 6;
+    if 4096 < m {
+        return CheckAnswer::Refused(PlanFault::Length);
+    }
+    let mut i = 0;
+    while i < m {
+        let answer = check_record(plan, n, t, i);
+        if let CheckAnswer::Refused(fault) = answer {
+            return CheckAnswer::Refused(fault);
+        }
+        i += 1;
+    }
+    CheckAnswer::Accepted
+}

@@ -1,0 +1,49 @@
+-- P1 to P10 of document 01 hold of the definitions: every entry of the table is right, by computation.
+-- Assumes nothing.
+use mathlib.Core.Path.{_≡_, refl}
+use mathlib.Core.Bool.{true}
+use mathlib.Core.List.{flatMap}
+use mathlib.Core.Option.{bind}
+use Rattle.temporal.specs.Lists.{from, below, sum, select, any, member, distinct, tuples}
+use Rattle.temporal.specs.Plan.{leadsTo, mayFollow}
+use Rattle.temporal.specs.Walk.{along, step, run, lastOr, holds, endsIn, isWalk, isPath, isInterior}
+use Rattle.temporal.specs.Shortest.{
+  orElse,
+  firstNonempty,
+  ofHops,
+  shortest,
+  shortestWalks,
+  shortestPaths,
+  hops,
+  through,
+}
+use Rattle.temporal.specs.Load.{allEnds, pairsOf, pairs, share, load}
+use Rattle.temporal.specs.Bytes.{wordAt, contactAt, records, planOf}
+use Rattle.temporal.specs.Cause.{
+  cause,
+  first,
+  unless,
+  outside,
+  wrongLength,
+  wrongSlot,
+  wrongEnds,
+  isAbove,
+  wrongOrder,
+  recordCauses,
+  planCauses,
+  planFault,
+  pairCauses,
+  stationCauses,
+  tooMany,
+  tooManyAnywhere,
+}
+use Rattle.temporal.specs.Outcome.{entered, over, cleared, appearanceTable, stationTable, reached, reach}
+use Rattle.temporal.specs.OutcomePair.{paired, pair, loaded, loads}
+use Rattle.temporal.specs.Cursor.{sameNumbers, indexIn, stay, give, goFirst, goNext, go, move}
+use Rattle.temporal.specs.Listing.{listOf, listingCauses, overflow, listed, listing}
+use Rattle.temporal.specs.Examples.{reachedFrom, sameLists, sameReply}
+use Rattle.temporal.specs.ExamplesTable.{right, allRight, table}
+
+pub examples : allRight table ≡ true
+unfolding from below sum select any member distinct tuples leadsTo mayFollow along step run lastOr holds endsIn isWalk isPath isInterior orElse firstNonempty ofHops shortest shortestWalks shortestPaths hops through allEnds pairsOf pairs share load wordAt contactAt records planOf cause first unless outside wrongLength wrongSlot wrongEnds isAbove wrongOrder recordCauses planCauses planFault pairCauses stationCauses tooMany tooManyAnywhere entered over cleared appearanceTable stationTable reached reach paired pair loaded loads sameNumbers indexIn stay give goFirst goNext go move listOf listingCauses overflow listed listing reachedFrom sameLists sameReply right allRight flatMap bind
+examples = refl

@@ -1,0 +1,83 @@
+-- The causes of refusal, 1 to 9, in the order of document 01. (10 is about an offered list: Cursor.) Definitions only.
+-- Assumes nothing.
+use Prim.Native.Nat.{ℕ, zero, suc, _+_, _-_, _*_, _/_, _%_, _^_}
+use mathlib.Core.Bool.{Bool, not, cond, _&&_, _||_}
+use mathlib.Core.List.{List, [], _∷_, _++_, flatMap}
+use lib.Dec.{leb, ltb, eqb}
+use lib.ListN.{length}
+use Rattle.temporal.specs.Lists.{below, any}
+use Rattle.temporal.specs.Plan.{Contact, Plan}
+use Rattle.temporal.specs.Shortest.{shortestWalks, shortestPaths, count}
+use Rattle.temporal.specs.Bytes.{contactAt, records}
+
+-- the number of a cause where it holds, else 0
+unfoldable pub cause : ℕ → Bool → ℕ
+cause k holds = cond holds k 0
+
+-- the first number of a list that is not 0; 0 where all are
+unfoldable pub first : List ℕ → ℕ
+first [] = 0
+first (zero ∷ l) = first l
+first (suc k ∷ l) = suc k
+
+-- what is done at number 0; at any other number the refusal made of it
+unfoldable pub unless : {A : Type 0} → ℕ → (ℕ → A) → A → A
+unless zero refusal work = work
+unless (suc k) refusal work = refusal (suc k)
+
+-- 1: n outside 1 to 256, or T outside 1 to 255
+unfoldable pub outside : ℕ → ℕ → Bool
+outside n t = eqb n 0 || ltb 256 n || (eqb t 0 || ltb 255 t)
+
+-- 2: not a multiple of 6 bytes, or over 4,096 records
+unfoldable pub wrongLength : List ℕ → Bool
+wrongLength bs = not (eqb (length bs % 6) 0) || ltb 4096 (records bs)
+
+-- 3: slot 0 or above T
+unfoldable pub wrongSlot : ℕ → Contact → Bool
+wrongSlot t c = eqb (c .slot) 0 || ltb t (c .slot)
+
+-- 4: a ≥ b, or b ≥ n
+unfoldable pub wrongEnds : ℕ → Contact → Bool
+wrongEnds n c = leb (c .b) (c .a) || leb n (c .b)
+
+-- whether d is above c, compared by slot, then a, then b
+unfoldable pub isAbove : Contact → Contact → Bool
+isAbove c d =
+    ltb (c .slot) (d .slot) ||
+    eqb (c .slot) (d .slot) && (ltb (c .a) (d .a) || eqb (c .a) (d .a) && ltb (c .b) (d .b))
+
+-- 5: the record at i is not above the one before it; the first has none before it
+unfoldable pub wrongOrder : List ℕ → ℕ → Bool
+wrongOrder bs i = ltb 0 i && not (isAbove (contactAt bs (i - 1)) (contactAt bs i))
+
+-- the causes of one record, in turn
+unfoldable pub recordCauses : List ℕ → ℕ → ℕ → ℕ → List ℕ
+recordCauses bs n t i =
+    cause 3 (wrongSlot t (contactAt bs i)) ∷ cause 4 (wrongEnds n (contactAt bs i)) ∷ cause 5 (wrongOrder bs i) ∷ []
+
+-- the causes of a plan: 1, 2, then record by record 3, 4, 5
+unfoldable pub planCauses : List ℕ → ℕ → ℕ → List ℕ
+planCauses bs n t = cause 1 (outside n t) ∷ cause 2 (wrongLength bs) ∷ flatMap (recordCauses bs n t) (below (records bs))
+
+-- Operation 1, check: the first cause of refusal of a plan, or 0 where it is accepted.
+unfoldable pub planFault : List ℕ → ℕ → ℕ → ℕ
+planFault bs n t = first (planCauses bs n t)
+
+-- 6, 7, 8 of a call that names a pair; the Boolean says that something lent is too short
+unfoldable pub pairCauses : ℕ → ℕ → ℕ → Bool → List ℕ
+pairCauses n s z short = cause 6 (leb n s || leb n z) ∷ cause 7 (eqb s z) ∷ cause 8 short ∷ []
+
+-- 6 and 8 of a call that names one station
+unfoldable pub stationCauses : ℕ → ℕ → Bool → List ℕ
+stationCauses n v short = cause 6 (leb n v) ∷ cause 8 short ∷ []
+
+-- 9: an appearance, or a station, has over 2^64 - 1 shortest walks from s. Every one of a plan is looked at.
+unfoldable pub tooMany : Plan → ℕ → Bool
+tooMany p s =
+    any (λ v. any (λ t. ltb (2 ^ 64 - 1) (count (shortestWalks p s v t))) (below (p .slots + 1))) (below (p .stations)) ||
+    any (λ v. ltb (2 ^ 64 - 1) (count (shortestPaths p s v))) (below (p .stations))
+
+-- 9 of an operation that works on every source
+unfoldable pub tooManyAnywhere : Plan → Bool
+tooManyAnywhere p = any (tooMany p) (below (p .stations))

@@ -1,0 +1,17 @@
+-- What the project is about, in reading order. Definitions only; what follows from them is in proofs/.
+pub mod Lists
+pub mod Plan
+pub mod Walk
+pub mod Definition3
+pub mod Shortest
+pub mod Load
+pub mod Bytes
+pub mod Cause
+pub mod Outcome
+pub mod OutcomePair
+pub mod Cursor
+pub mod Listing
+pub mod Trace
+pub mod TraceGiven
+pub mod Examples
+pub mod ExamplesTable

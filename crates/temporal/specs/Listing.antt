@@ -1,0 +1,53 @@
+-- Operations 7 and 8, first way and next way, for every call. Definitions only.
+-- Assumes nothing.
+use Prim.Native.Nat.{ℕ}
+use mathlib.Core.Bool.{_||_}
+use mathlib.Core.List.{List, _++_}
+use lib.Dec.{ltb}
+use lib.ListN.{length}
+use Rattle.temporal.specs.Shortest.{shortestPaths}
+use Rattle.temporal.specs.Bytes.{planOf}
+use Rattle.temporal.specs.Cause.{cause, first, unless, planCauses, pairCauses, tooMany}
+use Rattle.temporal.specs.Outcome.{cleared, workSize}
+use Rattle.temporal.specs.Cursor.{Reply, refused, Listing, indexIn, move}
+
+-- what a call asks about: a plan's bytes, its numbers of stations and slots, a source and a destination
+pub record Question : Type 0 where
+  pub bytes : List ℕ
+  pub stations : ℕ
+  pub slots : ℕ
+  pub source : ℕ
+  pub destination : ℕ
+
+-- the complete list of the pair asked about
+unfoldable pub listOf : Question → List (List ℕ)
+listOf q = shortestPaths (planOf (q .bytes) (q .stations) (q .slots)) (q .source) (q .destination)
+
+-- 1 to 8 of a call that is lent so many entries of the way buffer and so many of the work area
+unfoldable pub listingCauses : Question → ℕ → ℕ → List ℕ
+listingCauses q way work =
+    planCauses (q .bytes) (q .stations) (q .slots) ++
+    pairCauses (q .stations) (q .source) (q .destination)
+    (ltb way (q .slots) || ltb work (workSize (q .stations) (q .slots)))
+
+-- 9 of such a call
+unfoldable pub overflow : Question → ℕ
+overflow q = cause 9 (tooMany (planOf (q .bytes) (q .stations) (q .slots)) (q .source))
+
+-- the answer, the way buffer and the work area at exit
+pub record Listed : Type 0 where
+  pub reply : Reply
+  pub way : List ℕ
+  pub work : List ℕ
+
+-- a listing operation once 1 to 8 are excluded: the cursor stands on the way with which the buffer begins
+unfoldable pub listed : Listing → Question → List ℕ → List ℕ → Listed
+listed o q way work =
+    let m = move o (overflow q) (listOf q) (indexIn (listOf q) way) way in
+    record { reply = m .reply; way = m .buffer; work = cleared (workSize (q .stations) (q .slots)) work }
+
+-- Operations 7 and 8, for every call.
+unfoldable pub listing : Listing → Question → List ℕ → List ℕ → Listed
+listing o q way work =
+    unless (first (listingCauses q (length way) (length work))) (λ k. record { reply = refused k; way = way; work = work })
+    (listed o q way work)

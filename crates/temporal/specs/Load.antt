@@ -1,0 +1,60 @@
+-- Pairs, shares and loads. Definitions only.
+-- Assumes nothing.
+use Prim.Native.Nat.{ℕ, _*_, _/_, _^_, _<_, _≤_}
+use mathlib.Core.Bool.{Bool, not, _&&_}
+use mathlib.Core.List.{List, map, flatMap}
+use lib.Dec.{ltb, eqb}
+use lib.ListN.{length}
+use Rattle.temporal.specs.Lists.{below, sum, product, select}
+use Rattle.temporal.specs.Plan.{Plan}
+use Rattle.temporal.specs.Shortest.{shortestPaths, count, through}
+
+-- an ordered pair: a source and a destination
+pub record Ends : Type 0 where
+  pub source : ℕ
+  pub destination : ℕ
+
+-- all ordered pairs of two stations of n, two equal ones too
+unfoldable pub allEnds : ℕ → List Ends
+allEnds n = flatMap (λ s. map (λ z. record { source = s; destination = z }) (below n)) (below n)
+
+-- the paths of a pair, and how many of them have v inside
+abbrev pub countOf : Plan → Ends → ℕ
+countOf p e = count (shortestPaths p (e .source) (e .destination))
+
+abbrev pub throughOf : Plan → ℕ → Ends → ℕ
+throughOf p v e = through p (e .source) (e .destination) v
+
+-- whether e is a pair of two different stations with v inside some shortest path of it
+abbrev pub leansOn : Plan → ℕ → Ends → Bool
+leansOn p v e = not (eqb (e .source) (e .destination)) && ltb 0 (throughOf p v e)
+
+-- Document 01's pairs of a station v: the ordered pairs s ≠ z with v inside some least way.
+unfoldable pub pairsOf : Plan → ℕ → List Ends
+pairsOf p v = select (leansOn p v) (allEnds (p .stations))
+
+-- how many pairs a station has
+unfoldable pub pairs : Plan → ℕ → ℕ
+pairs p v = length (pairsOf p v)
+
+-- Document 01's share: the whole part of 2^32 × through ÷ count. Numbers have no limit here. (Document 002, Def. 2.3, has
+-- the sum of sigma_sz(v) / sigma_sz; its factor 1 / (n (n - 1)) is left out.)
+unfoldable pub share : Plan → ℕ → Ends → ℕ
+share p v e = 2 ^ 32 * throughOf p v e / countOf p e
+
+-- Document 01's load of a station: the sum of the shares over its pairs, in units of 1 / 2^32. Each share is rounded.
+unfoldable pub load : Plan → ℕ → ℕ
+load p v = sum (map (share p v) (pairsOf p v))
+
+-- Document 01's D: the product of the counts of the station's pairs, 1 if there are none.
+unfoldable pub commonCount : Plan → ℕ → ℕ
+commonCount p v = product (map (countOf p) (pairsOf p v))
+
+-- Document 01's S: the sum of through × (D ÷ count) over the pairs, so that S ÷ D is the exact sum of shares.
+unfoldable pub exactSum : Plan → ℕ → ℕ
+exactSum p v = sum (map (λ e. throughOf p v e * (commonCount p v / countOf p e)) (pairsOf p v))
+
+-- Document 01's busiest: one of the stations, and no other's load exceeds its load. Among equals any may be given.
+pub record Busiest (p : Plan) (v : ℕ) : Type 0 where
+  pub station : v < p .stations
+  pub largest : (u : ℕ) → u < p .stations → load p u ≤ load p v

@@ -1,0 +1,104 @@
+-- What operations 4 to 6 answer, and what every lent buffer holds afterwards, for every call. Definitions only.
+-- Assumes nothing.
+use Prim.Native.Nat.{ℕ, zero, suc}
+use mathlib.Core.Path.{_≡_}
+use mathlib.Core.Bool.{cond, _||_}
+use mathlib.Core.List.{List, [], _∷_, _++_, map}
+use Rattle.temporal.specs.Lists.{below}
+use Rattle.temporal.specs.Plan.{Plan}
+use Rattle.temporal.specs.Shortest.{shortestPaths, hops, count, through}
+use Rattle.temporal.specs.Load.{pairs, load, Busiest}
+use Rattle.temporal.specs.Bytes.{planOf}
+use Rattle.temporal.specs.Cause.{cause, planCauses, pairCauses, tooMany, tooManyAnywhere}
+use Rattle.temporal.specs.Outcome.{Outcome, entered, over, cleared, short, workSize}
+
+-- ---- Operation 4, pair
+
+pub record PairValues : Type 0 where
+  pub hops : ℕ
+  pub count : ℕ
+
+pub record PairBuffers : Type 0 where
+  pub throughTable : List ℕ
+  pub work : List ℕ
+
+-- pair once 1 to 8 are excluded. Where there is no path: 65535 hops, count 0, and all through counts 0.
+unfoldable pub paired : Plan → ℕ → ℕ → PairBuffers → Outcome PairValues PairBuffers
+paired p s z old =
+    cond (tooMany p s)
+    (record {
+      number = 9;
+      values = record { hops = 0; count = 0 };
+      buffers = record {
+        throughTable = cleared (p .stations) (old .throughTable);
+        work = cleared (workSize (p .stations) (p .slots)) (old .work);
+      };
+    })
+    (record {
+      number = 0;
+      values = record { hops = hops (shortestPaths p s z); count = count (shortestPaths p s z) };
+      buffers = record {
+        throughTable = over (map (through p s z) (below (p .stations))) (old .throughTable);
+        work = cleared (workSize (p .stations) (p .slots)) (old .work);
+      };
+    })
+
+unfoldable pub pair : List ℕ → ℕ → ℕ → ℕ → ℕ → PairBuffers → Outcome PairValues PairBuffers
+pair bs n t s z old =
+    entered
+    (planCauses bs n t ++ pairCauses n s z (short n (old .throughTable) || short (workSize n t) (old .work)))
+    (record { hops = 0; count = 0 }) old (paired (planOf bs n t) s z old)
+
+-- ---- Operation 5, loads
+
+pub record LoadBuffers : Type 0 where
+  pub pairsTable : List ℕ
+  pub loadTable : List ℕ
+  pub work : List ℕ
+
+-- loads once 1 to 8 are excluded; every source is worked on
+unfoldable pub loaded : Plan → LoadBuffers → Outcome (Unit {0}) LoadBuffers
+loaded p old =
+    cond (tooManyAnywhere p)
+    (record {
+      number = 9;
+      values = tt;
+      buffers = record {
+        pairsTable = cleared (p .stations) (old .pairsTable);
+        loadTable = cleared (p .stations) (old .loadTable);
+        work = cleared (workSize (p .stations) (p .slots)) (old .work);
+      };
+    })
+    (record {
+      number = 0;
+      values = tt;
+      buffers = record {
+        pairsTable = over (map (pairs p) (below (p .stations))) (old .pairsTable);
+        loadTable = over (map (load p) (below (p .stations))) (old .loadTable);
+        work = cleared (workSize (p .stations) (p .slots)) (old .work);
+      };
+    })
+
+unfoldable pub loads : List ℕ → ℕ → ℕ → LoadBuffers → Outcome (Unit {0}) LoadBuffers
+loads bs n t old =
+    entered
+    (planCauses bs n t ++
+    cause 8 (short n (old .pairsTable) || (short n (old .loadTable) || short (workSize n t) (old .work))) ∷ [])
+    tt old (loaded (planOf bs n t) old)
+
+-- ---- Operation 6, busiest
+
+-- what is determined: the number, and the work area at exit
+unfoldable pub busiest : List ℕ → ℕ → ℕ → List ℕ → Outcome (Unit {0}) (List ℕ)
+busiest bs n t work =
+    entered (planCauses bs n t ++ cause 8 (short (workSize n t) work) ∷ []) tt work
+    (record {
+      number = cause 9 (tooManyAnywhere (planOf bs n t));
+      values = tt;
+      buffers = cleared (workSize n t) work;
+    })
+
+-- The station v given beside a number: 0 on refusal. On acceptance it is open: one that is busiest, whichever.
+unfoldable pub BusiestGiven : List ℕ → ℕ → ℕ → ℕ → ℕ → Type 0
+BusiestGiven bs n t zero v = Busiest (planOf bs n t) v
+BusiestGiven bs n t (suc k) v = v ≡ 0

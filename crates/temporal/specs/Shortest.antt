@@ -1,0 +1,50 @@
+-- Shortest walks and paths: whole lists of them, picked out of all lists of positions. Definitions only.
+-- Assumes nothing.
+use Prim.Native.Nat.{ℕ, _+_}
+use mathlib.Core.Bool.{Bool}
+use mathlib.Core.List.{List, [], _∷_}
+use lib.ListN.{length}
+use Rattle.temporal.specs.Lists.{below, select, tuples}
+use Rattle.temporal.specs.Plan.{Plan}
+use Rattle.temporal.specs.Walk.{isWalk, isPath, isInterior}
+
+-- the first list, or the second where the first is empty
+unfoldable pub orElse : List (List ℕ) → List (List ℕ) → List (List ℕ)
+orElse [] m = m
+orElse (w ∷ l) m = w ∷ l
+
+-- the first of f k, over the numbers k of a list in turn, that is not empty; empty where all are
+unfoldable pub firstNonempty : (ℕ → List (List ℕ)) → List ℕ → List (List ℕ)
+firstNonempty f [] = []
+firstNonempty f (k ∷ ks) = let r = firstNonempty f ks in orElse (f k) r
+
+-- all lists of k positions of a plan that pass a test, in lexicographic order
+unfoldable pub ofHops : Plan → (List ℕ → Bool) → ℕ → List (List ℕ)
+ofHops p t k = select t (tuples (length (p .contacts)) k)
+
+-- Those of the fewest hops that pass a test, all of them, each once, in lexicographic order (document 000, Def. 4,
+-- shortest). No walk of a plan has more hops than the plan has slots, so 0, 1, .., slots are tried.
+unfoldable pub shortest : Plan → (List ℕ → Bool) → List (List ℕ)
+shortest p t = firstNonempty (ofHops p t) (below (p .slots + 1))
+
+-- the shortest walks from s to the appearance (v, t); document 01's least chains to an appearance
+unfoldable pub shortestWalks : Plan → ℕ → ℕ → ℕ → List (List ℕ)
+shortestWalks p s v t = shortest p (isWalk p s v t)
+
+-- the shortest paths from s to z; document 01's complete list of a pair. Empty where there is no path.
+unfoldable pub shortestPaths : Plan → ℕ → ℕ → List (List ℕ)
+shortestPaths p s z = shortest p (isPath p s z)
+
+-- The hops of the members of such a list, document 01's legs, document 002's length of a path; 65535 where it is empty.
+unfoldable pub hops : List (List ℕ) → ℕ
+hops [] = 65535
+hops (w ∷ l) = length w
+
+-- How many a list has, document 01's count, documents 000's and 002's sigma_sz; 0 where it is empty.
+abbrev pub count : List (List ℕ) → ℕ
+count l = length l
+
+-- How many shortest paths from s to z have v inside: document 01's through count, document 002's sigma_sz(v).
+-- 0 at v = s and at v = z.
+unfoldable pub through : Plan → ℕ → ℕ → ℕ → ℕ
+through p s z v = length (select (isInterior p s z v) (shortestPaths p s z))

@@ -1,0 +1,48 @@
+-- The ways that a trace gives from one accepted first way until just before the next: the second sentence of demand 3.
+-- Definitions only.
+-- Assumes nothing.
+use Prim.Native.Nat.{ℕ, _+_, _<_}
+use mathlib.Core.Path.{_≡_}
+use mathlib.Core.Bool.{Bool, true, false, _&&_}
+use mathlib.Core.List.{List, [], _∷_}
+use lib.Dec.{eqb}
+use lib.ListN.{length, take}
+use Rattle.temporal.specs.Lists.{any}
+use Rattle.temporal.specs.Cursor.{Reply, path, no-path, last-path, refused, Listing, first-way, next-way}
+use Rattle.temporal.specs.Listing.{Question, listOf}
+use Rattle.temporal.specs.Trace.{Call, causeOf, Event, called, wrote, Trace, Asked}
+
+unfoldable pub isFirstWay : Listing → Bool
+isFirstWay first-way = true
+isFirstWay next-way = false
+
+-- whether an event is an accepted first way
+unfoldable pub startsOver : Event → Bool
+startsOver (called c r after) = isFirstWay (c .operation) && eqb (causeOf c) 0
+startsOver (wrote behind) = false
+
+-- the ways that events give, in turn: as many first entries of the buffer as the answer says
+unfoldable pub given : List Event → List (List ℕ)
+given [] = []
+given (called c (path h) after ∷ es) = take h after ∷ given es
+given (called c no-path after ∷ es) = given es
+given (called c last-path after ∷ es) = given es
+given (called c (refused k) after ∷ es) = given es
+given (wrote behind ∷ es) = given es
+
+-- k ways of l being out before, each call that is not refused says "none" or "last" exactly where all are out
+unfoldable pub EndsWhenAllOut : List (List ℕ) → ℕ → List Event → Type 0
+EndsWhenAllOut l k [] = Unit {0}
+EndsWhenAllOut l k (called c (path h) after ∷ es) = (k < length l) × EndsWhenAllOut l (k + 1) es
+EndsWhenAllOut l k (called c no-path after ∷ es) = (k ≡ length l) × EndsWhenAllOut l k es
+EndsWhenAllOut l k (called c last-path after ∷ es) = (k ≡ length l) × EndsWhenAllOut l k es
+EndsWhenAllOut l k (called c (refused j) after ∷ es) = EndsWhenAllOut l k es
+EndsWhenAllOut l k (wrote behind ∷ es) = EndsWhenAllOut l k es
+
+-- From an accepted first way on, with no other after it, wherever the trace is broken off, the ways given are the first
+-- ones of the complete list, each once, and "none" or "last" comes exactly where all are out.
+abbrev pub Demand3Given : Type 0
+Demand3Given =
+    (q : Question) → Asked q → (b : List ℕ) (e : Event) (es : List Event) →
+    startsOver e ≡ true → any startsOver es ≡ false → Trace q b (e ∷ es) →
+    (given (e ∷ es) ≡ take (length (given (e ∷ es))) (listOf q)) × EndsWhenAllOut (listOf q) 0 (e ∷ es)

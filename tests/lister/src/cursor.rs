@@ -1,0 +1,108 @@
+//! The cursor, document 01's finger, and traces, document 01's listings.
+
+use crate::answer::{Answer, CallFault};
+use crate::ways::{first_way_within, next_way_within, paths_of_call, Found, PathCall};
+
+/// Which operation a call of a trace makes.
+#[derive(Clone, Copy, Debug, PartialEq, Eq)]
+pub enum Operation {
+    First,
+    Next,
+}
+
+/// One step of a trace.
+#[derive(Clone, Copy, Debug)]
+pub enum Step<'a> {
+    /// A call; the way buffer lent is a beginning of the trace's buffer, of the named length.
+    Call(Operation, PathCall<'a>),
+    /// The caller writes one entry of the buffer.
+    Write(usize, u16),
+}
+
+/// The cursor on the list of shortest paths, with a buffer of its own.
+#[derive(Clone, Debug)]
+pub struct Cursor {
+    limit: u64,
+    list: Vec<Vec<u16>>,
+    place: Option<usize>,
+    buffer: Vec<u16>,
+}
+
+impl Cursor {
+    /// The cursor starts on the path with which the buffer begins, or on none.
+    pub fn start(limit: u64, list: Vec<Vec<u16>>, contents: &[u16]) -> Cursor {
+        let place = list.iter().position(|path| contents.starts_with(path));
+        Cursor {
+            limit,
+            list,
+            place,
+            buffer: contents.to_vec(),
+        }
+    }
+
+    /// The cursor's buffer.
+    pub fn buffer(&self) -> &[u16] {
+        &self.buffer
+    }
+
+    /// The caller writes an entry between calls; the cursor stays.
+    pub fn write(&mut self, entry: usize, value: u16) {
+        self.buffer[entry] = value;
+    }
+
+    /// What the call must answer; its causes other than 10 come from the arguments alone.
+    pub fn call(&mut self, operation: Operation, call: &PathCall) -> Answer<Found> {
+        paths_of_call(self.limit, call)?;
+        match operation {
+            Operation::First if self.list.is_empty() => Ok(Found::NoPath),
+            Operation::First => Ok(self.go_to(0)),
+            Operation::Next => match self.place {
+                None => Err(CallFault::NotShortest.into()),
+                Some(place) if place + 1 == self.list.len() => Ok(Found::Last),
+                Some(place) => Ok(self.go_to(place + 1)),
+            },
+        }
+    }
+
+    /// The cursor goes to a path, and that path is given.
+    fn go_to(&mut self, place: usize) -> Found {
+        self.place = Some(place);
+        for (entry, position) in self.list[place].iter().enumerate() {
+            self.buffer[entry] = *position;
+        }
+        Found::Path(self.list[place].len() as u16)
+    }
+}
+
+/// Runs a trace; gives the first step where an answer or the whole buffer is not the cursor's.
+pub fn first_difference(
+    limit: u64,
+    list: Vec<Vec<u16>>,
+    contents: &[u16],
+    trace: &[Step],
+) -> Option<usize> {
+    let mut cursor = Cursor::start(limit, list, contents);
+    let mut buffer = contents.to_vec();
+    for (at, step) in trace.iter().enumerate() {
+        match step {
+            Step::Write(entry, value) => {
+                buffer[*entry] = *value;
+                cursor.write(*entry, *value);
+            }
+            Step::Call(operation, call) => {
+                let lent = &mut buffer[..call.buffer_length];
+                let mut scratch = vec![1; call.scratch_length];
+                let run = match operation {
+                    Operation::First => first_way_within,
+                    Operation::Next => next_way_within,
+                };
+                let (source, destination) = (call.source, call.destination);
+                let answer = run(limit, call.input, source, destination, lent, &mut scratch);
+                if answer != cursor.call(*operation, call) || buffer != cursor.buffer() {
+                    return Some(at);
+                }
+            }
+        }
+    }
+    None
+}

@@ -1,0 +1,40 @@
+//! The plain lister: document 01's operations, answered from its definitions alone.
+//!
+//! Every walk from a source is listed, hop by hop; the shortest are picked by comparing lengths;
+//! a count is the length of a list. It serves as the other side of comparisons on small plans.
+//!
+//! The words here, and document 01's where they differ:
+//!
+//! | Here | Document 01 |
+//! |---|---|
+//! | station, slot, contact, plan, position, appearance | the same |
+//! | walk | chain |
+//! | hops | legs |
+//! | path | way |
+//! | shortest | least, with the fewest legs |
+//! | interior | inside |
+//! | shortest paths | the complete list |
+//! | trace | listing |
+//! | cursor | finger |
+//! | buffer | lent table, way buffer |
+//! | scratch | work area |
+//!
+//! The operations keep document 01's names.
+
+pub mod answer;
+pub mod cases;
+pub mod cursor;
+pub mod lent;
+pub mod loads;
+pub mod pair;
+pub mod plan;
+pub mod random;
+pub mod reach;
+pub mod row;
+pub mod shortest;
+pub mod show;
+pub mod walk;
+pub mod ways;
+
+#[cfg(test)]
+mod tests;

@@ -1,0 +1,104 @@
+//! Operations 5 and 6, loads and busiest.
+
+use crate::answer::Answer;
+use crate::lent::{long_enough, scratch_named};
+use crate::pair::through_count;
+use crate::plan::{read, Plan, PlanInput};
+use crate::shortest::{count_of, shortest_paths, walks_within, COUNT_LIMIT};
+
+/// The pairs and the load of one station.
+#[derive(Clone, Copy, Debug, Default, PartialEq, Eq)]
+pub struct Load {
+    /// The ordered pairs with this station interior to some shortest path.
+    pub pairs: u64,
+    /// The sum of the shares over these pairs, in units of 1/2^32.
+    pub load: u64,
+}
+
+/// All stations whose load no other exceeds; busiest may answer any one of them.
+#[derive(Clone, Debug, PartialEq, Eq)]
+pub struct Busiest {
+    pub stations: Vec<usize>,
+}
+
+impl Default for Busiest {
+    /// Beside a refusal, busiest answers 0 and nothing else.
+    fn default() -> Busiest {
+        Busiest { stations: vec![0] }
+    }
+}
+
+/// A share: the whole part of 2^32 × through ÷ count.
+pub fn share(through: u64, count: u64) -> u64 {
+    ((u128::from(through) << 32) / u128::from(count)) as u64
+}
+
+/// Pairs and load of every station.
+fn loads_of(limit: u64, plan: &Plan) -> Answer<Vec<Load>> {
+    let mut loads = vec![Load::default(); plan.stations];
+    for source in 0..plan.stations {
+        let walks = walks_within(limit, plan, source)?;
+        for destination in (0..plan.stations).filter(|station| *station != source) {
+            let paths = shortest_paths(&walks, destination);
+            for (station, entry) in loads.iter_mut().enumerate() {
+                let through = through_count(&paths, station);
+                if through > 0 {
+                    entry.pairs += 1;
+                    entry.load += share(through, count_of(&paths));
+                }
+            }
+        }
+    }
+    Ok(loads)
+}
+
+/// Loads: each station's pairs and load in the two lent tables.
+pub fn loads(
+    input: PlanInput,
+    pairs: &mut [u64],
+    loads: &mut [u64],
+    scratch: &mut [u64],
+) -> Answer<()> {
+    loads_within(COUNT_LIMIT, input, pairs, loads, scratch)
+}
+
+/// Loads with the largest count as an argument.
+pub fn loads_within(
+    limit: u64,
+    input: PlanInput,
+    pairs: &mut [u64],
+    loads: &mut [u64],
+    scratch: &mut [u64],
+) -> Answer<()> {
+    let plan = read(input)?;
+    long_enough(pairs.len(), plan.stations)?;
+    long_enough(loads.len(), plan.stations)?;
+    long_enough(scratch.len(), scratch_named(&plan))?;
+
+    pairs[..plan.stations].fill(0);
+    loads[..plan.stations].fill(0);
+    scratch[..scratch_named(&plan)].fill(0);
+    for (station, entry) in loads_of(limit, &plan)?.iter().enumerate() {
+        pairs[station] = entry.pairs;
+        loads[station] = entry.load;
+    }
+    Ok(())
+}
+
+/// Busiest: the stations with the largest load.
+pub fn busiest(input: PlanInput, scratch: &mut [u64]) -> Answer<Busiest> {
+    busiest_within(COUNT_LIMIT, input, scratch)
+}
+
+/// Busiest with the largest count as an argument.
+pub fn busiest_within(limit: u64, input: PlanInput, scratch: &mut [u64]) -> Answer<Busiest> {
+    let plan = read(input)?;
+    long_enough(scratch.len(), scratch_named(&plan))?;
+
+    scratch[..scratch_named(&plan)].fill(0);
+    let loads = loads_of(limit, &plan)?;
+    let exceeded = |station: &usize| loads.iter().any(|other| other.load > loads[*station].load);
+    Ok(Busiest {
+        stations: (0..plan.stations).filter(|v| !exceeded(v)).collect(),
+    })
+}

@@ -1,0 +1,77 @@
+//! Subcommands of the plain lister.
+
+use std::io::Read;
+use std::process::ExitCode;
+use std::{env, fs, io};
+
+use lister::cases::{all_cases, stdin_bytes, stdout_text};
+use lister::plan::PlanInput;
+use lister::show::{loads_text, pair_text, text_of};
+
+const USAGE: &str = "usage:
+  lister check-cases DIR         write DIR/stdin and DIR/stdout
+  lister show n T s z < plan     hops, count, through counts and shortest paths of s, z
+  lister loads n T < plan        pairs and load of each station";
+
+fn main() -> ExitCode {
+    let words: Vec<String> = env::args().skip(1).collect();
+    let words: Vec<&str> = words.iter().map(String::as_str).collect();
+    match run(&words) {
+        Ok(()) => ExitCode::SUCCESS,
+        Err(message) => {
+            eprintln!("{message}");
+            ExitCode::from(2)
+        }
+    }
+}
+
+fn run(words: &[&str]) -> Result<(), String> {
+    match words {
+        ["check-cases", directory] => write_cases(directory),
+        ["show", stations, slots, source, destination] => {
+            let source = decimal(source)?;
+            let destination = decimal(destination)?;
+            print_for_plan(stations, slots, |input| {
+                text_of(pair_text(input, source, destination))
+            })
+        }
+        ["loads", stations, slots] => {
+            print_for_plan(stations, slots, |input| text_of(loads_text(input)))
+        }
+        _ => Err(USAGE.to_string()),
+    }
+}
+
+fn write_cases(directory: &str) -> Result<(), String> {
+    let cases = all_cases();
+    let write = |name: &str, bytes: &[u8]| {
+        let file = format!("{directory}/{name}");
+        fs::write(&file, bytes).map_err(|error| format!("{file}: {error}"))
+    };
+    write("stdin", &stdin_bytes(&cases))?;
+    write("stdout", stdout_text(&cases).as_bytes())
+}
+
+fn print_for_plan(
+    stations: &str,
+    slots: &str,
+    text: impl Fn(PlanInput) -> String,
+) -> Result<(), String> {
+    let stations = decimal(stations)?;
+    let slots = decimal(slots)?;
+    let mut bytes = Vec::new();
+    let read = io::stdin().read_to_end(&mut bytes);
+    read.map_err(|error| format!("standard input: {error}"))?;
+    let input = PlanInput {
+        bytes: &bytes,
+        stations,
+        slots,
+    };
+    print!("{}", text(input));
+    Ok(())
+}
+
+fn decimal(word: &str) -> Result<usize, String> {
+    let number = word.parse();
+    number.map_err(|_| format!("not a number: {word}"))
+}
