@@ -24,7 +24,7 @@ callNumber call-fault.Station = 6
 callNumber call-fault.SameStation = 7
 callNumber call-fault.Short = 8
 callNumber call-fault.TooMany = 9
-callNumber call-fault.NotOffered = 10
+callNumber call-fault.NotShortestPath = 10
 
 abbrev pub faultNumber : Fault → ℕ
 faultNumber (fault.Plan f) = planNumber f

@@ -1,4 +1,4 @@
--- What a record that the code holds says. Definitions only.
+-- The code's record as a contact of the definitions. Definitions only.
 -- Assumes nothing.
 use Rattle.temporal.specs.Plan as temporal
 use Rattle.plan.specs.declared.Contact.{Contact}

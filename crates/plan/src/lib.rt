@@ -1,4 +1,4 @@
-// Plan bytes: reading a record, the faults with their numbers, and operation 1, check. `check` is the whole.
+// Plan bytes: the faults with their numbers, reading a record, and operation 1, `check`, which rests on the rest.
 ghost use mathlib.Core.Path.{_≡_};
 ghost use Prim.Native.Nat.{_+_, _*_, _<_};
 ghost use lib.ListN.{length};
@@ -22,7 +22,7 @@ pub enum CallFault {
     SameStation,
     Short,
     TooMany,
-    NotOffered,
+    NotShortestPath,
 }
 
 // Why an operation refuses.
@@ -31,7 +31,7 @@ pub enum Fault {
     Call(CallFault),
 }
 
-// What check answers. A refusal of a plan is a fault of the plan.
+// What check answers.
 pub enum CheckAnswer {
     Accepted,
     Refused(PlanFault),
@@ -59,7 +59,7 @@ pub fn call_number(fault: CallFault) -> usize
         CallFault::SameStation => 7,
         CallFault::Short => 8,
         CallFault::TooMany => 9,
-        CallFault::NotOffered => 10,
+        CallFault::NotShortestPath => 10,
     }
 }
 
@@ -90,6 +90,7 @@ pub struct Contact {
     pub b: usize,
 }
 
+// A byte as a number below 256.
 fn wide(x: u8) -> usize
     ensures { λ r. ⌜ (r ≡ x) × (r < 256) ⌝ }
 {
@@ -97,23 +98,23 @@ fn wide(x: u8) -> usize
 }
 
 // The 16-bit number whose first byte stands at k, high byte first.
-fn word_at(bytes: &[u8], k: usize) -> usize
-    requires { ⌜ k + 1 < length (now bytes) ⌝ }
-    ensures { λ r. ⌜ r ≡ wordAt (now (bytes .entry)) k ⌝ }
+fn word_at(plan: &[u8], k: usize) -> usize
+    requires { ⌜ k + 1 < length (now plan) ⌝ }
+    ensures { λ r. ⌜ r ≡ wordAt (now (plan .entry)) k ⌝ }
 {
-    wide(bytes[k]) * 256 + wide(bytes[k + 1])
+    wide(plan[k]) * 256 + wide(plan[k + 1])
 }
 
-// The record at position i.
-pub fn contact_at(bytes: &[u8], i: usize) -> Contact
-    requires { ⌜ i * 6 + 5 < length (now bytes) ⌝ }
-    ensures { λ r. ⌜ contactOf r ≡ contactAt (now (bytes .entry)) i ⌝ }
+// The record at position i. It is no operation: the crates above read records of accepted plans by it.
+pub fn contact_at(plan: &[u8], i: usize) -> Contact
+    requires { ⌜ i * 6 + 5 < length (now plan) ⌝ }
+    ensures { λ r. ⌜ contactOf r ≡ contactAt (now (plan .entry)) i ⌝ }
 {
     let at = i * 6;
     Contact {
-        slot: word_at(bytes, at),
-        a: word_at(bytes, at + 2),
-        b: word_at(bytes, at + 4),
+        slot: word_at(plan, at),
+        a: word_at(plan, at + 2),
+        b: word_at(plan, at + 4),
     }
 }
 
@@ -136,7 +137,7 @@ fn is_above(c: Contact, d: Contact) -> bool
     c.b < d.b
 }
 
-// The first of the causes 3, 4 and 5 of the record at i, which is compared with its neighbour only once it passed 3 and 4.
+// The first of the causes 3, 4 and 5 of the record at i. It is compared with its neighbour once it passed 3 and 4.
 fn check_record(plan: &[u8], n: usize, t: usize, i: usize) -> CheckAnswer
     requires { ⌜ i * 6 + 5 < length (now plan) ⌝ }
     ensures { λ r. ⌜ checkNumber r ≡ first (recordCauses (now (plan .entry)) n t i) ⌝ }

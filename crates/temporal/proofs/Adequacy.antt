@@ -1,4 +1,5 @@
--- The definitions say what document 01 means: theorems by which no reader has to trust an enumeration or a bound.
+-- The definitions say what document 01 means: theorems by which no reader has to trust an enumeration or a bound. A law
+-- marked (kept) rests on a reading being kept until the plan ends (RuleLaws, follows-earlier).
 -- Assumes nothing.
 use Prim.Native.Nat.{ℕ, _+_, _≤_, _<_}
 use native.Mathlib.Omega.{arith}
@@ -11,13 +12,13 @@ use lib.Dec.{eqb}
 use lib.ListN.{length, getElem?}
 use Rattle.temporal.specs.Lists.{sum, below, Rising}
 use Rattle.temporal.specs.Plan.{Contact, Plan, Appearance, start}
-use Rattle.temporal.specs.Walk.{run, endsIn, isAt, isWalk, isPath}
+use Rattle.temporal.specs.Walk.{run, lastOr, endsIn, isAt, isAppearance, isWalk, isPath}
 use Rattle.temporal.specs.Shortest.{shortest, shortestWalks, shortestPaths, hops, count}
 use Rattle.temporal.specs.Definition3.{isPath000}
 use Rattle.temporal.specs.Bytes.{contactAt, records, planOf}
 use Rattle.temporal.specs.Cause.{planFault}
 use Rattle.temporal.proofs.Accepted.{accepted}
-use Rattle.temporal.proofs.PlanLaws.{slots-within}
+use Rattle.temporal.proofs.PlanLaws.{contact-within, slots-within}
 use Rattle.temporal.proofs.ListLaws.{mem-below, length-below}
 use Rattle.temporal.proofs.ShortestLaws.{
   Bounded,
@@ -30,7 +31,14 @@ use Rattle.temporal.proofs.ShortestLaws.{
   split-hops,
   split-count,
 }
-use Rattle.temporal.proofs.WalkLaws.{SlotsWithin, run-within, run-positions, ends-inv}
+use Rattle.temporal.proofs.WalkLaws.{
+  SlotsWithin,
+  run-within,
+  run-last-within,
+  run-positions,
+  run-station,
+  ends-inv,
+}
 use Rattle.temporal.proofs.PathLaws.{
   path-is-walk,
   walk-or-shorter,
@@ -86,6 +94,51 @@ module _ (bs : List ℕ) (n t : ℕ) (ok : planFault bs n t ≡ 0) where
       p : Plan
       p = planOf bs n t
 
+  -- (kept) Every walk from s to z, of whatever length, has at least the pair's hops.
+  pub walk-at-least :
+      (s z : ℕ) (w : List ℕ) → isWalkTo (planOf bs n t) s z w ≡ true → hops (shortestPaths (planOf bs n t) s z) ≤ length w
+  walk-at-least s z w e =
+      rw shortest-walks-are-paths (shortest-least (bounded-ends (planOf bs n t) (slots-within bs n t ok) s (isAt z)) e)
+
+  -- (kept) Every walk from s to z with the pair's hops is a path, and stands in the complete list.
+  pub fewest-walk-is-path :
+      (s z : ℕ) (w : List ℕ) → isWalkTo (planOf bs n t) s z w ≡ true →
+      length w ≡ hops (shortestPaths (planOf bs n t) s z) → isPath (planOf bs n t) s z w ≡ true
+  fewest-walk-is-path s z w e fewest =
+      let among = shortest-walks-are-paths s z in
+      in-complete-list s z w .0
+      (rw among
+      (shortest-mem (bounded-ends (planOf bs n t) (slots-within bs n t ok) s (isAt z)) .1
+      (e, fewest ∙ ap hops among))) .0
+
+  -- Every walk from s to the appearance (v, u) has at least its hops.
+  pub appearance-walk-at-least :
+      (s v u : ℕ) (w : List ℕ) → isWalk (planOf bs n t) s v u w ≡ true →
+      hops (shortestWalks (planOf bs n t) s v u) ≤ length w
+  unfolding shortestWalks isWalk
+  appearance-walk-at-least s v u w e =
+      shortest-least (bounded-ends (planOf bs n t) (slots-within bs n t ok) s (isAppearance v u)) e
+
+  -- A list of positions is among an appearance's shortest walks exactly if it is a walk to it with its hops.
+  pub in-shortest-walks :
+      (s v u : ℕ) (w : List ℕ) →
+      List·Memᴰ w (shortestWalks (planOf bs n t) s v u) ↔
+      ((isWalk (planOf bs n t) s v u w ≡ true) × (length w ≡ hops (shortestWalks (planOf bs n t) s v u)))
+  unfolding shortestWalks isWalk
+  in-shortest-walks s v u w =
+      shortest-mem (bounded-ends (planOf bs n t) (slots-within bs n t ok) s (isAppearance v u))
+
+  -- A walk from a station of the plan ends at a station of the plan, in one of its slots or at the start.
+  pub walk-ends-within :
+      (s : ℕ) (w : List ℕ) (l : List Appearance) → s < n → run (planOf bs n t) (start s) w ≡ some l →
+      (lastOr (start s) l .station < n) × (lastOr (start s) l .slot ≤ t)
+  unfolding planOf
+  walk-ends-within s w l inside e = (
+    run-station (planOf bs n t) n (λ i c there. contact-within bs n t ok i c there .ends)
+        (λ i c there. contact-within bs n t ok i c there .station) (start s) w inside e,
+    run-last-within (planOf bs n t) (slots-within bs n t ok) (start s) w (omega arith) e,
+  )
+
   -- A station's appearances account for its shortest walks: none has fewer hops than the station, and those with as many
   -- hops have together as many shortest walks.
   pub appearance-at-least :
@@ -112,6 +165,11 @@ module _ (bs : List ℕ) (n t : ℕ) (ok : planFault bs n t ≡ 0) where
 -- For two different stations a path is document 000's (Def. 3).
 pub path-is-definition3 : (p : Plan) (s z : ℕ) → s ≢ z → (w : List ℕ) → isPath p s z w ≡ isPath000 p s z w
 path-is-definition3 = path-definition3
+
+-- The shortest walks of an appearance rise too.
+pub shortest-walks-rise : (p : Plan) (s v u : ℕ) → Rising (shortestWalks p s v u)
+unfolding shortestWalks
+shortest-walks-rise p s v u = shortest-rising p (isWalk p s v u)
 
 -- The complete list rises strictly in lexicographic order, so no path stands in it twice.
 pub complete-list-rises : (p : Plan) (s z : ℕ) → Rising (shortestPaths p s z)

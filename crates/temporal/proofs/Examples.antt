@@ -40,10 +40,10 @@ use Rattle.temporal.specs.Cause.{
 use Rattle.temporal.specs.Outcome.{entered, over, cleared, appearanceTable, stationTable, reached, reach}
 use Rattle.temporal.specs.OutcomePair.{paired, pair, loaded, loads}
 use Rattle.temporal.specs.Cursor.{sameNumbers, indexIn, stay, give, goFirst, goNext, go, move}
-use Rattle.temporal.specs.Listing.{listOf, listingCauses, overflow, listed, listing}
+use Rattle.temporal.specs.FirstNext.{listOf, wayCauses, overflow, wayWork, wayAnswer}
 use Rattle.temporal.specs.Examples.{reachedFrom, sameLists, sameReply}
 use Rattle.temporal.specs.ExamplesTable.{right, allRight, table}
 
 pub examples : allRight table ≡ true
-unfolding from below sum select any member distinct tuples leadsTo mayFollow along step run lastOr holds endsIn isWalk isPath isInterior orElse firstNonempty ofHops shortest shortestWalks shortestPaths hops through allEnds pairsOf pairs share load wordAt contactAt records planOf cause first unless outside wrongLength wrongSlot wrongEnds isAbove wrongOrder recordCauses planCauses planFault pairCauses stationCauses tooMany tooManyAnywhere entered over cleared appearanceTable stationTable reached reach paired pair loaded loads sameNumbers indexIn stay give goFirst goNext go move listOf listingCauses overflow listed listing reachedFrom sameLists sameReply right allRight flatMap bind
+unfolding from below sum select any member distinct tuples leadsTo mayFollow along step run lastOr holds endsIn isWalk isPath isInterior orElse firstNonempty ofHops shortest shortestWalks shortestPaths hops through allEnds pairsOf pairs share load wordAt contactAt records planOf cause first unless outside wrongLength wrongSlot wrongEnds isAbove wrongOrder recordCauses planCauses planFault pairCauses stationCauses tooMany tooManyAnywhere entered over cleared appearanceTable stationTable reached reach paired pair loaded loads sameNumbers indexIn stay give goFirst goNext go move listOf wayCauses overflow wayWork wayAnswer reachedFrom sameLists sameReply right allRight flatMap bind
 examples = refl

@@ -10,7 +10,7 @@ use native.Mathlib.Omega.{arith}
 use lib.ListN.{length, getElem?}
 use Rattle.temporal.specs.Plan.{Contact, Plan, Appearance, start, leadsTo, mayFollow}
 use Rattle.temporal.specs.Walk.{along, step, run, lastOr, holds, endsIn}
-use Rattle.temporal.proofs.RuleLaws.{follows-later, follows-earlier}
+use Rattle.temporal.proofs.RuleLaws.{follows-later, follows-earlier, leads-below}
 use Rattle.temporal.proofs.OptionLaws.{position-below, guarded, holds-inv}
 
 -- what a step from x by the contact at position i to y consists of
@@ -254,3 +254,19 @@ module _ (p : Plan) (x : Appearance) (t : Appearance → Bool) where
       (i : ℕ) (w : List ℕ) {y : Appearance} → step p x i ≡ some y → endsIn p y t w ≡ true → endsIn p x t (i ∷ w) ≡ true
   unfolding holds
   ends-after i w steps e = ends-cons i w ∙ rw steps e
+
+-- a walk from a station below n, over contacts between stations below n, ends at one
+pub run-station :
+    (p : Plan) (n : ℕ) →
+    ((i : ℕ) (c : Contact) → getElem? (p .contacts) i ≡ some c → c .a < c .b) →
+    ((i : ℕ) (c : Contact) → getElem? (p .contacts) i ≡ some c → c .b < n) →
+    (x : Appearance) (w : List ℕ) {l : List Appearance} → x .station < n → run p x w ≡ some l → lastOr x l .station < n
+unfolding lastOr
+run-station p n ends inside x [] h e = rw (← run-nil p x e) h
+run-station p n ends inside x (i ∷ w) h e =
+    let r = run-cons p x i w e in
+    let s = step-inv p x i (r .steps) in
+    let here : r .next .station < n =
+    leads-below (s .contact) (x .station) (r .next .station) n (ends i (s .contact) (s .at-position))
+    (inside i (s .contact) (s .at-position)) (s .leads) in
+    rw (← r .whole) (run-station p n ends inside (r .next) w here (r .goes-on))

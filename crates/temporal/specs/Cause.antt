@@ -1,8 +1,8 @@
 -- The causes of refusal, 1 to 9, in the order of document 01. (10 is about an offered list: Cursor.) Definitions only.
 -- Assumes nothing.
-use Prim.Native.Nat.{ℕ, zero, suc, _+_, _-_, _*_, _/_, _%_, _^_}
+use Prim.Native.Nat.{ℕ, zero, suc, _+_, _-_, _%_, _^_}
 use mathlib.Core.Bool.{Bool, not, cond, _&&_, _||_}
-use mathlib.Core.List.{List, [], _∷_, _++_, flatMap}
+use mathlib.Core.List.{List, [], _∷_, flatMap}
 use lib.Dec.{leb, ltb, eqb}
 use lib.ListN.{length}
 use Rattle.temporal.specs.Lists.{below, any}
@@ -72,7 +72,8 @@ pairCauses n s z short = cause 6 (leb n s || leb n z) ∷ cause 7 (eqb s z) ∷ 
 unfoldable pub stationCauses : ℕ → ℕ → Bool → List ℕ
 stationCauses n v short = cause 6 (leb n v) ∷ cause 8 short ∷ []
 
--- 9: an appearance, or a station, has over 2^64 - 1 shortest walks from s. Every one of a plan is looked at.
+-- 9: an appearance, or a station, has over 2^64 - 1 shortest walks from s; those of a station are its shortest paths
+-- (Adequacy). Every appearance and every station of the plan is looked at.
 unfoldable pub tooMany : Plan → ℕ → Bool
 tooMany p s =
     any (λ v. any (λ t. ltb (2 ^ 64 - 1) (count (shortestWalks p s v t))) (below (p .slots + 1))) (below (p .stations)) ||

@@ -9,7 +9,7 @@ use lib.ListN.{length, take, getD}
 use Rattle.temporal.specs.Cause.{unless}
 use Rattle.temporal.specs.Outcome.{over}
 
--- what first way and next way answer
+-- What first way and next way answer.
 pub data Reply : Type 0 where
   path : ℕ → Reply  -- a way is given: its hops
   no-path : Reply  -- document 01's "none"
@@ -52,14 +52,14 @@ unfoldable pub goNext : List (List ℕ) → Option ℕ → List ℕ → Moved
 goNext l none b = stay (refused 10) none b
 goNext l (some i) b = cond (ltb (i + 1) (length l)) (give l (i + 1) b) (stay last-path (some i) b)
 
--- the two operations
-pub data Listing : Type 0 where
-  first-way next-way : Listing
+-- operations 7 and 8
+pub data Operation : Type 0 where
+  first-way next-way : Operation
 
-unfoldable pub go : Listing → List (List ℕ) → Option ℕ → List ℕ → Moved
+unfoldable pub go : Operation → List (List ℕ) → Option ℕ → List ℕ → Moved
 go first-way = goFirst
 go next-way = goNext
 
 -- the cursor's move at a call whose first cause other than 10 has the given number; 0 where it has none
-unfoldable pub move : Listing → ℕ → List (List ℕ) → Option ℕ → List ℕ → Moved
+unfoldable pub move : Operation → ℕ → List (List ℕ) → Option ℕ → List ℕ → Moved
 move o k l at b = unless k (λ k. stay (refused k) at b) (go o l at b)

@@ -10,7 +10,7 @@ pub mod Cause
 pub mod Outcome
 pub mod OutcomePair
 pub mod Cursor
-pub mod Listing
+pub mod FirstNext
 pub mod Trace
 pub mod TraceGiven
 pub mod Examples

@@ -1,4 +1,4 @@
--- Lists: the few words about lists that the other definitions use. They know nothing of plans. Definitions only.
+-- Lists: what the other definitions say of lists, without plans. Definitions only.
 -- Assumes nothing.
 use Prim.Native.Nat.{ℕ, zero, suc, _+_, _*_, _<_}
 use mathlib.Core.Path.{_≡_}

@@ -1,6 +1,7 @@
 -- Pairs, shares and loads. Definitions only.
 -- Assumes nothing.
-use Prim.Native.Nat.{ℕ, _*_, _/_, _^_, _<_, _≤_}
+use Prim.Native.Nat.{ℕ, _+_, _*_, _/_, _^_, _<_, _≤_}
+use mathlib.Core.Path.{_≡_}
 use mathlib.Core.Bool.{Bool, not, _&&_}
 use mathlib.Core.List.{List, map, flatMap}
 use lib.Dec.{ltb, eqb}
@@ -18,7 +19,7 @@ pub record Ends : Type 0 where
 unfoldable pub allEnds : ℕ → List Ends
 allEnds n = flatMap (λ s. map (λ z. record { source = s; destination = z }) (below n)) (below n)
 
--- the paths of a pair, and how many of them have v inside
+-- how many shortest paths a pair has, and how many of them have v inside
 abbrev pub countOf : Plan → Ends → ℕ
 countOf p e = count (shortestPaths p (e .source) (e .destination))
 
@@ -26,12 +27,12 @@ abbrev pub throughOf : Plan → ℕ → Ends → ℕ
 throughOf p v e = through p (e .source) (e .destination) v
 
 -- whether e is a pair of two different stations with v inside some shortest path of it
-abbrev pub leansOn : Plan → ℕ → Ends → Bool
-leansOn p v e = not (eqb (e .source) (e .destination)) && ltb 0 (throughOf p v e)
+abbrev pub isPairOf : Plan → ℕ → Ends → Bool
+isPairOf p v e = not (eqb (e .source) (e .destination)) && ltb 0 (throughOf p v e)
 
 -- Document 01's pairs of a station v: the ordered pairs s ≠ z with v inside some least way.
 unfoldable pub pairsOf : Plan → ℕ → List Ends
-pairsOf p v = select (leansOn p v) (allEnds (p .stations))
+pairsOf p v = select (isPairOf p v) (allEnds (p .stations))
 
 -- how many pairs a station has
 unfoldable pub pairs : Plan → ℕ → ℕ
@@ -42,7 +43,7 @@ pairs p v = length (pairsOf p v)
 unfoldable pub share : Plan → ℕ → Ends → ℕ
 share p v e = 2 ^ 32 * throughOf p v e / countOf p e
 
--- Document 01's load of a station: the sum of the shares over its pairs, in units of 1 / 2^32. Each share is rounded.
+-- Document 01's load of a station: the sum of the shares over its pairs, in units of 1 / 2^32. Each share is rounded down.
 unfoldable pub load : Plan → ℕ → ℕ
 load p v = sum (map (share p v) (pairsOf p v))
 
@@ -53,6 +54,13 @@ commonCount p v = product (map (countOf p) (pairsOf p v))
 -- Document 01's S: the sum of through × (D ÷ count) over the pairs, so that S ÷ D is the exact sum of shares.
 unfoldable pub exactSum : Plan → ℕ → ℕ
 exactSum p v = sum (map (λ e. throughOf p v e * (commonCount p v / countOf p e)) (pairsOf p v))
+
+-- Document 01's distance of a load from the exact sum, in whole numbers: where there are pairs, load × D is at most 2^32 × S,
+-- and 2^32 × S is below (load + pairs) × D; where there are none, load and S are 0.
+pub record WithinExactSum (p : Plan) (v : ℕ) : Type 0 where
+  pub at-most : load p v * commonCount p v ≤ 2 ^ 32 * exactSum p v
+  pub below : 0 < pairs p v → 2 ^ 32 * exactSum p v < (load p v + pairs p v) * commonCount p v
+  pub none : pairs p v ≡ 0 → (load p v ≡ 0) × (exactSum p v ≡ 0)
 
 -- Document 01's busiest: one of the stations, and no other's load exceeds its load. Among equals any may be given.
 pub record Busiest (p : Plan) (v : ℕ) : Type 0 where

@@ -17,7 +17,7 @@ pub record Outcome (Values Buffers : Type 0) : Type 0 where
   pub values : Values
   pub buffers : Buffers
 
--- The entry of an operation: refused with the first cause of a list, zeros beside the number and all lent memory as it
+-- How an operation begins: refused with the first cause of a list, zeros beside the number and all lent memory as it
 -- was; or, where no cause holds, the work.
 unfoldable pub entered : {Values Buffers : Type 0} → List ℕ → Values → Buffers → Outcome Values Buffers → Outcome Values Buffers
 entered causes zeros old work = unless (first causes) (λ k. record { number = k; values = zeros; buffers = old }) work
@@ -26,7 +26,7 @@ entered causes zeros old work = unless (first causes) (λ k. record { number = k
 unfoldable pub over : List ℕ → List ℕ → List ℕ
 over new old = new ++ drop (length new) old
 
--- a buffer whose first k entries became 0
+-- a buffer whose first k entries are 0
 unfoldable pub cleared : ℕ → List ℕ → List ℕ
 cleared k old = over (replicate k 0) old
 

@@ -1,4 +1,4 @@
--- A plan of slots, and the two rules by which a reading travels. Definitions only.
+-- A plan of slots, and the two rules by which a reading is passed on. Definitions only.
 -- Assumes nothing.
 use Prim.Native.Nat.{ℕ}
 use mathlib.Core.Bool.{Bool, cond}
@@ -19,12 +19,13 @@ pub record Plan : Type 0 where
   pub slots : ℕ
   pub contacts : List Contact
 
--- Document 01's appearance (v, t), document 000's vertex appearance: a station, reached in a slot.
+-- Document 01's appearance (v, t), document 000's vertex appearance (section 2.1): a station, reached in a slot.
 pub record Appearance : Type 0 where
   pub station : ℕ
   pub slot : ℕ
 
--- The start (s, 0): the empty walk ends there. Slot 0 is before every slot of a plan.
+-- The start (s, 0), document 000's dummy appearance (after Def. 6): the empty walk ends there. Slot 0 is before every
+-- slot of a plan.
 abbrev pub start : ℕ → Appearance
 start s = record { station = s; slot = 0 }
 
@@ -34,6 +35,7 @@ unfoldable pub leadsTo : Contact → ℕ → Option ℕ
 leadsTo c v = cond (eqb v (c .a)) (some (c .b)) (cond (eqb v (c .b)) (some (c .a)) none)
 
 -- Second rule: whether, in a plan, a contact in slot u may follow an appearance in slot t. Strictly later
--- (document 000, Def. 2, strict), so nothing is sent on in the slot of hearing; waiting is free, also at the start.
+-- (document 000, Def. 2, strict), so nothing is sent on in the slot of hearing; any later slot will do, and after the
+-- start any slot.
 unfoldable pub mayFollow : Plan → ℕ → ℕ → Bool
 mayFollow p t u = ltb t u

@@ -22,16 +22,17 @@ firstNonempty f (k ∷ ks) = let r = firstNonempty f ks in orElse (f k) r
 unfoldable pub ofHops : Plan → (List ℕ → Bool) → ℕ → List (List ℕ)
 ofHops p t k = select t (tuples (length (p .contacts)) k)
 
--- Those of the fewest hops that pass a test, all of them, each once, in lexicographic order (document 000, Def. 4,
--- shortest). No walk of a plan has more hops than the plan has slots, so 0, 1, .., slots are tried.
+-- Those of the fewest hops that pass a test, all of them, each once, in lexicographic order. No walk of an accepted plan has
+-- more hops than the plan has slots (Adequacy), so 0, 1, .., slots are tried.
 unfoldable pub shortest : Plan → (List ℕ → Bool) → List (List ℕ)
 shortest p t = firstNonempty (ofHops p t) (below (p .slots + 1))
 
--- the shortest walks from s to the appearance (v, t); document 01's least chains to an appearance
+-- The shortest walks from s to the appearance (v, t): document 01's least chains to an appearance.
 unfoldable pub shortestWalks : Plan → ℕ → ℕ → ℕ → List (List ℕ)
 shortestWalks p s v t = shortest p (isWalk p s v t)
 
--- the shortest paths from s to z; document 01's complete list of a pair. Empty where there is no path.
+-- The shortest paths from s to z: document 01's complete list of a pair, document 002's shortest temporal paths (section
+-- 2). They are also shortest among walks, as document 000 has it (Def. 4; Adequacy). Empty where there is no path.
 unfoldable pub shortestPaths : Plan → ℕ → ℕ → List (List ℕ)
 shortestPaths p s z = shortest p (isPath p s z)
 

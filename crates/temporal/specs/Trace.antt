@@ -1,27 +1,27 @@
 -- Document 01's listing, here a trace: calls of first way and next way on one way buffer, and the caller's writes between
 -- them; and demand 3 about it. Definitions only.
 -- Assumes nothing.
-use Prim.Native.Nat.{ℕ, _+_, _-_, _≤_, _<_}
+use Prim.Native.Nat.{ℕ, _≤_, _<_}
 use mathlib.Core.Path.{_≡_}
 use mathlib.Core.List.{List, [], _∷_, _++_}
 use mathlib.Core.Logic.{_≢_}
 use mathlib.Core.Option.{Option}
 use lib.ListN.{length, take, drop}
 use Rattle.temporal.specs.Shortest.{hops}
-use Rattle.temporal.specs.Cause.{cause, first, planFault}
-use Rattle.temporal.specs.Cursor.{Reply, Listing, Moved, indexIn, move}
-use Rattle.temporal.specs.Listing.{Question, Listed, listOf, listingCauses, overflow, listing}
+use Rattle.temporal.specs.Cause.{first, planFault}
+use Rattle.temporal.specs.Cursor.{Reply, Operation, indexIn, move}
+use Rattle.temporal.specs.FirstNext.{Question, listOf, wayCauses, overflow, WayContract}
 
 -- the arguments of a call; of the way buffer and of the work area only the lengths that are lent
 pub record Call : Type 0 where
-  pub operation : Listing
+  pub operation : Operation
   pub question : Question
   pub lent : ℕ
   pub work : ℕ
 
 -- the number of a call's first cause of refusal other than 10, or 0
 unfoldable pub causeOf : Call → ℕ
-causeOf c = first (listingCauses (c .question) (c .lent) (c .work) ++ overflow (c .question) ∷ [])
+causeOf c = first (wayCauses (c .question) (c .lent) (c .work) ++ overflow (c .question) ∷ [])
 
 -- What happens in a trace: a call with its answer and the whole way buffer after it, or a write of the caller's with the
 -- entries behind the pair's hops after it.
@@ -38,7 +38,7 @@ keptOf (w ∷ l) = hops (w ∷ l)
 unfoldable pub overwritten : List (List ℕ) → List ℕ → List ℕ → List ℕ
 overwritten l behind b = take (keptOf l) b ++ behind
 
--- A call met its operation's contract: it was lent a beginning of the buffer, and some work area of the length named;
+-- A call meets its operation's contract: it is lent a beginning of the buffer, and some work area of the length named;
 -- the rest of the buffer is as it was.
 pub record Meets (c : Call) (b : List ℕ) (r : Reply) (after : List ℕ) : Type 0 where
   pub within : c .lent ≤ length b
@@ -46,12 +46,11 @@ pub record Meets (c : Call) (b : List ℕ) (r : Reply) (after : List ℕ) : Type
   pub workAfter : List ℕ
   pub workLength : length work ≡ c .work
   pub contract :
-      _≡_ {A = Listed} (record { reply = r; way = take (c .lent) after; work = workAfter })
-      (listing (c .operation) (c .question) (take (c .lent) b) work)
+      WayContract (c .operation) (c .question) (take (c .lent) b) work r (take (c .lent) after) workAfter
   pub rest : drop (c .lent) after ≡ drop (c .lent) b
 
--- A trace about q that starts with buffer b: each call meets its contract and names q, unless it has a cause of refusal
--- other than 10; each write keeps the buffer's length.
+-- A trace about q that starts with buffer b: each call meets its contract, and names q unless it has a cause of refusal
+-- other than 10; each write keeps the buffer's length. A beginning and an end of a trace are traces.
 unfoldable pub Trace : Question → List ℕ → List Event → Type 0
 Trace q b [] = Unit {0}
 Trace q b (called c r after ∷ es) = Meets c b r after × (causeOf c ≡ 0 → c .question ≡ q) × Trace q after es

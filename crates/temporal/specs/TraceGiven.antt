@@ -7,12 +7,12 @@ use mathlib.Core.Bool.{Bool, true, false, _&&_}
 use mathlib.Core.List.{List, [], _∷_}
 use lib.Dec.{eqb}
 use lib.ListN.{length, take}
-use Rattle.temporal.specs.Lists.{any}
-use Rattle.temporal.specs.Cursor.{Reply, path, no-path, last-path, refused, Listing, first-way, next-way}
-use Rattle.temporal.specs.Listing.{Question, listOf}
-use Rattle.temporal.specs.Trace.{Call, causeOf, Event, called, wrote, Trace, Asked}
+use Rattle.temporal.specs.Lists.{any, Rising}
+use Rattle.temporal.specs.Cursor.{path, no-path, last-path, refused, Operation, first-way, next-way}
+use Rattle.temporal.specs.FirstNext.{Question, listOf}
+use Rattle.temporal.specs.Trace.{causeOf, Event, called, wrote, Trace, Asked}
 
-unfoldable pub isFirstWay : Listing → Bool
+unfoldable pub isFirstWay : Operation → Bool
 isFirstWay first-way = true
 isFirstWay next-way = false
 
@@ -40,9 +40,10 @@ EndsWhenAllOut l k (called c (refused j) after ∷ es) = EndsWhenAllOut l k es
 EndsWhenAllOut l k (wrote behind ∷ es) = EndsWhenAllOut l k es
 
 -- From an accepted first way on, with no other after it, wherever the trace is broken off, the ways given are the first
--- ones of the complete list, each once, and "none" or "last" comes exactly where all are out.
+-- ones of the complete list, none twice since they rise, and "none" or "last" comes exactly where all are out.
 abbrev pub Demand3Given : Type 0
 Demand3Given =
     (q : Question) → Asked q → (b : List ℕ) (e : Event) (es : List Event) →
     startsOver e ≡ true → any startsOver es ≡ false → Trace q b (e ∷ es) →
-    (given (e ∷ es) ≡ take (length (given (e ∷ es))) (listOf q)) × EndsWhenAllOut (listOf q) 0 (e ∷ es)
+    (given (e ∷ es) ≡ take (length (given (e ∷ es))) (listOf q)) × Rising (given (e ∷ es)) ×
+    EndsWhenAllOut (listOf q) 0 (e ∷ es)

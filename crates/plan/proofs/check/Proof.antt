@@ -8,7 +8,6 @@ use mathlib.Core.List.{List}
 use lib.ListN.{length}
 use Rattle.temporal.specs.Bytes.{records}
 use Rattle.temporal.specs.Cause.{planFault}
-use Rattle.plan.specs.Fault.{planNumber, checkNumber}
 use Rattle.plan.proofs.Answers.{refused-decides, accepted-passes}
 use Rattle.temporal.proofs.CheckLaws.{
   faultFrom,
@@ -38,27 +37,21 @@ abbrev μ-loop : tie.MeasureT-loop
 μ-loop plan n t size m i₀ i = m - i
 
 returns : tie.Need-returns Inv-loop μ-loop
-unfolding checkNumber planNumber
 returns c = sym (plan-no-station _ _ _ (omega arith))
 
 returns-2 : tie.Need-returns-2 Inv-loop μ-loop
-unfolding checkNumber planNumber
 returns-2 c = sym (plan-many-stations _ _ _ (omega arith))
 
 returns-3 : tie.Need-returns-3 Inv-loop μ-loop
-unfolding checkNumber planNumber
 returns-3 c = sym (plan-no-slot _ _ _ (omega arith) (omega arith) (omega arith))
 
 returns-4 : tie.Need-returns-4 Inv-loop μ-loop
-unfolding checkNumber planNumber
 returns-4 c = sym (plan-many-slots _ _ _ (omega arith) (omega arith) (omega arith))
 
 returns-5 : tie.Need-returns-5 Inv-loop μ-loop
-unfolding checkNumber planNumber
 returns-5 c = sym (plan-part-record _ _ _ (omega arith) (omega arith) (omega arith) (omega arith) (omega arith))
 
 returns-6 : tie.Need-returns-6 Inv-loop μ-loop
-unfolding checkNumber planNumber
 returns-6 c = sym (plan-many-records _ _ _ (omega arith) (omega arith) (omega arith) (omega arith) (omega arith) (omega arith))
 
 loop-holds : tie.Need-loop-holds Inv-loop μ-loop
@@ -78,7 +71,6 @@ enum-known-answer : tie.Need-enum-known-answer Inv-loop μ-loop
 enum-known-answer c = c .match .keys1
 
 returns-7 : tie.Need-returns-7 Inv-loop μ-loop
-unfolding checkNumber
 returns-7 c =
     let inv = c .before .before .before .before .before .loop .inv in
     refused-decides _ _ _ _ (omega arith) (inv .rest) _ (c .before .before .before .check-record .ensures) _ (c .before .answer .given .1)
@@ -104,7 +96,6 @@ loop-again c =
     }
 
 returns-8 : tie.Need-returns-8 Inv-loop μ-loop
-unfolding checkNumber
 returns-8 c = let inv = c .before .loop .inv in sym (inv .rest ∙ records-end _ _ _ _ (omega arith))
 
 pub check-spec : {M : Type 1} → statement M

@@ -2,7 +2,6 @@
 -- Assumes nothing.
 use native.Mathlib.Omega.{arith}
 use mathlib.Core.Path.{sym, _∙_}
-use Rattle.plan.specs.Fault.{planNumber, checkNumber}
 use Rattle.temporal.proofs.CheckLaws.{
   record-slot-zero,
   record-slot-high,
@@ -20,31 +19,26 @@ contact-at-requires : tie.Need-contact-at-requires
 contact-at-requires c κs = search needs
 
 returns : tie.Need-returns
-unfolding checkNumber planNumber
 returns c =
     let at = c .before .before .contact-at .ensures in
     sym (record-slot-zero _ _ _ _ _ at (omega arith))
 
 returns-2 : tie.Need-returns-2
-unfolding checkNumber planNumber
 returns-2 c =
     let at = c .before .before .before .before .contact-at .ensures in
     sym (record-slot-high _ _ _ _ _ at (omega arith))
 
 returns-3 : tie.Need-returns-3
-unfolding checkNumber planNumber
 returns-3 c =
     let at = c .before .before .before .before .before .before .contact-at .ensures in
     sym (record-ends-not-rising _ _ _ _ _ at (omega arith) (omega arith) (omega arith))
 
 returns-4 : tie.Need-returns-4
-unfolding checkNumber planNumber
 returns-4 c =
     let at = c .before .before .before .before .before .before .before .before .contact-at .ensures in
     sym (record-ends-high _ _ _ _ _ at (omega arith) (omega arith) (omega arith) (omega arith))
 
 returns-5 : tie.Need-returns-5
-unfolding checkNumber planNumber
 returns-5 c =
     let at = c .before .before .before .before .before .before .before .before .before .contact-at .ensures in
     sym (record-first _ _ _ _ _ at (omega arith) (omega arith) (omega arith) (omega arith) (omega arith))
@@ -59,13 +53,11 @@ is-above-requires : tie.Need-is-above-requires
 is-above-requires c κs = search needs
 
 returns-6 : tie.Need-returns-6
-unfolding checkNumber planNumber
 returns-6 c =
     let at = c .before .before .before .before .before .before .before .before .before .before .before .before .contact-at .ensures in
     sym (record-above _ _ _ _ _ at (omega arith) (omega arith) (omega arith) (omega arith) _ (c .before .before .contact-at2 .ensures) (sym (c .before .is-above .ensures) ∙ c .if6 .taken))
 
 returns-7 : tie.Need-returns-7
-unfolding checkNumber planNumber
 returns-7 c =
     let at = c .before .before .before .before .before .before .before .before .before .before .before .before .contact-at .ensures in
     sym (record-not-above _ _ _ _ _ at (omega arith) (omega arith) (omega arith) (omega arith) _ (c .before .before .contact-at2 .ensures) (omega arith) (sym (c .before .is-above .ensures) ∙ c .if6 .left))

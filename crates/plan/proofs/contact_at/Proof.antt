@@ -1,6 +1,7 @@
+-- `plan::contact_at` meets its contract: three numbers, read in turn.
+-- Assumes nothing.
 use borrow.Author.Needs.{needs}
-use native.Mathlib.Omega.{arith}
-use Rattle.temporal.specs.Bytes.{wordAt, contactAt}
+use Rattle.temporal.specs.Bytes.{contactAt}
 use Rattle.plan.proofs.contact_at.Statement.{statement}
 use Rattle.plan.proofs.contact_at.Tie as tie
 

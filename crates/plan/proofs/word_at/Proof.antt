@@ -1,3 +1,5 @@
+-- `plan::word_at` meets its contract: the sum is the number that the two bytes say.
+-- Assumes nothing.
 use borrow.Author.Needs.{needs}
 use native.Mathlib.Omega.{arith}
 use Rattle.temporal.specs.Bytes.{wordAt}
