@@ -1,2 +1,2 @@
 -- laws that belong to no one function
-mod Answers
+pub mod Answers

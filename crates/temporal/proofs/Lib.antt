@@ -4,6 +4,7 @@ pub mod Adequacy
 pub mod Examples
 -- the causes of refusal, what an accepted plan keeps, and what a check of a plan rests on
 pub mod CauseLaws
+pub mod EnteredLaws
 pub mod Accepted
 pub mod CheckLaws
 -- lists, shortest lists, the two rules, walks and paths

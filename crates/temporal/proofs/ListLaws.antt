@@ -1,8 +1,8 @@
 -- Laws of the words of specs/Lists.antt: membership, selection, tuples, order and sums. They know nothing of plans.
 -- Assumes nothing.
 use Prim.Native.Nat.{ℕ, zero, suc, _+_, _≤_, _<_}
-use mathlib.Core.Path.{_≡_, refl, sym, ap, _∙_, subst, subst₂}
-use mathlib.Core.Bool.{Bool, true, false, not, cond, _&&_, and-eq-true-iff, or-true}
+use mathlib.Core.Path.{_≡_, refl, sym, ap, ap₂, _∙_, subst, subst₂}
+use mathlib.Core.Bool.{Bool, true, false, not, cond, _&&_, _||_, and-eq-true-iff, or-true}
 use mathlib.Core.List.{List, [], _∷_, _++_, map, flatMap, List·Memᴰ, List·Memᴰ·head, List·Memᴰ·tail}
 use mathlib.Core.List.{List·Memᴰ·not-nil, List·Memᴰ·cases-cons, List·Memᴰ·append-cases, List·Memᴰ·eq-of-singleton}
 use mathlib.Core.List.{Memᴰ·cast, Memᴰ·append-left, Memᴰ·append-right, Memᴰ·map, Memᴰ·of-map}
@@ -413,3 +413,9 @@ sum-of-guarded true b n h = sum-ext (below n) (λ i m. ap (λ c. cond c 1 0) (eq
         go : (c : Bool) → eqb a b ≡ c → c ≡ eqb b a
         go true q = sym (eq-eqb b a (sym (eqb-true a b q)))
         go false q = sym (ne-eqb b a (λ e. eqb-false a b q (sym e)))
+
+-- tests that agree on a list's members hold of some member alike
+pub any-ext : {A : Type 0} {f g : A → Bool} (l : List A) → ((x : A) → List·Memᴰ x l → f x ≡ g x) → any f l ≡ any g l
+unfolding any
+any-ext [] e = refl
+any-ext (x ∷ l) e = ap₂ _||_ (e x (List·Memᴰ·head refl)) (any-ext l (λ y m. e y (List·Memᴰ·tail m)))

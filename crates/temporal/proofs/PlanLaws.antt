@@ -1,5 +1,9 @@
 -- The contacts of plan bytes: which contact stands at a position, and what acceptance says of it. Assumes nothing.
-use Prim.Native.Nat.{ℕ, zero, suc, _+_, _<_}
+use Prim.Native.Nat.{ℕ, zero, suc, _+_, _<_, _≤_}
+use native.Mathlib.Decide.{decLt, ℕ-discrete}
+use mathlib.Core.Bool.{true, false, false≢true}
+use mathlib.Core.Logic.{by-cases}
+use borrow.Author.Tests.{le-ltb, ne-eqb}
 use native.Mathlib.Omega.{arith}
 use mathlib.Core.Path.{_≡_, refl, sym, ap, subst, _∙_}
 use mathlib.Core.List.{List, [], _∷_, map}
@@ -8,7 +12,7 @@ use lib.ListN.{length, length-map, getElem?}
 use Rattle.temporal.specs.Lists.{from, below}
 use Rattle.temporal.specs.Plan.{Contact}
 use Rattle.temporal.specs.Bytes.{contactAt, records, planOf}
-use Rattle.temporal.specs.Cause.{planFault}
+use Rattle.temporal.specs.Cause.{isAbove, planFault}
 use Rattle.temporal.proofs.Accepted.{Accepted, ContactWithin, accepted}
 use Rattle.temporal.proofs.ListLaws.{length-below}
 use Rattle.temporal.proofs.OptionLaws.{position-below}
@@ -21,6 +25,17 @@ getElem-map-from f i (suc k) zero h = let same : i ≡ i + 0 = omega arith in ap
 getElem-map-from f i (suc k) (suc j) h =
     let same : suc i + j ≡ i + suc j = omega arith in
     getElem-map-from f (suc i) k j (omega arith) ∙ ap (λ x. some (f x)) same
+
+-- a record above another has no smaller slot
+above-slots : (c d : Contact) → isAbove c d ≡ true → c .slot ≤ d .slot
+unfolding isAbove
+above-slots c d e =
+    by-cases (decLt (c .slot) (d .slot)) (λ h. omega arith)
+    (λ h. by-cases (ℕ-discrete (c .slot) (d .slot)) (λ q. omega arith)
+    (λ q. absurd (false≢true (sym (neither h q) ∙ e))))
+  where
+    neither : (c .slot < d .slot → ⊥) → (c .slot ≡ d .slot → ⊥) → isAbove c d ≡ false
+    neither h q = rw (le-ltb (c .slot) (d .slot) (omega arith), ne-eqb (c .slot) (d .slot) q)
 
 module _ (bs : List ℕ) (n t : ℕ) where
   -- the contact at a position is the record there
@@ -53,3 +68,13 @@ module _ (bs : List ℕ) (n t : ℕ) where
     pub slots-within : SlotsWithin (planOf bs n t)
     unfolding planOf
     slots-within = record { within = λ i c e. contact-within i c e .to-last }
+
+    -- the records' slots do not fall
+    pub slots-sorted :
+        (i k : ℕ) → i + k < records bs → contactAt bs i .slot ≤ contactAt bs (i + k) .slot
+    slots-sorted i zero h = let same : i + 0 ≡ i = omega arith in rw same (omega arith)
+    slots-sorted i (suc k) h =
+        let next : i + suc k ≡ suc (i + k) = omega arith in
+        let before = slots-sorted i k (omega arith) in
+        let above = above-slots _ _ (accepted bs n t ok .rising (i + k) (omega arith)) in
+        rw next (omega arith)

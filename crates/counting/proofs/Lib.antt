@@ -1,0 +1,10 @@
+-- How many walks there are: counted by weights, the fewest hops of such a count, the recurrence by the last leg, and
+-- through counts by what avoids a station.
+pub mod Weights
+pub mod Fewest
+pub mod Recurrence
+pub mod Through
+-- loads and exact sums of shares
+pub mod ExactSum
+-- sums over lists
+pub mod SumLaws

@@ -1,0 +1,289 @@
+-- A record folded in keeps the state of the pass. Assumes nothing.
+use Prim.Native.Nat.{ℕ, zero, suc, _+_, _*_, _<_, _≤_}
+use native.Mathlib.Omega.{arith}
+use native.Mathlib.Numerals.{add-one}
+use native.Mathlib.Decide.{decLe, ℕ-discrete}
+use mathlib.Core.Path.{_≡_, refl, sym, ap, subst, _∙_}
+use mathlib.Core.Bool.{Bool, true, false, cond, _&&_}
+use mathlib.Core.Logic.{_≢_, by-cases}
+use mathlib.Core.List.{List, []}
+use lib.ListN.{length, getD, getElem?}
+use Rattle.temporal.specs.Plan.{Contact, Plan, Appearance, start, mayFollow}
+use Rattle.temporal.specs.Walk.{endsIn, isAt}
+use Rattle.temporal.specs.Shortest.{ofHops}
+use Rattle.temporal.specs.Bytes.{contactAt, records, planOf}
+use Rattle.temporal.specs.Cause.{planFault}
+use Rattle.temporal.proofs.Accepted.{accepted}
+use Rattle.temporal.proofs.Adequacy.{bounded-ends}
+use Rattle.temporal.proofs.ListLaws.{no-member-empty}
+use Rattle.temporal.proofs.PlanLaws.{contact-there, slots-within}
+use Rattle.temporal.proofs.ShortestLaws.{mem-ofHops-bounded}
+use Rattle.temporal.proofs.WalkLaws.{SlotsWithin}
+use Rattle.counting.proofs.Weights.{total, everywhere, counts}
+use Rattle.counting.proofs.Fewest.{Fewest, plus, delayed}
+use Rattle.counting.proofs.Recurrence.{
+  before,
+  arrivals,
+  arrivals-suc,
+  inflow,
+  inflow-other-station,
+  inflow-to-a,
+  inflow-to-b,
+}
+use Rattle.reach.specs.Table.{Table, folded, sent, Fits}
+use Rattle.reach.specs.Pass.{Tables, inSlot, Beyond}
+use Rattle.reach.proofs.PlaceLaws.{place-below}
+use Rattle.reach.proofs.PassLaws.{in-slot-inv}
+use Rattle.reach.proofs.EntryLaws.{EntryAt, entry-ext, entry-sent, sent-other-hops, sent-other-counts}
+use Rattle.reach.proofs.TableLaws.{
+  slots-apart,
+  stations-apart,
+  entry-kept,
+  beyond-refl,
+  beyond-sent,
+}
+use Rattle.reach.proofs.StateLaws.{State, ready, pendingWalks, fits-beyond}
+
+-- walks have no more hops than a plan has slots
+walks-few :
+    (p : Plan) → SlotsWithin p → (s h : ℕ) (t : Appearance → Bool) →
+    0 < total p everywhere (start s) (λ y. cond (t y) 1 0) h → h ≤ p .slots
+walks-few p g s h t there =
+    by-cases (decLe h (p .slots)) (λ q. q)
+    (λ more. absurd (
+    let none : ofHops p (endsIn p (start s) t) h ≡ [] = no-member-empty (ofHops p (endsIn p (start s) t) h)
+    (λ w m.
+    let (len, passes) = mem-ofHops-bounded (bounded-ends p g s t) h .0 m in
+    let few = bounded-ends p g s t .within w passes .0 in omega arith) in
+    let zero-there = sym (counts p t (start s) h) ∙ ap length none in
+    omega arith))
+
+-- what may be sent on in a slot has few hops
+pub ready-few :
+    (bs : List ℕ) (n t s v u h : ℕ) → planFault bs n t ≡ 0 → Fewest (ready bs n t s v u) h → h < 65535 → h + 1 < 65535
+unfolding before planOf
+ready-few bs n t s v u h ok f reached =
+    let few = walks-few (planOf bs n t) (slots-within bs n t ok) s h
+    (λ y. isAt v y && mayFollow (planOf bs n t) (y .slot) u) (f .some reached) in
+    let slots = accepted bs n t ok .slots in
+    omega arith
+
+-- ---- a table with a contact folded in
+
+module _ (x y : Table) (c : Contact) (n width : ℕ) (fits : Fits n width x y)
+    (ends : c .a < c .b) (inside : c .b < n) (slot : c .slot < width) where
+  -- the places of a and of b differ
+  apart : c .b * width + c .slot ≢ c .a * width + c .slot
+  apart = stations-apart (c .b) (c .slot) (c .a) (c .slot) width slot slot (λ e. omega arith)
+
+  -- every place but those two is as it was
+  pub folded-other-hops :
+      (i : ℕ) → i ≢ c .a * width + c .slot → i ≢ c .b * width + c .slot →
+      getD (folded width x y c .hops) i 0 ≡ getD (x .hops) i 0
+  unfolding folded
+  folded-other-hops i not-a not-b =
+      sent-other-hops _ y (c .b) (c .a * width + c .slot) i not-a ∙
+      sent-other-hops x y (c .a) (c .b * width + c .slot) i not-b
+
+  pub folded-other-counts :
+      (i : ℕ) → i ≢ c .a * width + c .slot → i ≢ c .b * width + c .slot →
+      getD (folded width x y c .counts) i 0 ≡ getD (x .counts) i 0
+  unfolding folded
+  folded-other-counts i not-a not-b =
+      sent-other-counts _ y (c .b) (c .a * width + c .slot) i not-a ∙
+      sent-other-counts x y (c .a) (c .b * width + c .slot) i not-b
+
+  -- b's appearance has what a sends on besides
+  pub entry-folded-b :
+      (N M : ℕ → ℕ) → (getD (y .hops) (c .a) 0 < 65535 → getD (y .hops) (c .a) 0 + 1 < 65535) →
+      EntryAt N x (c .b * width + c .slot) → EntryAt M y (c .a) →
+      EntryAt (plus N (delayed M)) (folded width x y c) (c .b * width + c .slot)
+  unfolding folded
+  entry-folded-b N M few e f =
+      let first = sent x y (c .a) (c .b * width + c .slot) in
+      entry-kept first (sent first y (c .b) (c .a * width + c .slot)) (c .b * width + c .slot)
+      (sent-other-hops first y (c .b) (c .a * width + c .slot) _ apart)
+      (sent-other-counts first y (c .b) (c .a * width + c .slot) _ apart)
+      (entry-sent x y (c .a) (c .b * width + c .slot) N M
+      (place-below (c .b) (c .slot) n width _ inside slot (fits .hops))
+      (place-below (c .b) (c .slot) n width _ inside slot (fits .counts)) few e f)
+
+  -- a's appearance has what b sends on besides
+  pub entry-folded-a :
+      (N M : ℕ → ℕ) → (getD (y .hops) (c .b) 0 < 65535 → getD (y .hops) (c .b) 0 + 1 < 65535) →
+      EntryAt N x (c .a * width + c .slot) → EntryAt M y (c .b) →
+      EntryAt (plus N (delayed M)) (folded width x y c) (c .a * width + c .slot)
+  unfolding folded
+  entry-folded-a N M few e f =
+      let first = sent x y (c .a) (c .b * width + c .slot) in
+      let kept = beyond-sent (c .b * width + c .slot + 1) x x y (c .a) (c .b * width + c .slot) (omega arith)
+      (beyond-refl _ x) in
+      let hops-kept = kept .hops-length in
+      let counts-kept = kept .counts-length in
+      let below-hops = place-below (c .a) (c .slot) n width _ (omega arith) slot (fits .hops) in
+      let below-counts = place-below (c .a) (c .slot) n width _ (omega arith) slot (fits .counts) in
+      entry-sent first y (c .b) (c .a * width + c .slot) N M (omega arith) (omega arith) few
+      (entry-kept x first (c .a * width + c .slot)
+      (sent-other-hops x y (c .a) (c .b * width + c .slot) _ (λ q. apart (sym q)))
+      (sent-other-counts x y (c .a) (c .b * width + c .slot) _ (λ q. apart (sym q))) e) f
+
+  pub beyond-folded : (z : Table) → Beyond (n * width) z x → Beyond (n * width) z (folded width x y c)
+  unfolding folded
+  beyond-folded z b =
+      beyond-sent (n * width) z _ y (c .b) (c .a * width + c .slot)
+      (place-below (c .a) (c .slot) n width _ (omega arith) slot (omega arith))
+      (beyond-sent (n * width) z x y (c .a) (c .b * width + c .slot)
+      (place-below (c .b) (c .slot) n width _ inside slot (omega arith)) b)
+
+module _ (bs : List ℕ) (n t s : ℕ) (ok : planFault bs n t ≡ 0) where
+  -- ---- what one record brings
+
+  -- to a station that is none of its two: nothing
+  arrive-other :
+      (u j w : ℕ) → j < records bs → w ≢ contactAt bs j .a → w ≢ contactAt bs j .b → (k : ℕ) →
+      arrivals (planOf bs n t) s everywhere j w u k ≡ arrivals (planOf bs n t) s everywhere (suc j) w u k
+  arrive-other u j w there not-a not-b k =
+      let more = arrivals-suc (planOf bs n t) s everywhere j (contact-there bs n t j there) w u k in
+      let none = inflow-other-station (planOf bs n t) s everywhere (contactAt bs j) w u k not-a not-b in
+      omega arith
+
+  -- to b: what a has, one hop later
+  arrive-b :
+      (u j : ℕ) → j < records bs → contactAt bs j .slot ≡ u → (k : ℕ) →
+      plus (arrivals (planOf bs n t) s everywhere j (contactAt bs j .b) u) (delayed (ready bs n t s (contactAt bs j .a) u)) k ≡
+      arrivals (planOf bs n t) s everywhere (suc j) (contactAt bs j .b) u k
+  unfolding plus everywhere
+  arrive-b u j there slot k =
+      let more = arrivals-suc (planOf bs n t) s everywhere j (contact-there bs n t j there) (contactAt bs j .b) u k in
+      let brings = inflow-to-b (planOf bs n t) s everywhere (contactAt bs j) u k slot in
+      omega arith
+
+  -- to a: what b has, one hop later
+  arrive-a :
+      (u j : ℕ) → j < records bs → contactAt bs j .slot ≡ u → (k : ℕ) →
+      plus (arrivals (planOf bs n t) s everywhere j (contactAt bs j .a) u) (delayed (ready bs n t s (contactAt bs j .b) u)) k ≡
+      arrivals (planOf bs n t) s everywhere (suc j) (contactAt bs j .a) u k
+  unfolding plus everywhere
+  arrive-a u j there slot k =
+      let more = arrivals-suc (planOf bs n t) s everywhere j (contact-there bs n t j there) (contactAt bs j .a) u k in
+      let brings = inflow-to-a (planOf bs n t) s everywhere (contactAt bs j) u k slot in
+      omega arith
+
+  -- after slot 0, what is pending is what the records bring
+  pub pending-arrivals :
+      (u j v : ℕ) → 0 < u → (k : ℕ) →
+      pendingWalks bs n t s u j v k ≡ arrivals (planOf bs n t) s everywhere j v u k
+  unfolding pendingWalks
+  pending-arrivals zero j v h k = absurd (omega arith)
+  pending-arrivals (suc u) j v h k = refl
+
+  -- a slot's record keeps the state, with one record more folded in
+  pub fold-state :
+      (old : Tables) (u j : ℕ) (x : Tables) → u < t + 1 → State bs n t s old u j x → inSlot bs j u ≡ true →
+      State bs n t s old u (j + 1)
+      (record { appearances = folded (t + 1) (x .appearances) (x .stations) (contactAt bs j); stations = x .stations })
+  fold-state old u j x slot-below st here =
+      record {
+        settled = λ v r h low last.
+            entry-kept (x .appearances) new (v * (t + 1) + r)
+            (other-hops v r h last (λ q. omega arith)) (other-counts v r h last (λ q. omega arith)) (st .settled v r h low last);
+        pending = λ v h last. pending v h;
+        later-hops = λ v r h low last. other-hops v r h last (λ q. omega arith) ∙ st .later-hops v r h low last;
+        later-counts = λ v r h low last. other-counts v r h last (λ q. omega arith) ∙ st .later-counts v r h low last;
+        station = st .station;
+        passed = λ i h. by-cases (ℕ-discrete i j) (λ q. rw q (omega (arith, at-slot))) (λ q. st .passed i (omega arith));
+        rest = λ i low last. st .rest i (omega arith) last;
+        within = omega (arith, there);
+        fits = fits-beyond n (t + 1) x (record { appearances = new; stations = x .stations }) (st .fits)
+            (beyond-folded (x .appearances) (x .stations) c n (t + 1) (st .fits) ends inside slot (x .appearances)
+            (beyond-refl _ (x .appearances)))
+            (beyond-refl _ (x .stations));
+        appearances-beyond =
+            beyond-folded (x .appearances) (x .stations) c n (t + 1) (st .fits) ends inside slot (old .appearances)
+            (st .appearances-beyond);
+        stations-beyond = st .stations-beyond;
+      }
+    where
+      c : Contact
+      c = contactAt bs j
+
+      new : Table
+      new = folded (t + 1) (x .appearances) (x .stations) (contactAt bs j)
+
+      there : j < records bs
+      there = in-slot-inv bs j u here .0
+
+      at-slot : contactAt bs j .slot ≡ u
+      at-slot = in-slot-inv bs j u here .1
+
+      ends : contactAt bs j .a < contactAt bs j .b
+      ends = accepted bs n t ok .contact j there .ends
+
+      inside : contactAt bs j .b < n
+      inside = accepted bs n t ok .contact j there .station
+
+      slot : contactAt bs j .slot < t + 1
+      slot = let last = accepted bs n t ok .contact j there .to-last in omega arith
+
+      other-hops :
+          (v r : ℕ) → v < n → r < t + 1 → r ≢ u →
+          getD (new .hops) (v * (t + 1) + r) 0 ≡ getD (x .appearances .hops) (v * (t + 1) + r) 0
+      other-hops v r h last ne =
+          folded-other-hops (x .appearances) (x .stations) c n (t + 1) (st .fits) ends inside slot (v * (t + 1) + r)
+          (slots-apart v r (c .a) (c .slot) (t + 1) last slot (λ q. ne (q ∙ at-slot)))
+          (slots-apart v r (c .b) (c .slot) (t + 1) last slot (λ q. ne (q ∙ at-slot)))
+
+      other-counts :
+          (v r : ℕ) → v < n → r < t + 1 → r ≢ u →
+          getD (new .counts) (v * (t + 1) + r) 0 ≡ getD (x .appearances .counts) (v * (t + 1) + r) 0
+      other-counts v r h last ne =
+          folded-other-counts (x .appearances) (x .stations) c n (t + 1) (st .fits) ends inside slot (v * (t + 1) + r)
+          (slots-apart v r (c .a) (c .slot) (t + 1) last slot (λ q. ne (q ∙ at-slot)))
+          (slots-apart v r (c .b) (c .slot) (t + 1) last slot (λ q. ne (q ∙ at-slot)))
+
+      later : 0 < u
+      later = let from-one = accepted bs n t ok .contact j there .from-one in omega (arith, at-slot)
+
+      -- the place of slot u is the place of the record's slot
+      same-place : (v : ℕ) → v * (t + 1) + contactAt bs j .slot ≡ v * (t + 1) + u
+      same-place v = ap (λ r. v * (t + 1) + r) at-slot
+
+      was : (v : ℕ) → v < n → EntryAt (arrivals (planOf bs n t) s everywhere j v u) (x .appearances) (v * (t + 1) + u)
+      was v h = entry-ext (pending-arrivals u j v later) (st .pending v h slot-below)
+
+      few : (v : ℕ) → v < n → getD (x .stations .hops) v 0 < 65535 → getD (x .stations .hops) v 0 + 1 < 65535
+      few v h = ready-few bs n t s v u _ ok (st .station v h .fewest)
+
+      arrived : (v : ℕ) → v < n → EntryAt (arrivals (planOf bs n t) s everywhere (j + 1) v u) new (v * (t + 1) + u)
+      arrived v h =
+          by-cases (ℕ-discrete v (c .b))
+          (λ q. rw (q, add-one j)
+          (subst (EntryAt (arrivals (planOf bs n t) s everywhere (suc j) (c .b) u) new) (same-place (c .b))
+          (entry-ext (arrive-b u j there at-slot)
+          (entry-folded-b (x .appearances) (x .stations) c n (t + 1) (st .fits) ends inside slot _ _
+          (few (c .a) (omega (arith, ends, inside)))
+          (subst (EntryAt (arrivals (planOf bs n t) s everywhere j (c .b) u) (x .appearances)) (sym (same-place (c .b)))
+          (was (c .b) inside))
+          (st .station (c .a) (omega (arith, ends, inside)))))))
+          (λ not-b. by-cases (ℕ-discrete v (c .a))
+          (λ q. rw (q, add-one j)
+          (subst (EntryAt (arrivals (planOf bs n t) s everywhere (suc j) (c .a) u) new) (same-place (c .a))
+          (entry-ext (arrive-a u j there at-slot)
+          (entry-folded-a (x .appearances) (x .stations) c n (t + 1) (st .fits) ends inside slot _ _
+          (few (c .b) inside)
+          (subst (EntryAt (arrivals (planOf bs n t) s everywhere j (c .a) u) (x .appearances))
+          (sym (same-place (c .a))) (was (c .a) (omega (arith, ends, inside))))
+          (st .station (c .b) inside)))))
+          (λ not-a. rw (add-one j)
+          (entry-ext (arrive-other u j v there not-a not-b)
+          (entry-kept (x .appearances) new (v * (t + 1) + u)
+          (folded-other-hops (x .appearances) (x .stations) c n (t + 1) (st .fits) ends inside slot _
+          (stations-apart v u (c .a) (c .slot) (t + 1) slot-below slot not-a)
+          (stations-apart v u (c .b) (c .slot) (t + 1) slot-below slot not-b))
+          (folded-other-counts (x .appearances) (x .stations) c n (t + 1) (st .fits) ends inside slot _
+          (stations-apart v u (c .a) (c .slot) (t + 1) slot-below slot not-a)
+          (stations-apart v u (c .b) (c .slot) (t + 1) slot-below slot not-b))
+          (was v h)))))
+
+      pending : (v : ℕ) → v < n → EntryAt (pendingWalks bs n t s u (j + 1) v) new (v * (t + 1) + u)
+      pending v h = entry-ext (λ k. sym (pending-arrivals u (j + 1) v later k)) (arrived v h)

@@ -1,0 +1,133 @@
+-- What merging an entry leaves, from comparisons of numbers. Assumes nothing.
+use Prim.Native.Nat.{ℕ, suc, _+_, _-_, _*_, _<_, _≤_, min}
+use native.Mathlib.Omega.{arith}
+use mathlib.Core.Path.{_≡_, refl, sym, ap, ap₂, _∙_}
+use mathlib.Core.Bool.{false}
+use mathlib.Core.List.{List}
+use mathlib.Core.Logic.{_≢_}
+use borrow.Author.Tests.{lt-ltb, le-ltb, eq-eqb, ne-eqb}
+use lib.Dec.{eqb}
+use lib.ListN.{length, getD, set, length-set}
+use lib.Seq.{set-getD}
+use Rattle.reach.specs.Table.{
+  Table,
+  table,
+  addCounts,
+  mergedCount,
+  merged,
+  sent,
+  settledFrom,
+  overflows,
+}
+
+pub add-left-over : (a b : ℕ) → a ≡ 0 → addCounts a b ≡ 0
+unfolding addCounts
+add-left-over a b h = rw (eq-eqb a 0 h)
+
+pub add-right-over : (a b : ℕ) → a ≢ 0 → b ≡ 0 → addCounts a b ≡ 0
+unfolding addCounts
+add-right-over a b some h = rw (ne-eqb a 0 some, eq-eqb b 0 h)
+
+pub add-over : (a b : ℕ) → a ≢ 0 → b ≢ 0 → 18446744073709551615 - a < b → addCounts a b ≡ 0
+unfolding addCounts
+add-over a b some other h = rw (ne-eqb a 0 some, ne-eqb b 0 other, lt-ltb (18446744073709551615 - a) b h)
+
+pub add-sum : (a b : ℕ) → a ≢ 0 → b ≢ 0 → b ≤ 18446744073709551615 - a → addCounts a b ≡ a + b
+unfolding addCounts
+add-sum a b some other h = rw (ne-eqb a 0 some, ne-eqb b 0 other, le-ltb (18446744073709551615 - a) b h)
+
+module _ (h c : List ℕ) (at l d : ℕ) where
+  -- fewer hops take the place of the entry
+  pub merge-fewer : l < getD h at 0 → merged (table h c) at l d ≡ table (set h at l) (set c at d)
+  unfolding merged mergedCount
+  merge-fewer less =
+      let fewer : min (getD h at 0) l ≡ l = omega arith in
+      rw (lt-ltb l (getD h at 0) less, fewer)
+
+  -- as many hops add the count
+  pub merge-equal : l ≡ getD h at 0 → merged (table h c) at l d ≡ table h (set c at (addCounts (getD c at 0) d))
+  unfolding merged mergedCount
+  merge-equal same =
+      let kept : min (getD h at 0) l ≡ getD h at 0 = omega arith in
+      rw (le-ltb l (getD h at 0) (omega arith), eq-eqb l (getD h at 0) same, kept, set-getD h at 0)
+
+  -- more hops leave the entry
+  pub merge-more : getD h at 0 < l → merged (table h c) at l d ≡ table h c
+  unfolding merged mergedCount
+  merge-more more =
+      let kept : min (getD h at 0) l ≡ getD h at 0 = omega arith in
+      rw (le-ltb l (getD h at 0) (omega arith), ne-eqb l (getD h at 0) (omega arith), kept, set-getD h at 0, set-getD c at 0)
+
+module _ (x y : Table) (v at : ℕ) where
+  -- a station with walks sends them on
+  pub sent-some :
+      getD (y .hops) v 0 < 65535 → sent x y v at ≡ merged x at (getD (y .hops) v 0 + 1) (getD (y .counts) v 0)
+  unfolding sent
+  sent-some h = rw (lt-ltb (getD (y .hops) v 0) 65535 h)
+
+  -- a station without walks sends nothing
+  pub sent-none : 65535 ≤ getD (y .hops) v 0 → sent x y v at ≡ x
+  unfolding sent
+  sent-none h = rw (le-ltb (getD (y .hops) v 0) 65535 h)
+
+module _ (x : Table) (j : ℕ) where
+  pub overflows-some : getD (x .hops) j 0 < 65535 → overflows x j ≡ eqb (getD (x .counts) j 0) 0
+  unfolding overflows
+  overflows-some h = rw (lt-ltb (getD (x .hops) j 0) 65535 h)
+
+  pub overflows-none : 65535 ≤ getD (x .hops) j 0 → overflows x j ≡ false
+  unfolding overflows
+  overflows-none h = rw (le-ltb (getD (x .hops) j 0) 65535 h)
+
+-- ---- a table's settling, station by station
+
+module _ (width u : ℕ) (x : Table) where
+  pub settle-turn :
+      (y : Table) (v n : ℕ) → v < n →
+      settledFrom width u x y v (n - v) ≡
+      settledFrom width u x (merged y v (getD (x .hops) (v * width + u) 0) (getD (x .counts) (v * width + u) 0)) (v + 1)
+      (n - (v + 1))
+  unfolding settledFrom
+  settle-turn y v n h = let more : n - v ≡ suc (n - (v + 1)) = omega arith in rw more
+
+  pub settle-end : (y : Table) (v n : ℕ) → n ≤ v → settledFrom width u x y v (n - v) ≡ y
+  unfolding settledFrom
+  settle-end y v n h = let none : n - v ≡ 0 = omega arith in rw none
+
+-- merging keeps the lengths
+pub merged-hops-length : (x : Table) (at l d : ℕ) → length (merged x at l d .hops) ≡ length (x .hops)
+unfolding merged
+merged-hops-length x at l d = length-set (x .hops) at _
+
+pub merged-counts-length : (x : Table) (at l d : ℕ) → length (merged x at l d .counts) ≡ length (x .counts)
+unfolding merged
+merged-counts-length x at l d = length-set (x .counts) at _
+
+-- the stations below v of n are settled
+pub record Settling (width u n : ℕ) (x old : Table) (v : ℕ) (now : Table) : Type 0 where
+  pub within : v ≤ n
+  pub hops : length (now .hops) ≡ length (old .hops)
+  pub counts : length (now .counts) ≡ length (old .counts)
+  pub rest : settledFrom width u x now v (n - v) ≡ settledFrom width u x old 0 n
+
+module _ (width u n : ℕ) (x old : Table) where
+  pub settling-none : Settling width u n x old 0 old
+  settling-none =
+      let same : n - 0 ≡ n = omega arith in
+      record { within = omega arith; hops = refl; counts = refl; rest = ap (settledFrom width u x old 0) same }
+
+  pub settling-more :
+      (v : ℕ) (now : Table) → v < n → Settling width u n x old v now →
+      Settling width u n x old (v + 1)
+      (merged now v (getD (x .hops) (v * width + u) 0) (getD (x .counts) (v * width + u) 0))
+  settling-more v now h s =
+      record {
+        within = omega arith;
+        hops = merged-hops-length now v _ _ ∙ s .hops;
+        counts = merged-counts-length now v _ _ ∙ s .counts;
+        rest = sym (settle-turn width u x now v n h) ∙ s .rest;
+      }
+
+  pub settling-all :
+      (v : ℕ) (now : Table) → n ≤ v → Settling width u n x old v now → now ≡ settledFrom width u x old 0 n
+  settling-all v now h s = sym (settle-end width u x now v n h) ∙ s .rest

@@ -1,0 +1,123 @@
+-- Filled tables as document 01 has them: cause 9 is an overflowing entry, and without one the tables are those of the
+-- definition. Assumes nothing.
+use Prim.Native.Nat.{ℕ, zero, suc, _+_, _-_, _*_, _/_, _%_, _^_, _<_, _≤_}
+use native.Mathlib.Omega.{arith}
+use native.Mathlib.Decide.{decLt, ℕ-discrete}
+use native.Mathlib.Nat.{div-add-mod', mod-lt, div-lt-iff-lt-mul}
+use mathlib.Core.Path.{_≡_, refl, sym, ap, ap₂, _∙_}
+use mathlib.Core.Bool.{Bool, true, false, cond, _&&_, _||_, false≢true, and-false}
+use mathlib.Core.Logic.{_⊎_, ⊎-elim, _↔_, by-cases}
+use mathlib.Core.List.{List, [], _∷_, _++_, map, List·Memᴰ}
+use borrow.Author.Tests.{lt-ltb, le-ltb, eq-eqb, ne-eqb}
+use lib.Arith.{digits-lt}
+use lib.Dec.{ltb, eqb}
+use lib.ListN.{length, getD, take, drop, replicate, length-replicate, length-map, List·getD-map, take-append-drop}
+use lib.Seq.{ext-getD, getD-take, length-take-le}
+use Rattle.temporal.specs.Lists.{any, below}
+use Rattle.temporal.specs.Plan.{Plan}
+use Rattle.temporal.specs.Shortest.{shortestWalks, shortestPaths, hops, count}
+use Rattle.temporal.specs.Bytes.{planOf}
+use Rattle.temporal.specs.Cause.{planFault, tooMany}
+use Rattle.temporal.specs.Outcome.{over, cleared, places, ReachTables, appearanceTable, stationTable}
+use Rattle.temporal.proofs.ListLaws.{any-true, mem-below, length-below, getD-below, length-zero}
+use Rattle.reach.specs.Table.{Table, overflows}
+use Rattle.reach.specs.Pass.{Tables, tables, lentTables, overflowing, emptied, stored, Holds, Beyond, Filled}
+use Rattle.reach.proofs.EntryLaws.{stored-small, stored-large}
+
+-- two tests that hold together are equal
+both-ways : (a b : Bool) → (a ≡ true → b ≡ true) → (b ≡ true → a ≡ true) → a ≡ b
+both-ways true b f g = sym (f refl)
+both-ways false true f g = g refl
+both-ways false false f g = refl
+
+-- a test over all places of n stations with width entries each
+pub any-places :
+    (f : ℕ → Bool) (n width : ℕ) → 0 < width →
+    any f (below (n * width)) ≡ any (λ v. any (λ u. f (v * width + u)) (below width)) (below n)
+any-places f n width some =
+    both-ways _ _
+    (λ e.
+    let (j, m, q) = any-true f (below (n * width)) .0 e in
+    let inside = mem-below (n * width) .0 m in
+    let whole : j / width * width + j % width ≡ j = div-add-mod' j width in
+    any-true _ (below n) .1 (
+      j / width,
+      mem-below n .1 (div-lt-iff-lt-mul some .1 inside),
+      any-true _ (below width) .1 (j % width, mem-below width .1 (mod-lt j some), rw whole q),
+    ))
+    (λ e.
+    let (v, m, q) = any-true _ (below n) .0 e in
+    let (u, k, r) = any-true _ (below width) .0 q in
+    any-true f (below (n * width)) .1
+    (v * width + u, mem-below (n * width) .1 (digits-lt (mem-below n .0 m) (mem-below width .0 k)), r))
+
+-- ---- an entry that overflows
+
+-- the hops of a list that is not empty stay below 65535
+abbrev pub Few : List (List ℕ) → Type 0
+Few l = (l ≡ []) ⊎ (hops l < 65535)
+
+-- the entry of the empty list does not
+empty-none : (ltb (hops []) 65535 && eqb (count []) 0) ≡ false
+unfolding hops
+empty-none = refl
+
+-- an entry of a list overflows exactly where the list is over 2^64 - 1 long
+pub overflows-exactly :
+    (x : Table) (j : ℕ) (l : List (List ℕ)) → Few l → Holds x j l → overflows x j ≡ ltb (2 ^ 64 - 1) (count l)
+unfolding overflows
+overflows-exactly x j l few h =
+    rw (h .hops-there, h .count-there)
+    (by-cases (decLt 18446744073709551615 (count l))
+    (λ over.
+    ⊎-elim
+    (λ empty. absurd (let none : count l ≡ 0 = ap length empty in omega arith))
+    (λ low.
+    rw (lt-ltb (hops l) 65535 low, stored-large (count l) over, lt-ltb 18446744073709551615 (count l) over))
+    few)
+    (λ fits.
+    rw (stored-small (count l) (omega arith), le-ltb 18446744073709551615 (count l) (omega arith))
+    (⊎-elim
+    (λ empty. rw empty empty-none)
+    (λ low. by-cases (ℕ-discrete (count l) 0)
+    (λ none. rw (length-zero l .0 none) empty-none)
+    (λ some. rw (ne-eqb (count l) 0 some) (and-false (ltb (hops l) 65535))))
+    few)))
+
+-- ---- tables
+
+-- a list whose first k entries are new, and whose others are the old ones
+pub over-by :
+    (k : ℕ) (l new old : List ℕ) → length new ≡ k → k ≤ length l →
+    ((i : ℕ) → i < k → getD l i 0 ≡ getD new i 0) → drop k l ≡ drop k old → l ≡ over new old
+unfolding over
+over-by k l new old size fits same rest =
+    sym (take-append-drop k l) ∙
+    ap₂ _++_
+    (ext-getD 0 (take k l) new (length-take-le k l fits ∙ sym size)
+    (λ i h.
+    let inside : i < k = rw (length-take-le k l fits) at h in
+    getD-take k l i 0 inside ∙ same i inside))
+    (rest ∙ ap (λ j. drop j old) (sym size))
+
+-- a fill over lists that agree beyond it
+pub fill-beyond : (k x : ℕ) (a b : List ℕ) → drop k a ≡ drop k b → over (replicate k x) a ≡ over (replicate k x) b
+unfolding over
+fill-beyond k x a b e =
+    ap (λ l. replicate k x ++ l)
+    (ap (λ j. drop j a) (length-replicate k x) ∙ e ∙ ap (λ j. drop j b) (sym (length-replicate k x)))
+
+-- within a list the default does not count
+getD-any : (l : List ℕ) (i d e : ℕ) → i < length l → getD l i d ≡ getD l i e
+getD-any [] i d e h = absurd (omega arith)
+getD-any (x ∷ l) zero d e h = refl
+getD-any (x ∷ l) (suc i) d e h = getD-any l i d e (omega arith)
+
+-- the entries of a table that is made place by place
+pub getD-made : (f : ℕ → ℕ) (k i : ℕ) → i < k → getD (map f (below k)) i 0 ≡ f i
+getD-made f k i h =
+    getD-any (map f (below k)) i 0 (f 0) (rw (length-map (below k) f, length-below k) h) ∙
+    List·getD-map f (below k) i 0 ∙ ap f (getD-below k i 0 h)
+
+pub length-made : (f : ℕ → ℕ) (k : ℕ) → length (map f (below k)) ≡ k
+length-made f k = length-map (below k) f ∙ length-below k

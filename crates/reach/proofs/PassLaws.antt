@@ -1,0 +1,83 @@
+-- What a turn of the pass, its begin and its end leave, from what the functions that they call leave. Assumes nothing.
+use Prim.Native.Nat.{ℕ, _+_, _-_, _*_, _<_, _≤_}
+use native.Mathlib.Omega.{arith}
+use mathlib.Core.Path.{_≡_, refl, sym, ap, _∙_}
+use mathlib.Core.Bool.{Bool, true, false, _||_, and-eq-true-iff}
+use mathlib.Core.List.{List}
+use borrow.Author.Tests.{ltb-true, eqb-true}
+use lib.ListN.{length, set, replicate}
+use Rattle.temporal.specs.Bytes.{contactAt, records}
+use Rattle.temporal.specs.Lists.{any, below}
+use Rattle.temporal.specs.Outcome.{over}
+use Rattle.temporal.proofs.Accepted.{accepted}
+use Rattle.reach.specs.Table.{Table, table, folded, settledFrom, overflows, Fits, Foldable}
+use Rattle.reach.specs.Pass.{Tables, tables, begun, emptied, overflowing, inSlot, turned, Turnable}
+
+-- a record of the slot is there
+pub in-slot-inv : (bs : List ℕ) (j u : ℕ) → inSlot bs j u ≡ true → (j < records bs) × (contactAt bs j .slot ≡ u)
+unfolding inSlot
+in-slot-inv bs j u e =
+    let (there, slot) = and-eq-true-iff _ _ .0 e in
+    (ltb-true _ _ there, eqb-true _ _ slot)
+
+module _ (bs : List ℕ) (n width u j : ℕ) (x : Tables) where
+  -- a record of an accepted plan can be folded in
+  pub foldable : Turnable bs n width u x → inSlot bs j u ≡ true → Foldable bs n width j (x .appearances) (x .stations)
+  foldable r e =
+      let (there, slot) = in-slot-inv bs j u e in
+      let a = accepted bs n (width - 1) (r .accepted) in
+      let c = a .contact j there in
+      let whole = a .whole in
+      let ends = c .ends in
+      let station = c .station in
+      let last = c .to-last in
+      let some = r .some-width in
+      record {
+        inside = omega arith;
+        a-station = omega arith;
+        b-station = c .station;
+        slot = omega arith;
+        fits = r .fits;
+      }
+
+  -- a turn that folds
+  pub turn-folds :
+      (a : Table) → inSlot bs j u ≡ true → a ≡ folded width (x .appearances) (x .stations) (contactAt bs j) →
+      _≡_ {A = Tables} (record { appearances = a; stations = x .stations }) (turned bs n width u j x)
+  unfolding turned
+  turn-folds a e h = rw e (ap (λ z. record { appearances = z; stations = x .stations }) h)
+
+  -- a turn that settles
+  pub turn-settles :
+      (s : Table) → inSlot bs j u ≡ false → s ≡ settledFrom width u (x .appearances) (x .stations) 0 n →
+      _≡_ {A = Tables} (record { appearances = x .appearances; stations = s }) (turned bs n width u j x)
+  unfolding turned
+  turn-settles s e h = rw e (ap (λ z. record { appearances = x .appearances; stations = z }) h)
+
+module _ (n width : ℕ) (x : Tables) (h c sh sc : List ℕ) where
+  pub begun-by :
+      (s : ℕ) → h ≡ over (replicate (n * width) 65535) (x .appearances .hops) →
+      c ≡ over (replicate (n * width) 0) (x .appearances .counts) →
+      sh ≡ over (replicate n 65535) (x .stations .hops) → sc ≡ over (replicate n 0) (x .stations .counts) →
+      tables (set h (s * width) 0) (set c (s * width) 1) sh sc ≡ begun n width s x
+  unfolding begun
+  begun-by s e f g k = cc
+
+  pub emptied-by :
+      h ≡ over (replicate (n * width) 0) (x .appearances .hops) →
+      c ≡ over (replicate (n * width) 0) (x .appearances .counts) →
+      sh ≡ over (replicate n 0) (x .stations .hops) → sc ≡ over (replicate n 0) (x .stations .counts) →
+      tables h c sh sc ≡ emptied n width x
+  unfolding emptied
+  emptied-by e f g k = cc
+
+module _ (n width : ℕ) (x : Tables) where
+  pub overflowing-appearance : any (overflows (x .appearances)) (below (n * width)) ≡ true → overflowing n width x ≡ true
+  unfolding overflowing
+  overflowing-appearance e = rw e
+
+  pub overflowing-station :
+      any (overflows (x .appearances)) (below (n * width)) ≡ false →
+      overflowing n width x ≡ any (overflows (x .stations)) (below n)
+  unfolding overflowing
+  overflowing-station e = rw e

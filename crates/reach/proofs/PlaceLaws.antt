@@ -1,0 +1,85 @@
+-- Places of a table with width entries a station: they lie within the lists that it fits. Assumes nothing.
+use Prim.Native.Nat.{ℕ, suc, _+_, _-_, _*_, _<_, _≤_}
+use native.Mathlib.Omega.{arith}
+use mathlib.Core.Path.{_≡_, sym, ap, subst, _∙_}
+use mathlib.Core.List.{List}
+use native.Mathlib.Nat.{mul-le-mul, mul-le-mul-right, suc-mul}
+use lib.Arith.{digits-lt}
+use lib.ListN.{length}
+use Rattle.temporal.specs.Bytes.{contactAt}
+use Rattle.temporal.specs.Cause.{planFault}
+use Rattle.temporal.proofs.Accepted.{accepted}
+use Rattle.plan.specs.declared.Contact.{Contact}
+use Rattle.plan.specs.Record.{contactOf}
+use Rattle.reach.specs.Table.{Table, sent, folded, Places, Fits, Foldable}
+
+-- an entry of n stations lies within a list that has room for them
+pub place-below : (v u n width size : ℕ) → v < n → u < width → n * width ≤ size → v * width + u < size
+place-below v u n width size h k fits = let spot = digits-lt h k in omega arith
+
+-- a place of an appearance and a station lie within tables that fit
+pub places :
+    (n width : ℕ) (x y : Table) → Fits n width x y → (v u w : ℕ) → v < n → u < width → w < n → Places x y (v * width + u) w
+places n width x y f v u w h k g =
+    record {
+      to-hops = place-below v u n width _ h k (f .hops);
+      to-counts = place-below v u n width _ h k (f .counts);
+      from-hops = let fits = f .station-hops in omega arith;
+      from-counts = let fits = f .station-counts in omega arith;
+    }
+
+-- tables of the same lengths fit too
+pub fits-kept :
+    (n width : ℕ) (x y x′ y′ : Table) → Fits n width x y →
+    length (x′ .hops) ≡ length (x .hops) → length (x′ .counts) ≡ length (x .counts) →
+    length (y′ .hops) ≡ length (y .hops) → length (y′ .counts) ≡ length (y .counts) → Fits n width x′ y′
+fits-kept n width x y x′ y′ f h c sh sc =
+    record {
+      hops = let g = f .hops in omega arith;
+      counts = let g = f .counts in omega arith;
+      station-hops = let g = f .station-hops in omega arith;
+      station-counts = let g = f .station-counts in omega arith;
+    }
+
+-- the record that was read lies within the tables
+pub record Within (n width : ℕ) (r : Contact) : Type 0 where
+  pub a : r .a < n
+  pub b : r .b < n
+  pub slot : r .slot < width
+
+pub read-within :
+    (bs : List ℕ) (n width j : ℕ) (x y : Table) (r : Contact) → Foldable bs n width j x y →
+    contactOf r ≡ contactAt bs j → Within n width r
+read-within bs n width j x y r f e =
+    record {
+      a = subst (λ c. c .a < n) (sym e) (f .a-station);
+      b = subst (λ c. c .b < n) (sym e) (f .b-station);
+      slot = subst (λ c. c .slot < width) (sym e) (f .slot);
+    }
+
+-- two sends over the record that was read fold it in
+pub folded-twice :
+    (bs : List ℕ) (width j : ℕ) (x first second y : Table) (r : Contact) → contactOf r ≡ contactAt bs j →
+    first ≡ sent x y (r .a) (r .b * width + r .slot) → second ≡ sent first y (r .b) (r .a * width + r .slot) →
+    second ≡ folded width x y (contactAt bs j)
+unfolding folded
+folded-twice bs width j x first second y r e one two =
+    two ∙ ap (λ z. sent z y (r .b) (r .a * width + r .slot)) one ∙ ap (folded width x y) e
+
+-- the places within the limits are few
+pub limited-places : (n t : ℕ) → n ≤ 256 → t ≤ 255 → n * (t + 1) ≤ 65536
+limited-places n t stations slots = mul-le-mul {n₂ = 256} {m₂ = 256} stations (omega arith)
+
+pub few-places : (bs : List ℕ) (n t : ℕ) → planFault bs n t ≡ 0 → n * (t + 1) ≤ 65536
+few-places bs n t ok = limited-places n t (accepted bs n t ok .stations) (accepted bs n t ok .slots)
+
+-- a station's entries end within the table
+pub row-end : (v n width size : ℕ) → v < n → n * width ≤ size → v * width + width ≤ size
+row-end v n width size h fits =
+    let next : suc v * width ≤ n * width = mul-le-mul-right width h in
+    let one-more = suc-mul v width in
+    omega arith
+
+-- the length of a part from a start to an end
+pub between : (a k : ℕ) → k ≡ (a + k) - a
+between a k = omega arith

@@ -1,0 +1,106 @@
+-- Tables as a whole: places apart, what merging, sending and settling leave at each place and beyond the named part.
+-- Assumes nothing.
+use Prim.Native.Nat.{ℕ, zero, suc, _+_, _*_, _/_, _%_, _<_, _≤_}
+use native.Mathlib.Omega.{arith}
+use native.Mathlib.Decide.{decLt, ℕ-discrete}
+use mathlib.Core.Path.{_≡_, refl, sym, ap, _∙_}
+use mathlib.Core.Logic.{_≢_, by-cases}
+use mathlib.Core.List.{List}
+use lib.Arith.{digits-div, digits-mod}
+use lib.ListN.{length, getD, set, drop, length-set}
+use lib.Seq.{drop-set-lt}
+use Rattle.counting.proofs.Fewest.{plus}
+use Rattle.reach.specs.Table.{Table, merged, sent, folded, settledFrom}
+use Rattle.reach.specs.Pass.{Beyond}
+use Rattle.reach.proofs.MergeLaws.{sent-some, sent-none, merged-hops-length, merged-counts-length}
+use Rattle.reach.proofs.EntryLaws.{Entry, EntryAt, entry-merged, merged-other-hops, merged-other-counts}
+
+-- ---- places
+
+pub slots-apart : (v r w u width : ℕ) → r < width → u < width → r ≢ u → v * width + r ≢ w * width + u
+slots-apart v r w u width h k ne e = ne (sym (digits-mod v h) ∙ ap (λ i. i % width) e ∙ digits-mod w k)
+
+pub stations-apart : (v r w u width : ℕ) → r < width → u < width → v ≢ w → v * width + r ≢ w * width + u
+stations-apart v r w u width h k ne e = ne (sym (digits-div v h) ∙ ap (λ i. i / width) e ∙ digits-div w k)
+
+-- an entry that is as it was
+pub entry-kept :
+    {N : ℕ → ℕ} (x y : Table) (i : ℕ) → getD (y .hops) i 0 ≡ getD (x .hops) i 0 → getD (y .counts) i 0 ≡ getD (x .counts) i 0 →
+    EntryAt N x i → EntryAt N y i
+entry-kept x y i h c e = rw (h, c) e
+
+-- ---- beyond the named part
+
+pub beyond-refl : (k : ℕ) (x : Table) → Beyond k x x
+beyond-refl k x = record { hops = refl; counts = refl; hops-length = refl; counts-length = refl }
+
+pub beyond-then : (k : ℕ) (x y z : Table) → Beyond k x y → Beyond k y z → Beyond k x z
+beyond-then k x y z b c =
+    record {
+      hops = c .hops ∙ b .hops;
+      counts = c .counts ∙ b .counts;
+      hops-length = c .hops-length ∙ b .hops-length;
+      counts-length = c .counts-length ∙ b .counts-length;
+    }
+
+pub beyond-merged : (k : ℕ) (x y : Table) (at l d : ℕ) → at < k → Beyond k x y → Beyond k x (merged y at l d)
+unfolding merged
+beyond-merged k x y at l d h b =
+    record {
+      hops = drop-set-lt k (y .hops) at _ h ∙ b .hops;
+      counts = drop-set-lt k (y .counts) at _ h ∙ b .counts;
+      hops-length = length-set (y .hops) at _ ∙ b .hops-length;
+      counts-length = length-set (y .counts) at _ ∙ b .counts-length;
+    }
+
+pub beyond-sent : (k : ℕ) (x y z : Table) (v at : ℕ) → at < k → Beyond k x y → Beyond k x (sent y z v at)
+beyond-sent k x y z v at h b =
+    by-cases (decLt (getD (z .hops) v 0) 65535)
+    (λ some. rw (sent-some y z v at some) (beyond-merged k x y at _ _ h b))
+    (λ none. rw (sent-none y z v at (omega arith)) b)
+
+-- ---- settling
+
+module _ (width u : ℕ) (x : Table) where
+  -- a station before those that are settled is as it was
+  settled-before-hops :
+      (y : Table) (v k w : ℕ) → w < v → getD (settledFrom width u x y v k .hops) w 0 ≡ getD (y .hops) w 0
+  unfolding settledFrom
+  settled-before-hops y v zero w h = refl
+  settled-before-hops y v (suc k) w h =
+      settled-before-hops _ (v + 1) k w (omega arith) ∙ merged-other-hops y v _ _ w (λ e. omega arith)
+
+  settled-before-counts :
+      (y : Table) (v k w : ℕ) → w < v → getD (settledFrom width u x y v k .counts) w 0 ≡ getD (y .counts) w 0
+  unfolding settledFrom
+  settled-before-counts y v zero w h = refl
+  settled-before-counts y v (suc k) w h =
+      settled-before-counts _ (v + 1) k w (omega arith) ∙ merged-other-counts y v _ _ w (λ e. omega arith)
+
+  -- a station that is settled holds the sum with its appearance of the slot
+  pub entry-settled :
+      (N M : ℕ → ℕ) (y : Table) (v k w : ℕ) → v ≤ w → w < v + k → v + k ≤ length (y .hops) → v + k ≤ length (y .counts) →
+      EntryAt N y w → EntryAt M x (w * width + u) → EntryAt (plus N M) (settledFrom width u x y v k) w
+  unfolding settledFrom
+  entry-settled N M y v zero w low high h c e f = absurd (omega arith)
+  entry-settled N M y v (suc k) w low high h c e f =
+      by-cases (ℕ-discrete w v)
+      (λ same.
+      let next = merged y v (getD (x .hops) (v * width + u) 0) (getD (x .counts) (v * width + u) 0) in
+      entry-kept next (settledFrom width u x next (v + 1) k) w
+      (settled-before-hops next (v + 1) k w (omega arith)) (settled-before-counts next (v + 1) k w (omega arith))
+      (rw same
+      (entry-merged y v _ _ N M (omega arith) (omega arith) (rw same at e) (rw same at f))))
+      (λ other.
+      let next = merged y v (getD (x .hops) (v * width + u) 0) (getD (x .counts) (v * width + u) 0) in
+      let hl = merged-hops-length y v (getD (x .hops) (v * width + u) 0) (getD (x .counts) (v * width + u) 0) in
+      let cl = merged-counts-length y v (getD (x .hops) (v * width + u) 0) (getD (x .counts) (v * width + u) 0) in
+      entry-settled N M next (v + 1) k w (omega arith) (omega arith) (omega arith) (omega arith)
+      (entry-kept y next w (merged-other-hops y v _ _ w other) (merged-other-counts y v _ _ w other) e) f)
+
+  pub beyond-settled :
+      (m : ℕ) (z y : Table) (v k : ℕ) → v + k ≤ m → Beyond m z y → Beyond m z (settledFrom width u x y v k)
+  unfolding settledFrom
+  beyond-settled m z y v zero h b = b
+  beyond-settled m z y v (suc k) h b =
+      beyond-settled m z _ (v + 1) k (omega arith) (beyond-merged m z y v _ _ (omega arith) b)

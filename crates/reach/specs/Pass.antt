@@ -1,0 +1,95 @@
+-- The pass over a plan's records: what a turn of its loop leaves, and what the tables hold at its end. Definitions only.
+-- Assumes nothing.
+use Prim.Native.Nat.{ℕ, _+_, _*_, _^_, _-_, _<_, _≤_}
+use mathlib.Core.Path.{_≡_}
+use mathlib.Core.Bool.{Bool, cond, _&&_, _||_}
+use mathlib.Core.List.{List}
+use lib.Dec.{ltb, eqb}
+use lib.ListN.{length, getD, set, drop, replicate}
+use Rattle.temporal.specs.Lists.{any, below}
+use Rattle.temporal.specs.Bytes.{contactAt, records, planOf}
+use Rattle.temporal.specs.Cause.{planFault}
+use Rattle.temporal.specs.Shortest.{shortestWalks, shortestPaths, hops, count}
+use Rattle.temporal.specs.Outcome.{ReachTables, over}
+use Rattle.reach.specs.Table.{Table, table, folded, settledFrom, overflows, Fits}
+
+-- the appearances' table and the stations' table
+pub record Tables : Type 0 where
+  pub appearances : Table
+  pub stations : Table
+
+abbrev pub tables : List ℕ → List ℕ → List ℕ → List ℕ → Tables
+tables h c sh sc = record { appearances = table h c; stations = table sh sc }
+
+-- the same four lists as document 01's tables of reach
+abbrev pub lentTables : List ℕ → List ℕ → List ℕ → List ℕ → ReachTables
+lentTables h c sh sc = record { hopsTable = h; countTable = c; stationHops = sh; stationCounts = sc }
+
+-- no walks anywhere but the empty one, which ends at the source in slot 0
+unfoldable pub begun : ℕ → ℕ → ℕ → Tables → Tables
+begun n width s x =
+    tables
+    (set (over (replicate (n * width) 65535) (x .appearances .hops)) (s * width) 0)
+    (set (over (replicate (n * width) 0) (x .appearances .counts)) (s * width) 1)
+    (over (replicate n 65535) (x .stations .hops))
+    (over (replicate n 0) (x .stations .counts))
+
+-- the named parts are 0
+unfoldable pub emptied : ℕ → ℕ → Tables → Tables
+emptied n width x =
+    tables
+    (over (replicate (n * width) 0) (x .appearances .hops)) (over (replicate (n * width) 0) (x .appearances .counts))
+    (over (replicate n 0) (x .stations .hops)) (over (replicate n 0) (x .stations .counts))
+
+-- whether some entry of the named parts has a count over 2^64 - 1
+unfoldable pub overflowing : ℕ → ℕ → Tables → Bool
+overflowing n width x =
+    any (overflows (x .appearances)) (below (n * width)) || any (overflows (x .stations)) (below n)
+
+-- whether there is a record at j and it lies in slot u
+unfoldable pub inSlot : List ℕ → ℕ → ℕ → Bool
+inSlot bs j u = ltb j (records bs) && eqb (contactAt bs j .slot) u
+
+-- one turn: a record of slot u is folded in, or, where there is none left, the slot is settled
+unfoldable pub turned : List ℕ → ℕ → ℕ → ℕ → ℕ → Tables → Tables
+turned bs n width u j x =
+    cond (inSlot bs j u)
+    (record { appearances = folded width (x .appearances) (x .stations) (contactAt bs j); stations = x .stations })
+    (record { appearances = x .appearances; stations = settledFrom width u (x .appearances) (x .stations) 0 n })
+
+-- a count as an entry holds it: 0 where it is over 2^64 - 1
+unfoldable pub stored : ℕ → ℕ
+stored c = cond (ltb 18446744073709551615 c) 0 c
+
+-- the entries at j are the hops and the count of the list l
+pub record Holds (x : Table) (j : ℕ) (l : List (List ℕ)) : Type 0 where
+  pub hops-there : getD (x .hops) j 0 ≡ hops l
+  pub count-there : getD (x .counts) j 0 ≡ stored (count l)
+
+-- the lists of y beyond the first k entries are those of x
+pub record Beyond (k : ℕ) (x y : Table) : Type 0 where
+  pub hops : drop k (y .hops) ≡ drop k (x .hops)
+  pub counts : drop k (y .counts) ≡ drop k (x .counts)
+  pub hops-length : length (y .hops) ≡ length (x .hops)
+  pub counts-length : length (y .counts) ≡ length (x .counts)
+
+-- every entry is filled from the source, and nothing past the named parts is touched
+pub record Filled (bs : List ℕ) (n t s : ℕ) (old new : Tables) : Type 0 where
+  pub appearance :
+      (v u : ℕ) → v < n → u < t + 1 → Holds (new .appearances) (v * (t + 1) + u) (shortestWalks (planOf bs n t) s v u)
+  pub station : (v : ℕ) → v < n → Holds (new .stations) v (shortestPaths (planOf bs n t) s v)
+  pub appearances-beyond : Beyond (n * (t + 1)) (old .appearances) (new .appearances)
+  pub stations-beyond : Beyond n (old .stations) (new .stations)
+
+-- what the pass asks: an accepted plan, a source in it, and tables that fit
+pub record Ready (bs : List ℕ) (n t s : ℕ) (x : Tables) : Type 0 where
+  pub accepted : planFault bs n t ≡ 0
+  pub source : s < n
+  pub fits : Fits n (t + 1) (x .appearances) (x .stations)
+
+-- what a turn asks: an accepted plan with its stations and slots, and tables that fit
+pub record Turnable (bs : List ℕ) (n width u : ℕ) (x : Tables) : Type 0 where
+  pub accepted : planFault bs n (width - 1) ≡ 0
+  pub some-width : 0 < width
+  pub slot : u < width
+  pub fits : Fits n width (x .appearances) (x .stations)

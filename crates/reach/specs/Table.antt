@@ -1,0 +1,76 @@
+-- Tables of hops and counts as the code holds them, and what the inner functions leave in them. 65535 hops stand for no
+-- walk. A count of 0 beside fewer hops stands for one over 2^64 - 1. Definitions only.
+-- Assumes nothing.
+use Prim.Native.Nat.{ℕ, zero, suc, _+_, _-_, _*_, _<_, _≤_, min}
+use mathlib.Core.Bool.{Bool, cond, _&&_, _||_}
+use mathlib.Core.List.{List}
+use lib.Dec.{ltb, eqb}
+use lib.ListN.{length, getD, set}
+use Rattle.temporal.specs.Plan.{Contact}
+use Rattle.temporal.specs.Bytes.{contactAt}
+
+-- hops and counts, place by place
+pub record Table : Type 0 where
+  pub hops : List ℕ
+  pub counts : List ℕ
+
+abbrev pub table : List ℕ → List ℕ → Table
+table h c = record { hops = h; counts = c }
+
+-- the sum of two counts; one over 2^64 - 1 stays so
+unfoldable pub addCounts : ℕ → ℕ → ℕ
+addCounts a b = cond (eqb a 0 || eqb b 0) 0 (cond (ltb (18446744073709551615 - a) b) 0 (a + b))
+
+-- the count beside the fewer of two hops; both counts where the hops are equal
+unfoldable pub mergedCount : ℕ → ℕ → ℕ → ℕ → ℕ
+mergedCount h c l d = cond (ltb l h) d (cond (eqb l h) (addCounts c d) c)
+
+-- d walks of l hops are taken into the entry at a place
+unfoldable pub merged : Table → ℕ → ℕ → ℕ → Table
+merged x at l d =
+    table
+    (set (x .hops) at (min (getD (x .hops) at 0) l))
+    (set (x .counts) at (mergedCount (getD (x .hops) at 0) (getD (x .counts) at 0) l d))
+
+-- what y has at v goes on over one hop more, to the entry of x at a place
+unfoldable pub sent : Table → Table → ℕ → ℕ → Table
+sent x y v at =
+    cond (ltb (getD (y .hops) v 0) 65535) (merged x at (getD (y .hops) v 0 + 1) (getD (y .counts) v 0)) x
+
+-- both ways over a contact: from stations' entries to the appearances of its slot, width entries a station
+unfoldable pub folded : ℕ → Table → Table → Contact → Table
+folded width x y c =
+    sent (sent x y (c .a) (c .b * width + c .slot)) y (c .b) (c .a * width + c .slot)
+
+-- the appearances of slot u are taken into the stations' entries, for k stations from v on
+unfoldable pub settledFrom : ℕ → ℕ → Table → Table → ℕ → ℕ → Table
+settledFrom width u x y v zero = y
+settledFrom width u x y v (suc k) =
+    settledFrom width u x
+    (merged y v (getD (x .hops) (v * width + u) 0) (getD (x .counts) (v * width + u) 0)) (v + 1) k
+
+-- whether the entry at j has a count over 2^64 - 1
+unfoldable pub overflows : Table → ℕ → Bool
+overflows x j = ltb (getD (x .hops) j 0) 65535 && eqb (getD (x .counts) j 0) 0
+
+-- a place of one table and a place of another lie within them
+pub record Places (x y : Table) (at v : ℕ) : Type 0 where
+  pub to-hops : at < length (x .hops)
+  pub to-counts : at < length (x .counts)
+  pub from-hops : v < length (y .hops)
+  pub from-counts : v < length (y .counts)
+
+-- a table of n stations with width entries each, and one of n stations, fit their lists
+pub record Fits (n width : ℕ) (x y : Table) : Type 0 where
+  pub hops : n * width ≤ length (x .hops)
+  pub counts : n * width ≤ length (x .counts)
+  pub station-hops : n ≤ length (y .hops)
+  pub station-counts : n ≤ length (y .counts)
+
+-- the record at j can be folded in: it is there, its stations and its slot lie within the tables
+pub record Foldable (bs : List ℕ) (n width j : ℕ) (x y : Table) : Type 0 where
+  pub inside : j * 6 + 5 < length bs
+  pub a-station : contactAt bs j .a < n
+  pub b-station : contactAt bs j .b < n
+  pub slot : contactAt bs j .slot < width
+  pub fits : Fits n width x y

@@ -1,0 +1,2 @@
+-- division with a rest, and doubling
+mod DivisionLaws

@@ -1,0 +1,2 @@
+-- What dividing leaves. Definitions only.
+pub mod Division

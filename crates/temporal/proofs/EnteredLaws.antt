@@ -1,0 +1,57 @@
+-- How an operation begins: the first cause of its list decides. Assumes nothing.
+use Prim.Native.Nat.{ℕ, zero, suc, _<_}
+use native.Mathlib.Omega.{arith}
+use mathlib.Core.Path.{_≡_, refl, sym, ap, _∙_}
+use mathlib.Core.Bool.{Bool, true, false}
+use mathlib.Core.List.{List, [], _∷_, _++_}
+use Rattle.temporal.specs.Cause.{cause, first, unless, planCauses, planFault}
+use Rattle.temporal.specs.Outcome.{Outcome, entered}
+use Rattle.temporal.proofs.CauseLaws.{first-true, first-false, first-append-none, first-append-some}
+
+-- at a number that is not 0 there is the refusal, at 0 the work
+pub unless-some : {A : Type 0} (k : ℕ) (refusal : ℕ → A) (work : A) → 0 < k → unless k refusal work ≡ refusal k
+unfolding unless
+unless-some zero refusal work h = absurd (omega arith)
+unless-some (suc k) refusal work h = refl
+
+pub unless-none : {A : Type 0} (k : ℕ) (refusal : ℕ → A) (work : A) → k ≡ 0 → unless k refusal work ≡ work
+unfolding unless
+unless-none k refusal work e = rw e
+
+module _ {Values Buffers : Type 0} (zeros : Values) (old : Buffers) (work : Outcome Values Buffers) where
+  -- refused with a number, all lent memory as it was
+  abbrev pub refusedWith : ℕ → Outcome Values Buffers
+  refusedWith k = record { number = k; values = zeros; buffers = old }
+
+  -- a plan that is refused
+  pub entered-plan :
+      (bs : List ℕ) (n t : ℕ) (l : List ℕ) → 0 < planFault bs n t →
+      entered (planCauses bs n t ++ l) zeros old work ≡ refusedWith (planFault bs n t)
+  unfolding entered planFault
+  entered-plan bs n t l h =
+      let decides = first-append-some (planCauses bs n t) l h in
+      rw decides (unless-some (first (planCauses bs n t)) refusedWith work h)
+
+  -- a plan that is accepted leaves the call's causes
+  pub entered-call :
+      (bs : List ℕ) (n t : ℕ) (l : List ℕ) → planFault bs n t ≡ 0 →
+      entered (planCauses bs n t ++ l) zeros old work ≡ entered l zeros old work
+  unfolding entered planFault
+  entered-call bs n t l e = rw (first-append-none (planCauses bs n t) l e)
+
+  -- a cause that holds is the number
+  pub entered-cause :
+      (k : ℕ) (b : Bool) (l : List ℕ) → b ≡ true → entered (cause (suc k) b ∷ l) zeros old work ≡ refusedWith (suc k)
+  unfolding entered unless
+  entered-cause k b l e = rw (first-true k b l e)
+
+  -- one that does not is passed over
+  pub entered-pass :
+      (k : ℕ) (b : Bool) (l : List ℕ) → b ≡ false → entered (cause k b ∷ l) zeros old work ≡ entered l zeros old work
+  unfolding entered
+  entered-pass k b l e = rw (first-false k b l e)
+
+  -- without a cause the work is done
+  pub entered-work : entered [] zeros old work ≡ work
+  unfolding entered unless first
+  entered-work = refl
