@@ -13,3 +13,4 @@ mod TurnLaws
 mod OutcomeLaws
 mod ReachedLaws
 mod CallLaws
+pub mod Demand2

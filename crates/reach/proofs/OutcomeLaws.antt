@@ -1,27 +1,21 @@
--- Filled tables as document 01 has them: cause 9 is an overflowing entry, and without one the tables are those of the
--- definition. Assumes nothing.
-use Prim.Native.Nat.{ℕ, zero, suc, _+_, _-_, _*_, _/_, _%_, _^_, _<_, _≤_}
+-- An entry that overflows, and a test over all places of a table. Assumes nothing.
+use Prim.Native.Nat.{ℕ, _+_, _-_, _*_, _/_, _%_, _^_, _<_}
 use native.Mathlib.Omega.{arith}
 use native.Mathlib.Decide.{decLt, ℕ-discrete}
 use native.Mathlib.Nat.{div-add-mod', mod-lt, div-lt-iff-lt-mul}
-use mathlib.Core.Path.{_≡_, refl, sym, ap, ap₂, _∙_}
-use mathlib.Core.Bool.{Bool, true, false, cond, _&&_, _||_, false≢true, and-false}
-use mathlib.Core.Logic.{_⊎_, ⊎-elim, _↔_, by-cases}
-use mathlib.Core.List.{List, [], _∷_, _++_, map, List·Memᴰ}
-use borrow.Author.Tests.{lt-ltb, le-ltb, eq-eqb, ne-eqb}
+use mathlib.Core.Path.{_≡_, refl, sym, ap}
+use mathlib.Core.Bool.{Bool, true, false, _&&_, and-false}
+use mathlib.Core.Logic.{_⊎_, ⊎-elim, by-cases}
+use mathlib.Core.List.{List, []}
+use borrow.Author.Tests.{lt-ltb, le-ltb, ne-eqb}
 use lib.Arith.{digits-lt}
 use lib.Dec.{ltb, eqb}
-use lib.ListN.{length, getD, take, drop, replicate, length-replicate, length-map, List·getD-map, take-append-drop}
-use lib.Seq.{ext-getD, getD-take, length-take-le}
+use lib.ListN.{length}
 use Rattle.temporal.specs.Lists.{any, below}
-use Rattle.temporal.specs.Plan.{Plan}
-use Rattle.temporal.specs.Shortest.{shortestWalks, shortestPaths, hops, count}
-use Rattle.temporal.specs.Bytes.{planOf}
-use Rattle.temporal.specs.Cause.{planFault, tooMany}
-use Rattle.temporal.specs.Outcome.{over, cleared, places, ReachTables, appearanceTable, stationTable}
-use Rattle.temporal.proofs.ListLaws.{any-true, mem-below, length-below, getD-below, length-zero}
+use Rattle.temporal.specs.Shortest.{hops, count}
+use Rattle.temporal.proofs.ListLaws.{any-true, mem-below, length-zero}
 use Rattle.reach.specs.Table.{Table, overflows}
-use Rattle.reach.specs.Pass.{Tables, tables, lentTables, overflowing, emptied, stored, Holds, Beyond, Filled}
+use Rattle.reach.specs.Pass.{Holds}
 use Rattle.reach.proofs.EntryLaws.{stored-small, stored-large}
 
 -- two tests that hold together are equal
@@ -83,41 +77,3 @@ overflows-exactly x j l few h =
     (λ none. rw (length-zero l .0 none) empty-none)
     (λ some. rw (ne-eqb (count l) 0 some) (and-false (ltb (hops l) 65535))))
     few)))
-
--- ---- tables
-
--- a list whose first k entries are new, and whose others are the old ones
-pub over-by :
-    (k : ℕ) (l new old : List ℕ) → length new ≡ k → k ≤ length l →
-    ((i : ℕ) → i < k → getD l i 0 ≡ getD new i 0) → drop k l ≡ drop k old → l ≡ over new old
-unfolding over
-over-by k l new old size fits same rest =
-    sym (take-append-drop k l) ∙
-    ap₂ _++_
-    (ext-getD 0 (take k l) new (length-take-le k l fits ∙ sym size)
-    (λ i h.
-    let inside : i < k = rw (length-take-le k l fits) at h in
-    getD-take k l i 0 inside ∙ same i inside))
-    (rest ∙ ap (λ j. drop j old) (sym size))
-
--- a fill over lists that agree beyond it
-pub fill-beyond : (k x : ℕ) (a b : List ℕ) → drop k a ≡ drop k b → over (replicate k x) a ≡ over (replicate k x) b
-unfolding over
-fill-beyond k x a b e =
-    ap (λ l. replicate k x ++ l)
-    (ap (λ j. drop j a) (length-replicate k x) ∙ e ∙ ap (λ j. drop j b) (sym (length-replicate k x)))
-
--- within a list the default does not count
-getD-any : (l : List ℕ) (i d e : ℕ) → i < length l → getD l i d ≡ getD l i e
-getD-any [] i d e h = absurd (omega arith)
-getD-any (x ∷ l) zero d e h = refl
-getD-any (x ∷ l) (suc i) d e h = getD-any l i d e (omega arith)
-
--- the entries of a table that is made place by place
-pub getD-made : (f : ℕ → ℕ) (k i : ℕ) → i < k → getD (map f (below k)) i 0 ≡ f i
-getD-made f k i h =
-    getD-any (map f (below k)) i 0 (f 0) (rw (length-map (below k) f, length-below k) h) ∙
-    List·getD-map f (below k) i 0 ∙ ap f (getD-below k i 0 h)
-
-pub length-made : (f : ℕ → ℕ) (k : ℕ) → length (map f (below k)) ≡ k
-length-made f k = length-map (below k) f ∙ length-below k

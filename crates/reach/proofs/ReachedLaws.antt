@@ -34,15 +34,8 @@ use Rattle.temporal.proofs.ShortestLaws.{hops-bound}
 use Rattle.reach.specs.Table.{Table, overflows, Fits}
 use Rattle.reach.specs.Pass.{Tables, lentTables, overflowing, emptied, stored, Holds, Filled}
 use Rattle.reach.proofs.EntryLaws.{stored-small}
-use Rattle.reach.proofs.OutcomeLaws.{
-  Few,
-  any-places,
-  overflows-exactly,
-  over-by,
-  fill-beyond,
-  getD-made,
-  length-made,
-}
+use Rattle.temporal.proofs.BufferLaws.{over-by, fill-beyond, getD-made, length-made}
+use Rattle.reach.proofs.OutcomeLaws.{Few, any-places, overflows-exactly}
 
 -- the four lists as document 01's tables
 abbrev pub lentOf : Tables → ReachTables

@@ -55,3 +55,17 @@ module _ {Values Buffers : Type 0} (zeros : Values) (old : Buffers) (work : Outc
   pub entered-work : entered [] zeros old work ≡ work
   unfolding entered unless first
   entered-work = refl
+
+-- a number that is 0 came from no cause
+pub no-cause :
+    {Values Buffers : Type 0} (causes : List ℕ) (zeros v : Values) (old b : Buffers) (work : Outcome Values Buffers) →
+    _≡_ {A = Outcome Values Buffers} (record { number = 0; values = v; buffers = b }) (entered causes zeros old work) →
+    _≡_ {A = Outcome Values Buffers} (record { number = 0; values = v; buffers = b }) work
+unfolding entered
+no-cause causes zeros v old b work e = decide (first causes) refl
+  where
+    decide : (k : ℕ) → first causes ≡ k → record { number = 0; values = v; buffers = b } ≡ work
+    decide zero q = e ∙ unless-none (first causes) _ _ q
+    decide (suc k) q =
+        absurd (let z : _≡_ {A = ℕ} 0 (first causes) =
+        ap (λ o. o .number) (e ∙ unless-some (first causes) _ _ (omega arith)) in omega arith)

@@ -10,6 +10,7 @@ pub mod CheckLaws
 -- lists, shortest lists, the two rules, walks and paths
 pub mod ListLaws
 pub mod OptionLaws
+pub mod BufferLaws
 pub mod ShortestLaws
 pub mod RuleLaws
 pub mod WalkLaws

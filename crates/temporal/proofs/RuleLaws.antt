@@ -102,3 +102,21 @@ leads-below c v w n ends inside e =
     by-cases (ℕ-discrete w (c .a)) (λ q. omega arith)
     (λ not-a. by-cases (ℕ-discrete w (c .b)) (λ q. omega arith)
     (λ not-b. absurd (let z : _≡_ {A = ℕ} 0 1 = cc (leads-comes c v w .0 e, comes-none c w not-a not-b) in omega arith)))
+
+-- a contact leads from its a to its b
+pub leads-from-a : (c : Contact) → leadsTo c (c .a) ≡ some (c .b)
+leads-from-a c = leads-comes c (c .a) (c .b) .1 (comes-to-b c)
+
+-- (both ways) a contact leads from its b to its a
+pub leads-from-b : (c : Contact) → leadsTo c (c .b) ≡ some (c .a)
+leads-from-b c = leads-comes c (c .b) (c .a) .1 (comes-to-a c)
+
+-- a contact leads on from no other station
+pub leads-none : (c : Contact) (v : ℕ) → v ≢ c .a → v ≢ c .b → leadsTo c v ≡ none
+unfolding leadsTo
+leads-none c v not-a not-b = rw (ne-eqb v (c .a) not-a, ne-eqb v (c .b) not-b)
+
+-- (turnaround) what code tests: the contact's slot is later
+pub follows-test : (p : Plan) (t u : ℕ) → mayFollow p t u ≡ ltb t u
+unfolding mayFollow
+follows-test p t u = refl

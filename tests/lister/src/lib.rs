@@ -1,7 +1,8 @@
 //! The plain lister: document 01's operations, answered from its definitions alone.
 //!
 //! Every walk from a source is listed, hop by hop; the shortest are picked by comparing lengths;
-//! a count is the length of a list. It serves as the other side of comparisons on small plans.
+//! a count is the length of a list. It serves as the other side of comparisons on small plans. The
+//! module `fast` alone lists no walk; it serves plans with too many.
 //!
 //! The words here, and document 01's where they differ:
 //!
@@ -24,12 +25,14 @@
 pub mod answer;
 pub mod cases;
 pub mod cursor;
+pub mod fast;
 pub mod lent;
 pub mod loads;
 pub mod pair;
 pub mod plan;
 pub mod random;
 pub mod reach;
+pub mod reach_cases;
 pub mod row;
 pub mod shortest;
 pub mod show;

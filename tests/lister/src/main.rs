@@ -4,12 +4,13 @@ use std::io::Read;
 use std::process::ExitCode;
 use std::{env, fs, io};
 
-use lister::cases::{all_cases, stdin_bytes, stdout_text};
 use lister::plan::PlanInput;
 use lister::show::{loads_text, pair_text, text_of};
+use lister::{cases, reach_cases};
 
 const USAGE: &str = "usage:
-  lister check-cases DIR         write DIR/stdin and DIR/stdout
+  lister check-cases DIR         write DIR/stdin and DIR/stdout, cases of check
+  lister reach-cases DIR         write DIR/stdin and DIR/stdout, cases of reach and row
   lister show n T s z < plan     hops, count, through counts and shortest paths of s, z
   lister loads n T < plan        pairs and load of each station";
 
@@ -27,7 +28,16 @@ fn main() -> ExitCode {
 
 fn run(words: &[&str]) -> Result<(), String> {
     match words {
-        ["check-cases", directory] => write_cases(directory),
+        ["check-cases", directory] => {
+            let all = cases::all_cases();
+            let stdout = cases::stdout_text(&all);
+            write_files(directory, &cases::stdin_bytes(&all), &stdout)
+        }
+        ["reach-cases", directory] => {
+            let all = reach_cases::all_cases();
+            let stdout = reach_cases::stdout_text(&all);
+            write_files(directory, &reach_cases::stdin_bytes(&all), &stdout)
+        }
         ["show", stations, slots, source, destination] => {
             let source = decimal(source)?;
             let destination = decimal(destination)?;
@@ -42,14 +52,13 @@ fn run(words: &[&str]) -> Result<(), String> {
     }
 }
 
-fn write_cases(directory: &str) -> Result<(), String> {
-    let cases = all_cases();
+fn write_files(directory: &str, stdin: &[u8], stdout: &str) -> Result<(), String> {
     let write = |name: &str, bytes: &[u8]| {
         let file = format!("{directory}/{name}");
         fs::write(&file, bytes).map_err(|error| format!("{file}: {error}"))
     };
-    write("stdin", &stdin_bytes(&cases))?;
-    write("stdout", stdout_text(&cases).as_bytes())
+    write("stdin", stdin)?;
+    write("stdout", stdout.as_bytes())
 }
 
 fn print_for_plan(

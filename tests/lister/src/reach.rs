@@ -2,7 +2,7 @@
 
 use crate::answer::Answer;
 use crate::lent::{appearances, long_enough, place};
-use crate::plan::{read, PlanInput};
+use crate::plan::{read, Plan, PlanInput};
 use crate::shortest::{
     count_of, hops_of, walks_to_appearance, walks_to_station, walks_within, COUNT_LIMIT,
 };
@@ -25,13 +25,8 @@ pub fn reach(input: PlanInput, source: usize, tables: ReachTables) -> Answer<()>
     reach_within(COUNT_LIMIT, input, source, tables)
 }
 
-/// Reach with the largest count as an argument.
-pub fn reach_within(
-    limit: u64,
-    input: PlanInput,
-    source: usize,
-    tables: ReachTables,
-) -> Answer<()> {
+/// The plan of a call without a cause up to 8; the named parts of the tables are then 0.
+pub fn cleared(input: PlanInput, source: usize, tables: &mut ReachTables) -> Answer<Plan> {
     let plan = read(input)?;
     plan.has_station(source)?;
     let stations = plan.stations;
@@ -45,9 +40,20 @@ pub fn reach_within(
     tables.appearance_counts[..named].fill(0);
     tables.station_hops[..stations].fill(0);
     tables.station_counts[..stations].fill(0);
+    Ok(plan)
+}
+
+/// Reach with the largest count as an argument.
+pub fn reach_within(
+    limit: u64,
+    input: PlanInput,
+    source: usize,
+    mut tables: ReachTables,
+) -> Answer<()> {
+    let plan = cleared(input, source, &mut tables)?;
     let walks = walks_within(limit, &plan, source)?;
 
-    for station in 0..stations {
+    for station in 0..plan.stations {
         let to_station = walks_to_station(&walks, station);
         tables.station_hops[station] = hops_of(&to_station);
         tables.station_counts[station] = count_of(&to_station);

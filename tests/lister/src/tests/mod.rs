@@ -4,6 +4,8 @@ mod cases;
 mod checks;
 mod counts;
 mod examples;
+mod fast;
+mod reach_cases;
 mod refusals;
 mod rows;
 mod support;

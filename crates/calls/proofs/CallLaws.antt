@@ -1,0 +1,97 @@
+-- The first of 6, 7 and 8 of a call that names a pair, from comparisons of numbers. Assumes nothing.
+use Prim.Native.Nat.{ℕ, _+_, _*_, _<_, _≤_}
+use native.Mathlib.Omega.{arith}
+use mathlib.Core.Path.{_≡_, refl, _∙_}
+use mathlib.Core.Bool.{Bool, true, false, _||_}
+use mathlib.Core.Logic.{_≢_}
+use mathlib.Core.List.{List, []}
+use borrow.Author.Tests.{lt-ltb, le-ltb, le-leb, lt-leb, eq-eqb, ne-eqb, ltb-false, leb-false, eqb-false}
+use lib.Dec.{ltb, leb, eqb, lit<}
+use Rattle.temporal.specs.Cause.{first, pairCauses}
+use Rattle.temporal.specs.Outcome.{workSize}
+use Rattle.calls.specs.Call.{pairCallFault}
+use Rattle.temporal.proofs.CauseLaws.{
+  first-true,
+  first-false,
+  first-head,
+  first-tail,
+  or-false-left,
+  or-false-right,
+}
+use Rattle.plan.specs.Fault.{callNumber}
+use Rattle.plan.specs.declared.CallFault.{CallFault}
+use Rattle.plan.specs.declared.CallFault.the-variants as call-fault
+
+first-nothing : first [] ≡ 0
+unfolding first
+first-nothing = refl
+
+module _ (n t s z lent named area : ℕ) where
+  pub call-source : n ≤ s → pairCallFault n t s z lent named area ≡ 6
+  unfolding pairCallFault pairCauses
+  call-source h = first-true 5 _ _ (rw (le-leb n s h))
+
+  module _ (source : s < n) where
+    pub call-destination : n ≤ z → pairCallFault n t s z lent named area ≡ 6
+    unfolding pairCallFault pairCauses
+    call-destination h = first-true 5 _ _ (rw (lt-leb n s source, le-leb n z h))
+
+    module _ (destination : z < n) where
+      pub call-same : s ≡ z → pairCallFault n t s z lent named area ≡ 7
+      unfolding pairCallFault pairCauses
+      call-same h =
+          first-false 6 _ _ (rw (lt-leb n s source, lt-leb n z destination)) ∙ first-true 6 _ _ (eq-eqb s z h)
+
+      module _ (different : s ≢ z) where
+        pub call-short : lent < named → pairCallFault n t s z lent named area ≡ 8
+        unfolding pairCallFault pairCauses
+        call-short h =
+            first-false 6 _ _ (rw (lt-leb n s source, lt-leb n z destination)) ∙
+            first-false 7 _ _ (ne-eqb s z different) ∙ first-true 7 _ [] (rw (lt-ltb lent named h))
+
+        module _ (room : named ≤ lent) where
+          pub call-area : area < workSize n t → pairCallFault n t s z lent named area ≡ 8
+          unfolding pairCallFault pairCauses
+          call-area h =
+              first-false 6 _ _ (rw (lt-leb n s source, lt-leb n z destination)) ∙
+              first-false 7 _ _ (ne-eqb s z different) ∙
+              first-true 7 _ [] (rw (le-ltb lent named room, lt-ltb area (workSize n t) h))
+
+          pub call-free : workSize n t ≤ area → pairCallFault n t s z lent named area ≡ 0
+          unfolding pairCallFault pairCauses
+          call-free h =
+              first-false 6 _ _ (rw (lt-leb n s source, lt-leb n z destination)) ∙
+              first-false 7 _ _ (ne-eqb s z different) ∙
+              first-false 8 _ [] (rw (le-ltb lent named room, le-ltb area (workSize n t) h)) ∙ first-nothing
+
+-- what a call without such a cause keeps
+pub record FreeCall (n t s z lent named area : ℕ) : Type 0 where
+  pub source : s < n
+  pub destination : z < n
+  pub different : s ≢ z
+  pub lent-room : named ≤ lent
+  pub area-room : workSize n t ≤ area
+
+pub free-call :
+    (n t s z lent named area : ℕ) → pairCallFault n t s z lent named area ≡ 0 → FreeCall n t s z lent named area
+unfolding pairCallFault pairCauses
+free-call n t s z lent named area e =
+    let stations = first-head 5 (leb n s || leb n z) _ e in
+    let same = first-head 6 (eqb s z) _ (first-tail 5 (leb n s || leb n z) _ e) in
+    let short = first-head 7 (ltb lent named || ltb area (workSize n t)) []
+    (first-tail 6 (eqb s z) _ (first-tail 5 (leb n s || leb n z) _ e)) in
+    record {
+      source = leb-false n s (or-false-left (leb n s) (leb n z) stations);
+      destination = leb-false n z (or-false-right (leb n s) (leb n z) stations);
+      different = eqb-false s z same;
+      lent-room = ltb-false lent named (or-false-left (ltb lent named) (ltb area (workSize n t)) short);
+      area-room = ltb-false area (workSize n t) (or-false-right (ltb lent named) (ltb area (workSize n t)) short);
+    }
+
+-- no fault of a call has the number 0
+pub call-number-positive : (f : CallFault) → 0 < callNumber f
+call-number-positive call-fault.Station = lit< tt
+call-number-positive call-fault.SameStation = lit< tt
+call-number-positive call-fault.Short = lit< tt
+call-number-positive call-fault.TooMany = lit< tt
+call-number-positive call-fault.NotShortestPath = lit< tt

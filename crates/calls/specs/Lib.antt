@@ -1,0 +1,2 @@
+-- The first of 6, 7 and 8 of a call. Definitions only.
+pub mod Call

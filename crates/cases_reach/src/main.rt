@@ -1,0 +1,273 @@
+// Operations 2 and 3, reach and row, on cases from standard input.
+//
+// A case is a head of 30 bytes, a label and a plan. The head's first seven numbers have 16 bits, high byte first: the
+// kind (0 reach, 1 row), n, T, the source or the station, the length of the plan, the length of the label, a mark. Four
+// numbers of 32 bits follow: the lent entries of reach's tables of hops and counts, of the appearances and then of the
+// stations; row's table has the second.
+//
+// For each case a line: the label, a colon, a space and the number of the answer. Reach's tables hold the mark before
+// the call; behind the number stand their lent entries after it, each table behind " |". A run of one value is written
+// " i: x" or " i .. j: x"; entries without a walk, 65535 hops or count 0, are left out. Entry i of row's table is
+// 3i + 1; behind the number stand the length of the part and, behind " |", its entries.
+ghost use Prim.Native.Nat.{_<_, _≤_};
+ghost use lib.ListN.{length};
+use reach::ReachAnswer;
+
+// Fills a table with a mark.
+fn mark16(table: &mut [u16], x: u16) {
+    let mut i = 0;
+    while i < table.len() {
+        table[i] = x;
+        i += 1;
+    }
+}
+
+// Fills a table with a mark.
+fn mark64(table: &mut [u64], x: u64) {
+    let mut i = 0;
+    while i < table.len() {
+        table[i] = x;
+        i += 1;
+    }
+}
+
+// Fills a table with distinct numbers: entry i is 3i + 1.
+fn number_entries(table: &mut [u64]) {
+    let mut i = 0;
+    while i < table.len() {
+        table[i] = (i * 3 + 1) as u64;
+        i += 1;
+    }
+}
+
+// Where the run of one value that starts at an entry ends.
+fn run_end16(table: &[u16], from: usize) -> usize
+    requires { ⌜ from < length (now table) ⌝ }
+    ensures { λ r. ⌜ (from < r) × (r ≤ length (now (table .entry))) ⌝ }
+{
+    let x = table[from];
+    let mut end = from + 1;
+    while end < table.len() {
+        if table[end] != x {
+            return end;
+        }
+        end += 1;
+    }
+    end
+}
+
+// Where the run of one value that starts at an entry ends.
+fn run_end64(table: &[u64], from: usize) -> usize
+    requires { ⌜ from < length (now table) ⌝ }
+    ensures { λ r. ⌜ (from < r) × (r ≤ length (now (table .entry))) ⌝ }
+{
+    let x = table[from];
+    let mut end = from + 1;
+    while end < table.len() {
+        if table[end] != x {
+            return end;
+        }
+        end += 1;
+    }
+    end
+}
+
+// Writes the run of x from an entry to the one before the end, unless x is the value left out.
+fn write_run(from: usize, end: usize, x: u64, out: u64)
+    requires { ⌜ from < end ⌝ }
+{
+    if x == out {
+        return;
+    }
+    let last = end - 1;
+    cases::write_number(from as u64);
+    if from < last {
+        cases::write_part(b" ..", 3);
+        cases::write_number(last as u64);
+    }
+    cases::write_part(b":", 1);
+    cases::write_number(x);
+}
+
+fn wide(x: u16) -> u64 {
+    x as u64
+}
+
+// Writes the entries of a table of hops.
+fn write16(table: &[u16]) {
+    cases::write_part(b" |", 2);
+    let mut from = 0;
+    while from < table.len() {
+        let end = run_end16(table, from);
+        write_run(from, end, wide(table[from]), 65535);
+        from = end;
+    }
+}
+
+// Writes the entries of a table of counts.
+fn write64(table: &[u64]) {
+    cases::write_part(b" |", 2);
+    let mut from = 0;
+    while from < table.len() {
+        let end = run_end64(table, from);
+        write_run(from, end, table[from], 0);
+        from = end;
+    }
+}
+
+// The number of reach's answer, 0 where the call is accepted.
+fn reach_number(answer: ReachAnswer) -> usize {
+    match answer {
+        ReachAnswer::Reached => 0,
+        ReachAnswer::Refused(fault) => plan::fault_number(fault),
+    }
+}
+
+// Fills reach's tables with the mark.
+fn mark_tables(
+    head: &[u8],
+    hops: &mut [u16],
+    counts: &mut [u64],
+    near: &mut [u16],
+    ways: &mut [u64],
+) {
+    let mark = cases::word(head, 12);
+    mark16(hops, mark as u16);
+    mark64(counts, mark as u64);
+    mark16(near, mark as u16);
+    mark64(ways, mark as u64);
+}
+
+// Calls reach on the lent parts, and writes its answer.
+fn run_reach(
+    head: &[u8],
+    plan: &[u8],
+    hops: &mut [u16],
+    counts: &mut [u64],
+    near: &mut [u16],
+    ways: &mut [u64],
+) {
+    mark_tables(head, hops, counts, near, ways);
+    let n = cases::word(head, 2);
+    let t = cases::word(head, 4);
+    let source = cases::word(head, 6);
+    let answer = reach::reach(plan, n, t, source, hops, counts, near, ways);
+    cases::write_number(reach_number(answer) as u64);
+    write16(hops);
+    write64(counts);
+    write16(near);
+    write64(ways);
+}
+
+// Calls row and its sister on the lent part, and writes the answers.
+fn run_row(head: &[u8], table: &mut [u64]) {
+    number_entries(table);
+    let n = cases::word(head, 2);
+    let t = cases::word(head, 4);
+    let station = cases::word(head, 6);
+    cases::write_number(reach::row_number(table, n, t, station) as u64);
+    let part = reach::row(table, n, t, station);
+    cases::write_number(part.len() as u64);
+    write64(part);
+}
+
+// The smaller of two numbers.
+fn least(a: usize, b: usize) -> usize
+    ensures { λ r. ⌜ (r ≤ a) × (r ≤ b) ⌝ }
+{
+    if a < b { a } else { b }
+}
+
+// The 32-bit number of the head whose first byte stands at k, but no more than a buffer has.
+fn lent(head: &[u8], k: usize, most: usize) -> usize
+    requires { ⌜ k < 256 ⌝ }
+    ensures { λ r. ⌜ r ≤ most ⌝ }
+{
+    least(
+        cases::word(head, k) * 65536 + cases::word(head, k + 2),
+        most,
+    )
+}
+
+// Lends what the head names, and runs the case.
+fn run_named(
+    head: &[u8],
+    plan: &[u8],
+    hops: &mut [u16],
+    counts: &mut [u64],
+    near: &mut [u16],
+    ways: &mut [u64],
+) {
+    let a = lent(head, 14, hops.len());
+    let b = lent(head, 18, counts.len());
+    let c = lent(head, 22, near.len());
+    let d = lent(head, 26, ways.len());
+    if cases::word(head, 0) == 0 {
+        run_reach(
+            head,
+            plan,
+            &mut hops[..a],
+            &mut counts[..b],
+            &mut near[..c],
+            &mut ways[..d],
+        );
+    } else {
+        run_row(head, &mut counts[..b]);
+    }
+}
+
+// Reads a head, a label and a plan; false where the input has no further case.
+fn read_case(head: &mut [u8], label: &mut [u8], plan: &mut [u8]) -> bool {
+    if !cases::read_part(head, 30) {
+        return false;
+    }
+    if !cases::read_part(label, cases::word(head, 10)) {
+        return false;
+    }
+    cases::read_part(plan, cases::word(head, 8))
+}
+
+// One case; false where the input has no further one.
+fn run_case(
+    head: &mut [u8],
+    label: &mut [u8],
+    plan: &mut [u8],
+    hops: &mut [u16],
+    counts: &mut [u64],
+    near: &mut [u16],
+    ways: &mut [u64],
+) -> bool {
+    if !read_case(head, label, plan) {
+        return false;
+    }
+    cases::write_part(label, cases::word(head, 10));
+    cases::write_part(b":", 1);
+    let size = least(cases::word(head, 8), plan.len());
+    run_named(head, &plan[..size], hops, counts, near, ways);
+    cases::end_line();
+    true
+}
+
+fn main() {
+    let mut head = [0u8; 30];
+    let mut label = [0u8; 64];
+    let mut plan = [0u8; 24600];
+    let mut hops = [0u16; 65600];
+    let mut counts = [0u64; 65600];
+    let mut near = [0u16; 320];
+    let mut ways = [0u64; 320];
+    let mut left = cases::MOST;
+    while 0 < left
+        && run_case(
+            &mut head,
+            &mut label,
+            &mut plan,
+            &mut hops,
+            &mut counts,
+            &mut near,
+            &mut ways,
+        )
+    {
+        left -= 1;
+    }
+}

@@ -1,0 +1,15 @@
+-- what the inner functions leave: rows, entries, places of the work area, a search
+mod RowLaws
+mod EntryLaws
+mod PlaceLaws
+mod SearchLaws
+-- an entry against sequences of numbers of walks, every place after a change, and the state of the work area
+mod BestLaws
+mod TookLaws
+mod StateLaws
+mod SettleLaws
+-- the sequences of a plan, the beginning and the end of the pass, and its loop
+mod PlanWalks
+mod BeginLaws
+mod EndLaws
+mod PassLaws

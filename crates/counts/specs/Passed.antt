@@ -1,0 +1,40 @@
+-- What the pass asks and what it promises: hops and counts from a source to every station, and for each of a block of
+-- stations how many shortest paths do not have it inside. Definitions only.
+-- Assumes nothing.
+use Prim.Native.Nat.{ℕ, _+_, _*_, _<_, _≤_}
+use mathlib.Core.Path.{_≡_}
+use mathlib.Core.Bool.{Bool, false}
+use mathlib.Core.List.{List}
+use mathlib.Core.Logic.{_≢_}
+use lib.ListN.{length, getD, drop}
+use Rattle.temporal.specs.Bytes.{planOf}
+use Rattle.temporal.specs.Cause.{planFault, tooMany}
+use Rattle.temporal.specs.Shortest.{shortestPaths, hops, count, through}
+
+-- how many entries of the work area the pass uses
+abbrev pub areaSize : ℕ → ℕ → ℕ
+areaSize n block = 4 * n + 2 * n * block
+
+-- what the pass asks: an accepted plan, a source and a block of stations in it, and a work area that is long enough
+pub record Ready (bs : List ℕ) (n t s low block : ℕ) (work : List ℕ) : Type 0 where
+  pub accepted : planFault bs n t ≡ 0
+  pub source : s < n
+  pub stations : low + block ≤ n
+  pub fits : areaSize n block ≤ length work
+
+-- Station z has its hops at z and its count at n + z. At 4 n + z block + j stands how many of its shortest paths do not
+-- have station low + j inside; nothing is said there of z itself, nor where there is no path.
+pub record Counted (bs : List ℕ) (n t s low block : ℕ) (work : List ℕ) : Type 0 where
+  pub station-hops : (z : ℕ) → z < n → getD work z 0 ≡ hops (shortestPaths (planOf bs n t) s z)
+  pub station-counts : (z : ℕ) → z < n → getD work (n + z) 0 ≡ count (shortestPaths (planOf bs n t) s z)
+  pub rows : (z j : ℕ) → z < n → j < block → low + j ≢ z → hops (shortestPaths (planOf bs n t) s z) < 65535
+      → getD work (4 * n + z * block + j) 0 + through (planOf bs n t) s z (low + j)
+      ≡ count (shortestPaths (planOf bs n t) s z)
+
+-- What the pass promises: whether a count is over 2^64 - 1, exactly; where none is, the entries above; and that nothing
+-- past its part of the work area is touched.
+pub record Passed (bs : List ℕ) (n t s low block : ℕ) (old new : List ℕ) (r : Bool) : Type 0 where
+  pub too-many : r ≡ tooMany (planOf bs n t) s
+  pub counted : r ≡ false → Counted bs n t s low block new
+  pub beyond : drop (areaSize n block) new ≡ drop (areaSize n block) old
+  pub same-length : length new ≡ length old

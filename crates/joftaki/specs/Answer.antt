@@ -1,0 +1,59 @@
+-- What the operations answer, in document 01's numbers and values. Definitions only.
+-- Assumes nothing.
+use Prim.Native.Nat.{ℕ}
+use mathlib.Core.Path.{_≡_}
+use mathlib.Core.List.{List}
+use Rattle.temporal.specs.Outcome.{Outcome}
+use Rattle.temporal.specs.OutcomePair.{PairValues, PairBuffers, LoadBuffers, busiest, BusiestGiven}
+use Rattle.plan.specs.Fault.{faultNumber}
+use Rattle.joftaki.specs.declared.PairAnswer.{PairAnswer}
+use Rattle.joftaki.specs.declared.PairAnswer.the-variants as pair-answer
+use Rattle.joftaki.specs.declared.LoadsAnswer.{LoadsAnswer}
+use Rattle.joftaki.specs.declared.LoadsAnswer.the-variants as loads-answer
+use Rattle.joftaki.specs.declared.BusiestAnswer.{BusiestAnswer}
+use Rattle.joftaki.specs.declared.BusiestAnswer.the-variants as busiest-answer
+
+abbrev pub pairNumber : PairAnswer → ℕ
+pairNumber (pair-answer.Counted h c) = 0
+pairNumber (pair-answer.Refused f) = faultNumber f
+
+-- zeros beside a refusal
+abbrev pub pairValues : PairAnswer → PairValues
+pairValues (pair-answer.Counted h c) = record { hops = h; count = c }
+pairValues (pair-answer.Refused f) = record { hops = 0; count = 0 }
+
+abbrev pub pairBuffers : List ℕ → List ℕ → PairBuffers
+pairBuffers through work = record { throughTable = through; work = work }
+
+-- the answer with the through table and the work area at exit
+abbrev pub pairOutcome : PairAnswer → PairBuffers → Outcome PairValues PairBuffers
+pairOutcome r b = record { number = pairNumber r; values = pairValues r; buffers = b }
+
+-- ---- loads and busiest
+
+abbrev pub loadsNumber : LoadsAnswer → ℕ
+loadsNumber loads-answer.Loaded = 0
+loadsNumber (loads-answer.Refused f) = faultNumber f
+
+abbrev pub loadBuffers : List ℕ → List ℕ → List ℕ → LoadBuffers
+loadBuffers pairs loads work = record { pairsTable = pairs; loadTable = loads; work = work }
+
+-- the answer with the two tables and the work area at exit
+abbrev pub loadsOutcome : LoadsAnswer → LoadBuffers → Outcome (Unit {0}) LoadBuffers
+loadsOutcome r b = record { number = loadsNumber r; values = tt; buffers = b }
+
+abbrev pub busiestNumber : BusiestAnswer → ℕ
+busiestNumber (busiest-answer.Station v) = 0
+busiestNumber (busiest-answer.Refused f) = faultNumber f
+
+-- zero beside a refusal
+abbrev pub busiestStation : BusiestAnswer → ℕ
+busiestStation (busiest-answer.Station v) = v
+busiestStation (busiest-answer.Refused f) = 0
+
+-- The number and the work area at exit are those of document 01; the station given is one that is busiest, whichever.
+pub record BusiestIs (bs : List ℕ) (n t : ℕ) (work after : List ℕ) (r : BusiestAnswer) : Type 0 where
+  pub outcome :
+      _≡_ {A = Outcome (Unit {0}) (List ℕ)} (record { number = busiestNumber r; values = tt; buffers = after })
+      (busiest bs n t work)
+  pub station : BusiestGiven bs n t (busiestNumber r) (busiestStation r)

@@ -1,0 +1,3 @@
+-- What first way and next way answer, and what their inner functions ask and leave. Definitions only.
+pub mod Answer
+pub mod Work

@@ -1,0 +1,156 @@
+-- The pairs and the load of a station as sums over sources and destinations, and what one pair adds.
+-- Assumes nothing.
+use Prim.Native.Nat.{ℕ, _+_, _*_, _/_, _^_, _<_, _≤_}
+use mathlib.Core.Path.{_≡_, refl, ap, _∙_}
+use mathlib.Core.Bool.{Bool, true, false, not, cond, _&&_}
+use mathlib.Core.List.{List, [], _∷_, map, map-map}
+use mathlib.Core.Logic.{⊎-elim, _≢_}
+use native.Mathlib.Omega.{arith}
+use native.Mathlib.Numerals.{add-one}
+use borrow.Author.Tests.{eq-eqb, ne-eqb, lt-ltb}
+use lib.Dec.{ltb, eqb}
+use lib.ListN.{length}
+use Rattle.temporal.specs.Lists.{from, below, sum, select}
+use Rattle.temporal.specs.Plan.{Plan}
+use Rattle.temporal.specs.Bytes.{planOf}
+use Rattle.temporal.specs.Cause.{planFault}
+use Rattle.temporal.specs.Shortest.{shortestPaths, hops, through, count}
+use Rattle.temporal.specs.Walk.{isInterior}
+use Rattle.temporal.specs.Load.{Ends, allEnds, isPairOf, pairsOf, pairs, share, load}
+use Rattle.temporal.proofs.ListLaws.{sum-ext, length-select, select-none, length-below, not-true-false}
+use Rattle.temporal.proofs.ShortestLaws.{hops-bound}
+use Rattle.temporal.proofs.PathLaws.{interior-inv}
+use Rattle.temporal.proofs.PlanLaws.{slots-within}
+use Rattle.temporal.proofs.Accepted.{accepted}
+use Rattle.temporal.proofs.Adequacy.{bounded-paths}
+use Rattle.counting.proofs.ExactSum.{sum-at-most, share-at-most}
+use Rattle.counting.proofs.SumLaws.{sum-flatMap, sum-below-suc}
+use Rattle.tallies.specs.Progress.{ends, pairTerm, loadTerm, partly}
+
+-- the sum over a selection is the sum over the whole list, with 0 for what is not selected
+sum-select : {A : Type 0} (f : A → ℕ) (t : A → Bool) (l : List A)
+    → sum (map f (select t l)) ≡ sum (map (λ x. cond (t x) (f x) 0) l)
+unfolding select sum
+sum-select f t [] = refl
+sum-select f t (x ∷ l) = rw (← sum-select f t l) (step (t x))
+  where
+    step : (c : Bool) → sum (map f (cond c (x ∷ select t l) (select t l))) ≡ cond c (f x) 0 + sum (map f (select t l))
+    step true = refl
+    step false = omega arith
+
+-- nothing more is summed up where there are no destinations
+none-more : (x : ℕ) (g : ℕ → ℕ) → x ≡ x + sum (map g (below 0))
+unfolding sum below from
+none-more x g = omega arith
+
+-- a sum over all ordered pairs is a sum over sources of sums over destinations
+sum-ends : (f : Ends → ℕ) (n : ℕ) → sum (map f (allEnds n)) ≡ partly (λ s z. f (ends s z)) n n 0
+unfolding allEnds partly
+sum-ends f n =
+    sum-flatMap f (λ s. map (ends s) (below n)) (below n)
+    ∙ sum-ext (below n) (λ s m. ap sum (map-map f (ends s) (below n)))
+    ∙ none-more _ (λ z. f (ends n z))
+
+-- the pairs of a station, summed up
+pub pairs-partly : (p : Plan) (v : ℕ) → pairs p v ≡ partly (pairTerm p v) (p .stations) (p .stations) 0
+unfolding pairs pairsOf pairTerm
+pairs-partly p v =
+    length-select (isPairOf p v) (allEnds (p .stations)) ∙ sum-ends (λ e. cond (isPairOf p v e) 1 0) (p .stations)
+
+-- the load of a station, summed up
+pub load-partly : (p : Plan) (v : ℕ) → load p v ≡ partly (loadTerm p v) (p .stations) (p .stations) 0
+unfolding load pairsOf loadTerm
+load-partly p v =
+    sum-select (share p v) (isPairOf p v) (allEnds (p .stations))
+    ∙ sum-ends (λ e. cond (isPairOf p v e) (share p v e) 0) (p .stations)
+
+module _ (f : ℕ → ℕ → ℕ) (n s : ℕ) where
+  -- one destination more
+  pub partly-next : (z : ℕ) → partly f n s (z + 1) ≡ partly f n s z + f s z
+  unfolding partly
+  partly-next z = rw add-one (omega (arith, sum-below-suc (f s) z))
+
+  -- all destinations of a source are the beginning of the next source
+  pub partly-source : partly f n s n ≡ partly f n (s + 1) 0
+  unfolding partly sum below from
+  partly-source = rw add-one (omega (arith, sum-below-suc (λ a. sum (map (f a) (below n))) s))
+
+  -- a sum of terms that are each at most b
+  pub partly-at-most : (b k : ℕ) → ((a z : ℕ) → f a z ≤ b) → partly f n s k ≤ s * (n * b) + k * b
+  unfolding partly
+  partly-at-most b k h =
+      let first = sum-at-most (λ a. sum (map (f a) (below n))) (n * b) (λ a. all a n) (below s) in
+      let last = all s k in
+      omega (arith, rw length-below at first)
+    where
+      all : (a m : ℕ) → sum (map (f a) (below m)) ≤ m * b
+      all a m = let g = sum-at-most (f a) b (h a) (below m) in rw length-below at g
+
+-- nothing is summed up at the beginning
+pub partly-none : (f : ℕ → ℕ → ℕ) (n : ℕ) → partly f n 0 0 ≡ 0
+unfolding partly sum below from
+partly-none f n = refl
+
+-- where the through count is 0, or source and destination are equal, a pair adds nothing
+pub record Nothing (p : Plan) (v s z : ℕ) : Type 0 where
+  pub pairs : pairTerm p v s z ≡ 0
+  pub load : loadTerm p v s z ≡ 0
+
+pub nothing-self : (p : Plan) (v s : ℕ) → Nothing p v s s
+unfolding pairTerm loadTerm
+nothing-self p v s = record { pairs = rw (eq-eqb s s refl); load = rw (eq-eqb s s refl) }
+
+pub nothing-through : (p : Plan) (v s z : ℕ) → through p s z v ≡ 0 → Nothing p v s z
+unfolding pairTerm loadTerm
+nothing-through p v s z e =
+    record { pairs = rw e (off (not (eqb s z)) 1); load = rw e (off (not (eqb s z)) (share p v (ends s z))) }
+  where
+    off : (b : Bool) (x : ℕ) → cond (b && ltb 0 0) x 0 ≡ 0
+    off true x = refl
+    off false x = refl
+
+-- no shortest path has its destination inside
+pub through-destination : (p : Plan) (s z : ℕ) → through p s z z ≡ 0
+unfolding through
+through-destination p s z =
+    ap length (select-none (shortestPaths p s z) (λ w m.
+    not-true-false (isInterior p s z z w) (λ e. interior-inv p s z z w e .not-destination refl)))
+
+-- where there is no path, none has v inside
+pub through-none : (bs : List ℕ) (n t : ℕ) → planFault bs n t ≡ 0 → (s z v : ℕ)
+    → 65535 ≤ hops (shortestPaths (planOf bs n t) s z) → through (planOf bs n t) s z v ≡ 0
+unfolding through shortestPaths select planOf
+through-none bs n t ok s z v h =
+    ⊎-elim
+    (λ (e : shortestPaths (planOf bs n t) s z ≡ []). rw e)
+    (λ (g : hops (shortestPaths (planOf bs n t) s z) ≤ planOf bs n t .slots).
+    absurd (let few = accepted bs n t ok .slots in omega arith))
+    (hops-bound (bounded-paths (planOf bs n t) (slots-within bs n t ok) s z))
+
+module _ (p : Plan) (v s z : ℕ) (apart : s ≢ z) (some : 0 < through p s z v) where
+  -- a pair of two stations with v inside some path adds 1 and its share
+  pub pair-adds : pairTerm p v s z ≡ 1
+  unfolding pairTerm
+  pair-adds = rw (ne-eqb s z apart, lt-ltb 0 _ some)
+
+  pub load-adds : loadTerm p v s z ≡ 2 ^ 32 * through p s z v / count (shortestPaths p s z)
+  unfolding loadTerm share
+  load-adds = rw (ne-eqb s z apart, lt-ltb 0 _ some)
+
+module _ (p : Plan) (v s z : ℕ) where
+  -- how much a pair can add
+  pub pair-at-most : pairTerm p v s z ≤ 1
+  unfolding pairTerm
+  pair-at-most = step (isPairOf p v (ends s z))
+    where
+      step : (b : Bool) → cond b 1 0 ≤ 1
+      step true = omega arith
+      step false = omega arith
+
+  pub load-at-most-whole : loadTerm p v s z ≤ 2 ^ 32
+  unfolding loadTerm
+  load-at-most-whole = step (isPairOf p v (ends s z)) (share-at-most p v (ends s z))
+    where
+      step : (b : Bool) {x : ℕ} → x ≤ 2 ^ 32 → cond b x 0 ≤ 2 ^ 32
+      step true h = h
+      step false h = omega arith

@@ -1,0 +1,101 @@
+-- What the entries of the tallies hold on the way: partial sums, station by station. Definitions only.
+-- Assumes nothing.
+use Prim.Native.Nat.{ℕ, _+_, _-_, _*_, _/_, _^_, _<_, _≤_}
+use mathlib.Core.Path.{_≡_}
+use mathlib.Core.Bool.{cond, _||_}
+use mathlib.Core.List.{List, map}
+use mathlib.Core.Logic.{_≢_}
+use lib.Dec.{eqb}
+use lib.ListN.{length, getD, set, drop}
+use Rattle.temporal.specs.Lists.{below, sum}
+use Rattle.temporal.specs.Plan.{Plan}
+use Rattle.temporal.specs.Bytes.{planOf}
+use Rattle.temporal.specs.Cause.{planFault}
+use Rattle.temporal.specs.Load.{Ends, isPairOf, share}
+use Rattle.counts.specs.Passed.{areaSize, Counted}
+
+-- a source and a destination
+abbrev pub ends : ℕ → ℕ → Ends
+ends s z = record { source = s; destination = z }
+
+-- what the pair of s and z adds to the pairs of v
+unfoldable pub pairTerm : Plan → ℕ → ℕ → ℕ → ℕ
+pairTerm p v s z = cond (isPairOf p v (ends s z)) 1 0
+
+-- what the pair of s and z adds to the load of v
+unfoldable pub loadTerm : Plan → ℕ → ℕ → ℕ → ℕ
+loadTerm p v s z = cond (isPairOf p v (ends s z)) (share p v (ends s z)) 0
+
+-- the sum of f a z over the sources a below s and all n destinations z, and over source s and the destinations below k
+unfoldable pub partly : (ℕ → ℕ → ℕ) → ℕ → ℕ → ℕ → ℕ
+partly f n s k = sum (map (λ a. sum (map (f a) (below n))) (below s)) + sum (map (f s) (below k))
+
+-- the entries of station v hold the sums over the sources below s, and over source s and the destinations below k
+pub record Entry (p : Plan) (n base s v k : ℕ) (work : List ℕ) : Type 0 where
+  pub pairs-there : getD work (base + v) 0 ≡ partly (pairTerm p v) n s k
+  pub load-there : getD work (base + n + v) 0 ≡ partly (loadTerm p v) n s k
+
+-- While source s is worked on with the stations low, .., low + block - 1, the destinations below z are added to all of the
+-- block, destination z to its first j stations; the stations before the block have all destinations, those after it none.
+pub record State (p : Plan) (n base s low block z j : ℕ) (work : List ℕ) : Type 0 where
+  pub done : (v : ℕ) → v < low → Entry p n base s v n work
+  pub ahead : (v : ℕ) → low ≤ v → v < low + j → Entry p n base s v (z + 1) work
+  pub here : (v : ℕ) → low + j ≤ v → v < low + block → Entry p n base s v z work
+  pub later : (v : ℕ) → low + block ≤ v → v < n → Entry p n base s v 0 work
+
+-- the tallies of n stations lie behind the pass's part of the work area, and within the list
+pub record Room (n base block : ℕ) (work : List ℕ) : Type 0 where
+  pub stations : n ≤ 256
+  pub area : areaSize n block ≤ base
+  pub fits : base + 2 * n ≤ length work
+
+-- a list that differs from another only before the end of the tallies
+pub record Kept (n base : ℕ) (old work : List ℕ) : Type 0 where
+  pub beyond : drop (base + 2 * n) work ≡ drop (base + 2 * n) old
+  pub same-length : length work ≡ length old
+
+-- the work area between two steps: what the pass left, the tallies so far, and an end that is as it was
+pub record Working (bs : List ℕ) (n t base s low block z j : ℕ) (old work : List ℕ) : Type 0 where
+  pub accepted : planFault bs n t ≡ 0
+  pub source : s < n
+  pub inside : low + block ≤ n
+  pub room : Room n base block work
+  pub counted : Counted bs n t s low block work
+  pub state : State (planOf bs n t) n base s low block z j work
+  pub kept : Kept n base old work
+
+-- the same for some plan
+pub record Workable (n base s low block z : ℕ) (work : List ℕ) : Type 0 where
+  pub plan : List ℕ
+  pub slots : ℕ
+  pub working : Working plan n slots base s low block z 0 work work
+
+-- for every plan, the tallies go on from destination z to destination y
+pub record Advanced (n base s low block z y : ℕ) (old new : List ℕ) : Type 0 where
+  pub working : (bs : List ℕ) (t : ℕ) → Working bs n t base s low block z 0 old old
+      → Working bs n t base s low block y 0 old new
+
+-- one pair of v, and its share, are added
+unfoldable pub countedIn : ℕ → ℕ → List ℕ → ℕ → ℕ → List ℕ
+countedIn n base w v x =
+    set (set w (base + v) (getD w (base + v) 0 + 1)) (base + n + v) (getD w (base + n + v) 0 + x)
+
+-- the same where some of the count shortest paths are not among those past v, and v is not z
+unfoldable pub added : ℕ → ℕ → List ℕ → ℕ → ℕ → ℕ → ℕ → List ℕ
+added n base w v z count past =
+    cond (eqb v z || eqb (count - past) 0) w (countedIn n base w v (2 ^ 32 * (count - past) / count))
+
+-- destination z is added to station low + j
+unfoldable pub addedAt : ℕ → ℕ → ℕ → ℕ → ℕ → ℕ → List ℕ → List ℕ
+addedAt n base low block z j w =
+    added n base w (low + j) z (getD w (n + z) 0) (getD w (4 * n + z * block + j) 0)
+
+-- what it takes to add destination z to station low + j: room, no row over its count, and sums that stay small
+pub record Addable (n base low block z j : ℕ) (work : List ℕ) : Type 0 where
+  pub room : Room n base block work
+  pub station : low + j < n
+  pub destination : z < n
+  pub in-block : j < block
+  pub row : low + j ≢ z → getD work (4 * n + z * block + j) 0 ≤ getD work (n + z) 0
+  pub few-pairs : getD work (base + (low + j)) 0 < 2 ^ 32
+  pub small-load : getD work (base + n + (low + j)) 0 < 2 ^ 60

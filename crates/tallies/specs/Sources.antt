@@ -1,0 +1,52 @@
+-- What the functions of the tallies ask and promise that work on a block of stations, a source, and all sources.
+-- Definitions only.
+-- Assumes nothing.
+use Prim.Native.Nat.{ℕ, _+_, _<_, _≤_}
+use mathlib.Core.Path.{_≡_}
+use mathlib.Core.Bool.{Bool, false}
+use mathlib.Core.List.{List}
+use lib.ListN.{length, getD, drop}
+use Rattle.temporal.specs.Bytes.{planOf}
+use Rattle.temporal.specs.Cause.{planFault, tooMany}
+use Rattle.tallies.specs.Tally.{blockOf, tallyBase, Tallyable}
+use Rattle.tallies.specs.Progress.{Entry, State, Room, Kept}
+
+-- as many entries as size says, from base on, are 0, and the entries behind them are as they were
+pub record Cleared (base size : ℕ) (old new : List ℕ) : Type 0 where
+  pub zeros : (i : ℕ) → i < size → getD new (base + i) 0 ≡ 0
+  pub beyond : drop (base + size) new ≡ drop (base + size) old
+  pub same-length : length new ≡ length old
+
+-- what a block asks: an accepted plan, a source and a block in it, and the stations before the block done
+pub record BlockReady (bs : List ℕ) (n t base s low block : ℕ) (work : List ℕ) : Type 0 where
+  pub accepted : planFault bs n t ≡ 0
+  pub source : s < n
+  pub inside : low + block ≤ n
+  pub room : Room n base block work
+  pub state : State (planOf bs n t) n base s low 0 0 0 work
+
+-- what a block promises: whether a count is over 2^64 - 1, and where none is, the block done too
+pub record BlockDone (bs : List ℕ) (n t base s low block : ℕ) (old new : List ℕ) (r : Bool) : Type 0 where
+  pub too-many : r ≡ tooMany (planOf bs n t) s
+  pub state : r ≡ false → State (planOf bs n t) n base s (low + block) 0 0 0 new
+  pub kept : Kept n base old new
+
+-- what a source asks: an accepted plan, the source in it, a block size, and the sources before it done
+pub record SourceReady (bs : List ℕ) (n t base block s : ℕ) (work : List ℕ) : Type 0 where
+  pub accepted : planFault bs n t ≡ 0
+  pub source : s < n
+  pub some-block : 0 < block
+  pub room : Room n base block work
+  pub summed : (v : ℕ) → v < n → Entry (planOf bs n t) n base s v 0 work
+
+-- what a source promises: whether a count is over 2^64 - 1, and where none is, the source done too
+pub record SourceDone (bs : List ℕ) (n t base s : ℕ) (old new : List ℕ) (r : Bool) : Type 0 where
+  pub too-many : r ≡ tooMany (planOf bs n t) s
+  pub summed : r ≡ false → (v : ℕ) → v < n → Entry (planOf bs n t) n base (s + 1) v 0 new
+  pub kept : Kept n base old new
+
+-- what all sources ask: what the tallies ask, with their block and base
+pub record AllReady (bs : List ℕ) (n t base block : ℕ) (work : List ℕ) : Type 0 where
+  pub asked : Tallyable bs n t work
+  pub block-there : block ≡ blockOf n t
+  pub base-there : base ≡ tallyBase n t

@@ -1,0 +1,167 @@
+// Adds up, over all sources, every station's pairs and load. Everything lives in a lent work area: the pass's part first,
+// behind it the pairs of the stations, then their loads.
+ghost use mathlib.Core.Path.{_≡_};
+ghost use Prim.Native.Nat.{_+_, _*_, _<_, _≤_, min};
+ghost use lib.ListN.{length};
+ghost use Rattle.tallies.specs.Tally.{Tallyable, Tallied};
+ghost use Rattle.tallies.specs.Progress.{addedAt, Addable, Workable, Advanced};
+ghost use Rattle.tallies.specs.Sources.{Cleared, BlockReady, BlockDone, SourceReady, SourceDone, AllReady};
+
+// The smaller of two numbers.
+fn smaller(a: usize, b: usize) -> usize
+    ensures { λ r. ⌜ r ≡ min a b ⌝ }
+{
+    if a < b {
+        return a;
+    }
+    b
+}
+
+// Clears neighbouring entries.
+fn clear(work: &mut [u64], base: usize, size: usize)
+    requires { ⌜ base + size ≤ length (now work) ⌝ }
+    ensures { λ _. ⌜ Cleared base size (now (work .entry)) (now (work .exit)) ⌝ }
+{
+    let mut i = 0;
+    while i < size {
+        work[base + i] = 0;
+        i += 1;
+    }
+}
+
+// Adds the pair of the source worked on and z to station low + j, with its share, where some of its paths have it inside.
+fn add_pair(work: &mut [u64], n: usize, base: usize, low: usize, block: usize, z: usize, j: usize)
+    requires { ⌜ Addable n base low block z j (now work) ⌝ }
+    ensures { λ _. ⌜ now (work .exit) ≡ addedAt n base low block z j (now (work .entry)) ⌝ }
+{
+    let v = low + j;
+    if v == z {
+        return;
+    }
+    let count = work[n + z];
+    let through = count - work[4 * n + z * block + j];
+    if through == 0 {
+        return;
+    }
+    let pairs = base + v;
+    let load = base + n + v;
+    let sum = work[load] + shares::share(through, count);
+    work[pairs] = work[pairs] + 1;
+    work[load] = sum;
+}
+
+// Adds destination z to every station of the block.
+fn add_row(
+    work: &mut [u64],
+    n: usize,
+    base: usize,
+    source: usize,
+    low: usize,
+    block: usize,
+    z: usize,
+)
+    requires { ⌜ Workable n base source low block z (now work) × (z < n) ⌝ }
+    ensures { λ _. ⌜ Advanced n base source low block z (z + 1) (now (work .entry)) (now (work .exit)) ⌝ }
+{
+    if z == source {
+        return;
+    }
+    if 65535 <= work[z] {
+        return;
+    }
+    let mut j = 0;
+    while j < block {
+        add_pair(work, n, base, low, block, z, j);
+        j += 1;
+    }
+}
+
+// Adds every destination to every station of the block.
+fn add_rows(work: &mut [u64], n: usize, base: usize, source: usize, low: usize, block: usize)
+    requires { ⌜ Workable n base source low block 0 (now work) ⌝ }
+    ensures { λ _. ⌜ Advanced n base source low block 0 n (now (work .entry)) (now (work .exit)) ⌝ }
+{
+    let mut z = 0;
+    while z < n {
+        add_row(work, n, base, source, low, block, z);
+        z += 1;
+    }
+}
+
+// Works on one source with one block of stations: the pass, then every destination. True where a count is over 2^64 - 1.
+fn tally_block(
+    work: &mut [u64],
+    plan: &[u8],
+    n: usize,
+    t: usize,
+    base: usize,
+    source: usize,
+    low: usize,
+    block: usize,
+) -> bool
+    requires { ⌜ BlockReady (now plan) n t base source low block (now work) ⌝ }
+    ensures { λ r. ⌜ BlockDone (now (plan .entry)) n t base source low block (now (work .entry)) (now (work .exit)) r ⌝ }
+{
+    if counts::pass(work, plan, n, t, source, low, block) {
+        return true;
+    }
+    add_rows(work, n, base, source, low, block);
+    false
+}
+
+// Works on one source, block by block. True where a count is over 2^64 - 1.
+fn tally_source(
+    work: &mut [u64],
+    plan: &[u8],
+    n: usize,
+    t: usize,
+    base: usize,
+    block: usize,
+    source: usize,
+) -> bool
+    requires { ⌜ SourceReady (now plan) n t base block source (now work) ⌝ }
+    ensures { λ r. ⌜ SourceDone (now (plan .entry)) n t base source (now (work .entry)) (now (work .exit)) r ⌝ }
+{
+    let mut low = 0;
+    while low < n {
+        let size = smaller(block, n - low);
+        if tally_block(work, plan, n, t, base, source, low, size) {
+            return true;
+        }
+        low += size;
+    }
+    false
+}
+
+// Works on all sources, from cleared tallies on. True where a count is over 2^64 - 1.
+fn tally_sources(
+    work: &mut [u64],
+    plan: &[u8],
+    n: usize,
+    t: usize,
+    base: usize,
+    block: usize,
+) -> bool
+    requires { ⌜ AllReady (now plan) n t base block (now work) ⌝ }
+    ensures { λ r. ⌜ Tallied (now (plan .entry)) n t (now (work .entry)) (now (work .exit)) r ⌝ }
+{
+    clear(work, base, 2 * n);
+    let mut source = 0;
+    while source < n {
+        if tally_source(work, plan, n, t, base, block, source) {
+            return true;
+        }
+        source += 1;
+    }
+    false
+}
+
+// Adds up the pairs and the load of every station over all sources. True where a count is over 2^64 - 1.
+pub fn tally(work: &mut [u64], plan: &[u8], n: usize, t: usize) -> bool
+    requires { ⌜ Tallyable (now plan) n t (now work) ⌝ }
+    ensures { λ r. ⌜ Tallied (now (plan .entry)) n t (now (work .entry)) (now (work .exit)) r ⌝ }
+{
+    let block = smaller(n, 2 * t - 1);
+    let base = 4 * n + 2 * n * block;
+    tally_sources(work, plan, n, t, base, block)
+}

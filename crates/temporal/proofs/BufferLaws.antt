@@ -1,0 +1,52 @@
+-- What is written to the beginning of a buffer, as whole lists. Assumes nothing.
+use Prim.Native.Nat.{ℕ, zero, suc, _<_, _≤_}
+use native.Mathlib.Omega.{arith}
+use mathlib.Core.Path.{_≡_, refl, sym, ap, ap₂, _∙_}
+use mathlib.Core.List.{List, [], _∷_, _++_, map}
+use lib.ListN.{length, getD, take, drop, replicate, length-replicate, length-map, List·getD-map, List·getD-append, take-append-drop}
+use lib.Seq.{ext-getD, getD-take, length-take-le}
+use Rattle.temporal.specs.Lists.{below}
+use Rattle.temporal.specs.Outcome.{over}
+use Rattle.temporal.proofs.ListLaws.{length-below, getD-below}
+
+-- a list whose first k entries are new, and whose others are the old ones
+pub over-by :
+    (k : ℕ) (l new old : List ℕ) → length new ≡ k → k ≤ length l →
+    ((i : ℕ) → i < k → getD l i 0 ≡ getD new i 0) → drop k l ≡ drop k old → l ≡ over new old
+unfolding over
+over-by k l new old size fits same rest =
+    sym (take-append-drop k l) ∙
+    ap₂ _++_
+    (ext-getD 0 (take k l) new (length-take-le k l fits ∙ sym size)
+    (λ i h.
+    let inside : i < k = rw (length-take-le k l fits) at h in
+    getD-take k l i 0 inside ∙ same i inside))
+    (rest ∙ ap (λ j. drop j old) (sym size))
+
+-- a fill over lists that agree beyond it
+pub fill-beyond : (k x : ℕ) (a b : List ℕ) → drop k a ≡ drop k b → over (replicate k x) a ≡ over (replicate k x) b
+unfolding over
+fill-beyond k x a b e =
+    ap (λ l. replicate k x ++ l)
+    (ap (λ j. drop j a) (length-replicate k x) ∙ e ∙ ap (λ j. drop j b) (sym (length-replicate k x)))
+
+-- within a list the default does not count
+getD-any : (l : List ℕ) (i d e : ℕ) → i < length l → getD l i d ≡ getD l i e
+getD-any [] i d e h = absurd (omega arith)
+getD-any (x ∷ l) zero d e h = refl
+getD-any (x ∷ l) (suc i) d e h = getD-any l i d e (omega arith)
+
+-- the entries of a table that is made place by place
+pub getD-made : (f : ℕ → ℕ) (k i : ℕ) → i < k → getD (map f (below k)) i 0 ≡ f i
+getD-made f k i h =
+    getD-any (map f (below k)) i 0 (f 0) (rw (length-map (below k) f, length-below k) h) ∙
+    List·getD-map f (below k) i 0 ∙ ap f (getD-below k i 0 h)
+
+pub length-made : (f : ℕ → ℕ) (k : ℕ) → length (map f (below k)) ≡ k
+length-made f k = length-map (below k) f ∙ length-below k
+
+-- an entry of new ones written over a buffer
+pub written : (f : ℕ → ℕ) (k i : ℕ) (old : List ℕ) → i < k → getD (over (map f (below k)) old) i 0 ≡ f i
+unfolding over
+written f k i old h =
+    List·getD-append (map f (below k)) _ 0 i (rw (length-made f k) h) ∙ getD-made f k i h

@@ -1,0 +1,215 @@
+-- The walks from an appearance to a station whose first position is not before a given one, and their fewest hops as
+-- that position falls. Assumes nothing.
+use Prim.Native.Nat.{ℕ, suc, _+_, _≤_, _<_, min}
+use mathlib.Core.Path.{_≡_, refl, sym, ap, _∙_}
+use mathlib.Core.Bool.{Bool, true, false, cond}
+use mathlib.Core.List.{List, [], _∷_}
+use mathlib.Core.Logic.{_⊎_, inl, inr, ⊎-elim, by-cases}
+use mathlib.Core.Option.{none, some}
+use native.Mathlib.Decide.{decLe}
+use native.Mathlib.Omega.{arith}
+use lib.Dec.{eqb}
+use lib.ListN.{length, getElem?}
+use Rattle.temporal.specs.Plan.{Contact, Plan, Appearance, leadsTo, mayFollow}
+use Rattle.temporal.specs.Walk.{endsIn, isAt}
+use Rattle.temporal.proofs.ListLaws.{not-both}
+use Rattle.temporal.proofs.RuleLaws.{follows-later, follows-after}
+use Rattle.temporal.proofs.ShortestLaws.{Bounded}
+use Rattle.temporal.proofs.WalkLaws.{step-inv, step-intro, step-position, run-slots, run-positions}
+use Rattle.temporal.proofs.WalkLaws.{SlotsWithin, run-last-within, ends-inv, ends-nil, ends-step, ends-after}
+use Rattle.ways.specs.Home.{appearance, homeFrom}
+use Rattle.ways.proofs.FewestLaws.{Fewest, fewest-same, fewest-shortest, fewest-joined}
+
+-- walks from a slot of the plan are bounded
+pub bounded-from : (p : Plan) → SlotsWithin p → (x : Appearance) (t : Appearance → Bool) → x .slot ≤ p .slots
+    → Bounded p (endsIn p x t)
+bounded-from p g x t inside =
+    record {
+      within = λ w e.
+          let r = ends-inv p x t w e in
+          let few = run-slots p x w (r .runs) in
+          let last = run-last-within p g x w inside (r .runs) in
+          (omega arith, run-positions p x w (r .runs));
+    }
+
+-- a walk to z has a first position that is at least j, or is empty
+pub StartsFrom : ℕ → List ℕ → Type 0
+StartsFrom j [] = Unit {0}
+StartsFrom j (i ∷ w) = j ≤ i
+
+-- a walk from x to z whose first position is at least j
+pub record Ahead (p : Plan) (z j : ℕ) (x : Appearance) (w : List ℕ) : Type 0 where
+  pub ends : endsIn p x (isAt z) w ≡ true
+  pub starts : StartsFrom j w
+
+module _ (p : Plan) (z : ℕ) where
+  -- the fewest of all walks is what the table is to hold
+  pub fewest-home : SlotsWithin p → p .slots < 65535 → (x : Appearance) → x .slot ≤ p .slots
+      → Fewest (λ w. endsIn p x (isAt z) w ≡ true) (homeFrom p z x)
+  unfolding homeFrom
+  fewest-home g few x inside = fewest-shortest (bounded-from p g x (isAt z) inside) few
+
+  -- past the last position only the empty walk is left
+  pub ahead-none : (v u j : ℕ) → length (p .contacts) ≤ j
+      → Fewest (Ahead p z j (appearance v u)) (cond (eqb v z) 0 65535)
+  unfolding StartsFrom
+  ahead-none v u j past = go (eqb v z) refl
+    where
+      go : (b : Bool) → eqb v z ≡ b → Fewest (Ahead p z j (appearance v u)) (cond b 0 65535)
+      go true q =
+          record {
+            bound = omega arith;
+            least = λ w a. omega arith;
+            reached = λ h. ([], record { ends = ends-nil p (appearance v u) (isAt z) ∙ q; starts = tt }, refl);
+          }
+      go false q =
+          record { bound = omega arith; least = λ w a. absurd (nowhere w a); reached = λ h. absurd (omega arith) }
+        where
+          nowhere : (w : List ℕ) → Ahead p z j (appearance v u) w → ⊥
+          nowhere [] a = not-both (a .ends) (ends-nil p (appearance v u) (isAt z) ∙ q)
+          nowhere (i ∷ w) a =
+              let (y, steps, rest) = ends-step p (appearance v u) (isAt z) i w (a .ends) in
+              let inside = step-position p (appearance v u) i steps in
+              let from = a .starts in
+              omega arith
+
+  -- where no position before j has a contact in a later slot, all walks start from j on
+  pub ahead-all : (x : Appearance) (j h : ℕ)
+      → ((i : ℕ) (c : Contact) → i < j → getElem? (p .contacts) i ≡ some c → c .slot ≤ x .slot)
+      → Fewest (Ahead p z j x) h
+      → Fewest (λ w. endsIn p x (isAt z) w ≡ true) h
+  unfolding StartsFrom
+  ahead-all x j h before = fewest-same (λ w a. a .ends) back
+    where
+      back : (w : List ℕ) → endsIn p x (isAt z) w ≡ true → Ahead p z j x w
+      back [] e = record { ends = e; starts = tt }
+      back (i ∷ w) e = record { ends = e; starts = by-cases (decLe j i) (λ q. q) (λ q. absurd (sooner q)) }
+        where
+          sooner : (j ≤ i → ⊥) → ⊥
+          sooner q =
+              let (y, steps, rest) = ends-step p x (isAt z) i w e in
+              let s = step-inv p x i steps in
+              let later = follows-later p (x .slot) (s .contact .slot) (s .follows) in
+              let old = before i (s .contact) (omega arith) (s .at-position) in
+              omega arith
+
+  -- (turnaround) Walks that start from j on are the same from two slots of a station, where every contact from j on is
+  -- in a later slot than both.
+  ahead-moves : (v u u′ j : ℕ)
+      → ((i : ℕ) (c : Contact) → j ≤ i → getElem? (p .contacts) i ≡ some c → u′ < c .slot)
+      → (w : List ℕ)
+      → Ahead p z j (appearance v u) w
+      → Ahead p z j (appearance v u′) w
+  unfolding StartsFrom
+  ahead-moves v u u′ j later [] a =
+      record {
+        ends = ends-nil p (appearance v u′) (isAt z) ∙ sym (ends-nil p (appearance v u) (isAt z)) ∙ a .ends;
+        starts = tt;
+      }
+  ahead-moves v u u′ j later (i ∷ w) a =
+      let (y, steps, rest) = ends-step p (appearance v u) (isAt z) i w (a .ends) in
+      let s = step-inv p (appearance v u) i steps in
+      let h = later i (s .contact) (a .starts) (s .at-position) in
+      let again = step-intro p (appearance v u′) i (record {
+        contact = s .contact;
+        at-position = s .at-position;
+        same-slot = s .same-slot;
+        follows = after (s .contact .slot) h;
+        leads = s .leads;
+      }) in
+      record { ends = ends-after p (appearance v u′) (isAt z) i w again rest; starts = a .starts }
+    where
+      after : (k : ℕ) → u′ < k → mayFollow p u′ k ≡ true
+      after ℕ.zero h = absurd (omega arith)
+      after (suc k) h = follows-after p u′ k (omega arith)
+
+  -- (turnaround) So they have the same fewest.
+  pub ahead-earlier : (v u j h : ℕ)
+      → ((i : ℕ) (c : Contact) → j ≤ i → getElem? (p .contacts) i ≡ some c → suc u < c .slot)
+      → Fewest (Ahead p z j (appearance v (suc u))) h
+      → Fewest (Ahead p z j (appearance v u)) h
+  ahead-earlier v u j h later =
+      fewest-same
+      (ahead-moves v (suc u) u j (λ i c g e. let k = later i c g e in omega arith))
+      (ahead-moves v u (suc u) j later)
+
+  -- a contact at j in the slot after u
+  module _ (v u j : ℕ) (c : Contact) (there : getElem? (p .contacts) j ≡ some c) (slot : c .slot ≡ suc u) where
+    -- a later start is a start
+    weaken : (w : List ℕ) → Ahead p z (suc j) (appearance v u) w → Ahead p z j (appearance v u) w
+    unfolding StartsFrom
+    weaken [] a = record { ends = a .ends; starts = tt }
+    weaken (i ∷ w) a = record { ends = a .ends; starts = let h = a .starts in omega arith }
+
+    -- the walk starts at j or later
+    at-or-later : (w : List ℕ) → Ahead p z j (appearance v u) w
+        → Ahead p z (suc j) (appearance v u) w ⊎ ((r : List ℕ) × (w ≡ j ∷ r))
+    unfolding StartsFrom
+    at-or-later [] a = inl (record { ends = a .ends; starts = tt })
+    at-or-later (i ∷ w) a =
+        by-cases (decLe (suc j) i)
+        (λ q. inl (record { ends = a .ends; starts = q }))
+        (λ q. inr (w, let h = a .starts in ap (λ k. k ∷ w) (same (a .starts) q)))
+      where
+        same : j ≤ i → (suc j ≤ i → ⊥) → i ≡ j
+        same h q = omega arith
+
+    -- a walk that starts with the contact goes on from where it leads
+    onward : (r : List ℕ) → endsIn p (appearance v u) (isAt z) (j ∷ r) ≡ true
+        → (w : ℕ) × (leadsTo c v ≡ some w) × (endsIn p (appearance w (suc u)) (isAt z) r ≡ true)
+    onward r e =
+        let (y, steps, rest) = ends-step p (appearance v u) (isAt z) j r e in
+        let s = step-inv p (appearance v u) j steps in
+        let at = s .at-position in
+        let same : s .contact ≡ c = cc in
+        let when : y .slot ≡ suc u = s .same-slot ∙ ap (λ (d : Contact). d .slot) same ∙ slot in
+        let from = ap (λ (d : Contact). leadsTo d v) (sym same) ∙ s .leads in
+        (y .station, from, ap (λ k. endsIn p (appearance (y .station) k) (isAt z) r) (sym when) ∙ rest)
+
+    -- (turnaround) Where the contact leads to w, the fewest with it is the smaller of those without it and one more
+    -- than
+    -- w has to go.
+    pub ahead-fold : {w h l : ℕ} → leadsTo c v ≡ some w → Fewest (Ahead p z (suc j) (appearance v u)) h
+        → Fewest (λ r. endsIn p (appearance w (suc u)) (isAt z) r ≡ true) l
+        → Fewest (Ahead p z j (appearance v u)) (min h (l + 1))
+    unfolding StartsFrom
+    ahead-fold {w} leads = fewest-joined j weaken begins out
+      where
+        begins : (r : List ℕ) → endsIn p (appearance w (suc u)) (isAt z) r ≡ true → Ahead p z j (appearance v u) (j ∷ r)
+        begins r e =
+            record {
+              ends = ends-after p (appearance v u) (isAt z) j r (step-intro p (appearance v u) j (record {
+                contact = c;
+                at-position = there;
+                same-slot = sym slot;
+                follows = rw slot (follows-after p u u (omega arith));
+                leads = leads;
+              })) e;
+              starts = omega arith;
+            }
+
+        out : (r : List ℕ) → Ahead p z j (appearance v u) r
+            → Ahead p z (suc j) (appearance v u) r
+            ⊎ ((q : List ℕ) × (r ≡ j ∷ q) × (endsIn p (appearance w (suc u)) (isAt z) q ≡ true))
+        out r a = ⊎-elim inl first (at-or-later r a)
+          where
+            first : (q : List ℕ) × (r ≡ j ∷ q)
+                → Ahead p z (suc j) (appearance v u) r
+                ⊎ ((q : List ℕ) × (r ≡ j ∷ q) × (endsIn p (appearance w (suc u)) (isAt z) q ≡ true))
+            first (q, whole) =
+                let (k, to, rest) = onward q (rw whole at (a .ends)) in
+                let same : k ≡ w = cc in
+                inr (q, whole, rw same at rest)
+
+    -- where it leads nowhere from v, nothing changes
+    pub ahead-past : {h : ℕ} → leadsTo c v ≡ none → Fewest (Ahead p z (suc j) (appearance v u)) h
+        → Fewest (Ahead p z j (appearance v u)) h
+    ahead-past nowhere = fewest-same weaken back
+      where
+        back : (w : List ℕ) → Ahead p z j (appearance v u) w → Ahead p z (suc j) (appearance v u) w
+        back w a = ⊎-elim (λ b. b) first (at-or-later w a)
+          where
+            first : (q : List ℕ) × (w ≡ j ∷ q) → Ahead p z (suc j) (appearance v u) w
+            first (q, whole) =
+                let (k, to, rest) = onward q (rw whole at (a .ends)) in
+                absurd (let o : _≡_ {A = ℕ} 0 1 = cc in omega arith)

@@ -1,0 +1,200 @@
+-- What the tests on the way through the code decide: a step, a walk along a buffer, a search for a position.
+-- Assumes nothing.
+use Prim.Native.Nat.{ℕ, suc, _+_, _-_, _*_, _/_, _≤_, _<_}
+use mathlib.Core.Path.{_≡_, refl, sym, ap, _∙_}
+use mathlib.Core.Bool.{Bool, true, false}
+use mathlib.Core.List.{List, _++_}
+use mathlib.Core.Logic.{_≢_}
+use mathlib.Core.Option.{Option, none, some, Option·map, bind}
+use native.Mathlib.Omega.{arith}
+use native.Mathlib.Numerals.{add-one}
+use borrow.Author.Tests.{lt-ltb}
+use lib.Arith.{digits-lt}
+use lib.Dec.{eqb}
+use lib.ListN.{length, getD, take}
+use lib.Seq.{take-suc, take-add}
+use Rattle.temporal.specs.Plan.{Contact, Plan, Appearance, leadsTo}
+use Rattle.temporal.specs.Walk.{step, run, lastOr, holds}
+use Rattle.temporal.specs.Bytes.{contactAt, records, planOf}
+use Rattle.temporal.proofs.RuleLaws.{follows-later, follows-test, leads-from-a, leads-from-b, leads-none}
+use Rattle.temporal.proofs.Accepted.{accepted}
+use Rattle.temporal.proofs.PlanLaws.{contact-there, contact-inv, contacts-length}
+use Rattle.temporal.proofs.WalkLaws.{StepBy, step-inv, step-intro, step-position, run-append}
+use Rattle.plan.specs.declared.Contact as plan
+use Rattle.plan.specs.Record.{contactOf}
+use Rattle.ways.specs.declared.Pair.{Pair}
+use Rattle.ways.specs.declared.Spot.{Spot}
+use Rattle.ways.specs.declared.End.{End}
+use Rattle.ways.specs.declared.End.the-variants as end
+use Rattle.ways.specs.declared.Found.{Found}
+use Rattle.ways.specs.declared.Found.the-variants as found
+use Rattle.ways.specs.Prefix.{endAfter}
+use Rattle.ways.specs.Found.{spotOf, endOf, foundOf, planIn, servesAt, firstFrom, Searchable}
+use Rattle.ways.proofs.SearchLaws.{search-finds, search-passes, search-ends}
+use Rattle.ways.proofs.PrefixLaws.{end-nil, end-snoc, step-inside}
+
+-- an option without a value is none
+no-value : {A : Type 0} (o : Option A) → ((a : A) → o ≡ some a → ⊥) → none ≡ o
+no-value none n = refl
+no-value (some a) n = absurd (n a refl)
+
+-- ---- a step
+
+module _ (bs : List ℕ) (n t : ℕ) (x : Appearance) (i : ℕ) where
+  -- there is no such record
+  pub step-past : length bs / 6 ≤ i → none ≡ step (planOf bs n t) x i
+  unfolding records
+  step-past h =
+      no-value _ (λ y e.
+      let inside = step-position (planOf bs n t) x i e in
+      let size = contacts-length bs n t in
+      omega arith)
+
+  module _ (r : plan.Contact) (read : contactOf r ≡ contactAt bs i) (there : i < length bs / 6) where
+    -- the contact of a step is the record that was read
+    contact-read : {y : Appearance} (s : StepBy (planOf bs n t) x i y) → s .contact ≡ contactOf r
+    contact-read s = sym (contact-inv bs n t i (s .contact) (s .at-position) .1) ∙ sym read
+
+    -- the record's slot is not later
+    pub step-early : r .slot ≤ x .slot → none ≡ step (planOf bs n t) x i
+    step-early h =
+        no-value _ (λ y e.
+        let s = step-inv (planOf bs n t) x i e in
+        let later = follows-later (planOf bs n t) (x .slot) (s .contact .slot) (s .follows) in
+        let same = ap (λ (c : Contact). c .slot) (contact-read s) in
+        omega arith)
+
+    -- (turnaround) the record leads on to w
+    step-to : (w : ℕ) → x .slot < r .slot → leadsTo (contactOf r) (x .station) ≡ some w
+        → some (record { station = w; slot = r .slot }) ≡ step (planOf bs n t) x i
+    unfolding records
+    step-to w later leads =
+        sym (step-intro (planOf bs n t) x i (record {
+          contact = contactOf r;
+          at-position = contact-there bs n t i there ∙ ap some (sym read);
+          same-slot = refl;
+          follows = follows-test (planOf bs n t) (x .slot) (r .slot) ∙ lt-ltb (x .slot) (r .slot) later;
+          leads = leads;
+        }))
+
+    -- from a to b
+    pub step-from-a : x .slot < r .slot → x .station ≡ r .a
+        → some (record { station = r .b; slot = r .slot }) ≡ step (planOf bs n t) x i
+    step-from-a later at = step-to (r .b) later (ap (leadsTo (contactOf r)) at ∙ leads-from-a (contactOf r))
+
+    -- (both ways) from b to a
+    pub step-from-b : x .slot < r .slot → x .station ≡ r .b
+        → some (record { station = r .a; slot = r .slot }) ≡ step (planOf bs n t) x i
+    step-from-b later at = step-to (r .a) later (ap (leadsTo (contactOf r)) at ∙ leads-from-b (contactOf r))
+
+    -- from no other station
+    pub step-from-none : x .station ≢ r .a → x .station ≢ r .b → none ≡ step (planOf bs n t) x i
+    step-from-none not-a not-b =
+        no-value _ (λ y e.
+        let s = step-inv (planOf bs n t) x i e in
+        let leads = ap (λ (c : Contact). leadsTo c (x .station)) (sym (contact-read s)) ∙ s .leads in
+        let nowhere = leads-none (contactOf r) (x .station) not-a not-b in
+        let z : _≡_ {A = ℕ} 0 1 = cc in
+        omega arith)
+
+-- ---- a walk along a buffer
+
+-- where a beginning leads nowhere, so does the whole
+end-off : (p : Plan) (x : Appearance) (u w : List ℕ) → endAfter p x u ≡ none → endAfter p x (u ++ w) ≡ none
+unfolding endAfter bind
+end-off p x u w e = rw run-append (go (run p x u) e)
+  where
+    go : (o : Option (List Appearance)) → Option·map (lastOr x) o ≡ none
+        → Option·map (lastOr x) (bind o (λ l. Option·map (_++_ l) (run p (lastOr x l) w))) ≡ none
+    go none e = refl
+    go (some l) e = absurd (let z : _≡_ {A = ℕ} 0 1 = cc in omega arith)
+
+-- the first i of k entries lead from x₀ to x
+pub record Walking (bs way : List ℕ) (x₀ : Spot) (k i : ℕ) (x : Spot) : Type 0 where
+  pub within : i ≤ k
+  pub there : (n t : ℕ) → endAfter (planOf bs n t) (spotOf x₀) (take i way) ≡ some (spotOf x)
+
+module _ (bs way : List ℕ) (x₀ : Spot) (k : ℕ) where
+  -- no entry leads to where it began
+  pub walking-none : Walking bs way x₀ k 0 x₀
+  walking-none = record { within = omega arith; there = λ n t. end-nil (planOf bs n t) (spotOf x₀) }
+
+  module _ (i : ℕ) (x : Spot) (s : Walking bs way x₀ k i x) (more : i < k) (room : k ≤ length way) (r : End) (j : ℕ)
+      (entry : j ≡ getD way i 0) (answer : (n t : ℕ) → endOf r ≡ step (planOf bs n t) (spotOf x) j) where
+    -- one entry more
+    one-more : (n t : ℕ) → endAfter (planOf bs n t) (spotOf x₀) (take (suc i) way) ≡ endOf r
+    unfolding bind
+    one-more n t =
+        ap (endAfter (planOf bs n t) (spotOf x₀)) (take-suc way i 0 (omega arith))
+        ∙ end-snoc (planOf bs n t) (spotOf x₀) (take i way) (getD way i 0)
+        ∙ rw (s .there n t) (rw (← entry) (sym (answer n t)))
+
+    -- an entry that leads on
+    pub walking-more : (y : Spot) → r ≡ end.At y → Walking bs way x₀ k (i + 1) y
+    unfolding endOf
+    walking-more y e =
+        record { within = omega arith; there = λ n t. rw add-one (one-more n t ∙ ap endOf e) }
+
+    -- an entry that leads nowhere: so do all k
+    pub walking-off : r ≡ end.Nowhere → (n t : ℕ)
+        → endOf end.Nowhere ≡ endAfter (planOf bs n t) (spotOf x₀) (take k way)
+    unfolding endOf
+    walking-off e n t =
+        let whole : k ≡ suc i + (k - suc i) = omega arith in
+        sym (ap (λ m. endAfter (planOf bs n t) (spotOf x₀) (take m way)) whole
+        ∙ ap (endAfter (planOf bs n t) (spotOf x₀)) (take-add (suc i) (k - suc i) way)
+        ∙ end-off (planOf bs n t) (spotOf x₀) (take (suc i) way) _ (one-more n t ∙ ap endOf e))
+
+  -- no entry is left
+  pub walking-end : (i : ℕ) (x : Spot) → Walking bs way x₀ k i x → k ≤ i
+      → (n t : ℕ) → endOf (end.At x) ≡ endAfter (planOf bs n t) (spotOf x₀) (take k way)
+  unfolding endOf
+  walking-end i x s past n t =
+      let whole : i ≡ k = let h = s .within in omega arith in
+      sym (ap (λ m. endAfter (planOf bs n t) (spotOf x₀) (take m way)) (sym whole) ∙ s .there n t)
+
+-- ---- a position that serves
+
+module _ (bs : List ℕ) (q : Pair) (l : List ℕ) (x : Spot) (need i : ℕ) (r : End)
+    (answer : (n t : ℕ) → endOf r ≡ step (planOf bs n t) (spotOf x) i) where
+  -- a position that leads nowhere does not serve
+  pub serves-nowhere : r ≡ end.Nowhere → false ≡ servesAt (planIn bs q) l (q .slots + 1) (spotOf x) need i
+  unfolding servesAt holds endOf
+  serves-nowhere e = rw (← answer (q .stations) (q .slots), e)
+
+  module _ (y : Spot) (e : r ≡ end.At y) where
+    -- one that leads to y serves where the entry of y is the number
+    pub serves-there :
+        eqb (getD l (y .station * (q .slots + 1) + y .slot) 0) need
+        ≡ servesAt (planIn bs q) l (q .slots + 1) (spotOf x) need i
+    unfolding servesAt holds endOf
+    serves-there = rw (← answer (q .stations) (q .slots), e)
+
+    -- its entry lies within the table
+    pub serves-room : Searchable bs q l → y .station * (q .slots + 1) + y .slot < length l
+    unfolding endOf
+    serves-room s =
+        let steps : step (planIn bs q) (spotOf x) i ≡ some (spotOf y) =
+        sym (answer (q .stations) (q .slots)) ∙ ap endOf e in
+        let (station, slot) = step-inside bs (q .stations) (q .slots) (s .accepted) (spotOf x) i steps in
+        let place : y .station * (q .slots + 1) + y .slot < q .stations * (q .slots + 1) =
+        digits-lt station (omega arith) in
+        let fits = s .table .fits in
+        omega arith
+
+-- ---- a search
+
+module _ (bs : List ℕ) (f : ℕ → Bool) (from i m : ℕ) (rest : firstFrom f from (m - from) ≡ firstFrom f i (m - i)) where
+  -- a position that does not serve is passed over
+  pub search-on : i < m → f i ≡ false → firstFrom f from (m - from) ≡ firstFrom f (i + 1) (m - (i + 1))
+  search-on h e = rest ∙ search-passes f i m h e
+
+  -- no position is left
+  pub search-nothing : m ≡ length bs / 6 → m ≤ i → foundOf found.Nothing ≡ firstFrom f from (records bs - from)
+  unfolding foundOf records
+  search-nothing size h = rw (← size) (sym (rest ∙ search-ends f i m h))
+
+  -- a position that serves is found
+  pub search-here : m ≡ length bs / 6 → i < m → f i ≡ true → foundOf (found.At i) ≡ firstFrom f from (records bs - from)
+  unfolding foundOf records
+  search-here size h e = rw (← size) (sym (rest ∙ search-finds f i m h e))

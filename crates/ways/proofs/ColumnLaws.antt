@@ -1,0 +1,253 @@
+-- Entries of the completion table by station and slot, and what lowering, folding and copying leave at each.
+-- Assumes nothing.
+use Prim.Native.Nat.{ℕ, zero, suc, _+_, _-_, _*_, _/_, _%_, _<_, _≤_, min}
+use native.Mathlib.Omega.{arith}
+use native.Mathlib.Decide.{ℕ-discrete}
+use mathlib.Core.Path.{_≡_, refl, sym, ap, subst, _∙_}
+use mathlib.Core.List.{List}
+use mathlib.Core.Logic.{by-cases, _≢_}
+use lib.Arith.{digits-lt, digits-div, digits-mod}
+use lib.ListN.{length, getD, set, drop, length-set}
+use lib.Seq.{getD-set-same, getD-set-other, drop-set-lt, set-getD}
+use Rattle.temporal.specs.Plan.{Contact}
+use Rattle.temporal.specs.Bytes.{contactAt}
+use Rattle.plan.specs.declared.Contact as plan
+use Rattle.plan.specs.Record.{contactOf}
+use Rattle.ways.specs.Column.{lowered, foldedBack, copiedFrom, FoldableBack}
+
+-- an entry of n stations lies within a list that has room for them
+pub place-below : {v u n width size : ℕ} → v < n → u < width → n * width ≤ size → v * width + u < size
+place-below h k fits = let spot = digits-lt h k in omega arith
+
+-- two places are one only for one station and one slot
+place-same : (v u v′ u′ width : ℕ) → u < width → u′ < width → v * width + u ≡ v′ * width + u′ → (v ≡ v′) × (u ≡ u′)
+place-same v u v′ u′ width h h′ e = (
+  sym (digits-div v h) ∙ ap (λ k. k / width) e ∙ digits-div v′ h′,
+  sym (digits-mod v h) ∙ ap (λ k. k % width) e ∙ digits-mod v′ h′,
+)
+
+-- places of different stations are apart
+pub station-apart : (v u v′ u′ width : ℕ) → u < width → u′ < width → v ≢ v′ → v * width + u ≢ v′ * width + u′
+station-apart v u v′ u′ width h h′ n e = n (place-same v u v′ u′ width h h′ e .0)
+
+-- places of different slots are apart
+slot-apart : (v u v′ u′ width : ℕ) → u < width → u′ < width → u ≢ u′ → v * width + u ≢ v′ * width + u′
+slot-apart v u v′ u′ width h h′ n e = n (place-same v u v′ u′ width h h′ e .1)
+
+-- ---- an entry is lowered
+
+-- what lowering leaves: at the place, elsewhere, in length, and behind
+lowered-there : (l : List ℕ) (at from : ℕ) → at < length l
+    → getD (lowered l at from) at 0 ≡ min (getD l at 0) (getD l from 0 + 1)
+unfolding lowered
+lowered-there l at from h = getD-set-same l at (min (getD l at 0) (getD l from 0 + 1)) 0 h
+
+lowered-other : (l : List ℕ) (at from k : ℕ) → k ≢ at → getD (lowered l at from) k 0 ≡ getD l k 0
+unfolding lowered
+lowered-other l at from k n = getD-set-other l at k (min (getD l at 0) (getD l from 0 + 1)) 0 n
+
+pub lowered-length : (l : List ℕ) (at from : ℕ) → length (lowered l at from) ≡ length l
+unfolding lowered
+lowered-length l at from = length-set l at (min (getD l at 0) (getD l from 0 + 1))
+
+lowered-beyond : (l : List ℕ) (at from k : ℕ) → at < k → drop k (lowered l at from) ≡ drop k l
+unfolding lowered
+lowered-beyond l at from k h = drop-set-lt k l at (min (getD l at 0) (getD l from 0 + 1)) h
+
+-- one more than another entry takes the place of an entry where it is less
+pub lowered-less : (l : List ℕ) (at from : ℕ) → getD l from 0 < getD l at 0
+    → set l at (getD l from 0 + 1) ≡ lowered l at from
+unfolding lowered
+lowered-less l at from h =
+    let less : getD l from 0 + 1 ≡ min (getD l at 0) (getD l from 0 + 1) = omega arith in
+    ap (set l at) less
+
+-- and is left where it is not
+pub lowered-more : (l : List ℕ) (at from : ℕ) → getD l at 0 ≤ getD l from 0 → l ≡ lowered l at from
+unfolding lowered
+lowered-more l at from h =
+    let kept : getD l at 0 ≡ min (getD l at 0) (getD l from 0 + 1) = omega arith in
+    sym (set-getD l at 0) ∙ ap (set l at) kept
+
+-- ---- a contact is folded in
+
+-- the entries of the record that was read lie within the list
+pub read-room : (bs : List ℕ) (width u j : ℕ) (l : List ℕ) (r : plan.Contact) → FoldableBack bs width u j l
+    → contactOf r ≡ contactAt bs j
+    → (r .a * width + u + 1 < length l) × (r .b * width + u + 1 < length l)
+read-room bs width u j l r f e = (
+  subst (λ (c : Contact). c .a * width + u + 1 < length l) (sym e) (f .a-entry),
+  subst (λ (c : Contact). c .b * width + u + 1 < length l) (sym e) (f .b-entry),
+)
+
+-- to lower twice, over the record that was read, is to fold it in
+pub folded-twice : (bs : List ℕ) (width u j : ℕ) (l first second : List ℕ) (r : plan.Contact)
+    → contactOf r ≡ contactAt bs j
+    → first ≡ lowered l (r .a * width + u) (r .b * width + u + 1)
+    → second ≡ lowered first (r .b * width + u) (r .a * width + u + 1)
+    → second ≡ foldedBack width u (contactAt bs j) l
+unfolding foldedBack
+folded-twice bs width u j l first second r e one two =
+    two ∙ ap (λ x. lowered x (r .b * width + u) (r .a * width + u + 1)) one ∙ ap (λ c. foldedBack width u c l) e
+
+module _ (n width u : ℕ) (c : Contact) (l : List ℕ)
+    (column : u + 1 < width) (ends : c .a < c .b) (station : c .b < n) (fits : n * width ≤ length l) where
+  one : List ℕ
+  one = lowered l (c .a * width + u) (c .b * width + u + 1)
+
+  -- the length and what lies past the table stay
+  pub folded-length : length (foldedBack width u c l) ≡ length l
+  unfolding foldedBack
+  folded-length = rw lowered-length (lowered-length l (c .a * width + u) (c .b * width + u + 1))
+
+  -- entries of other slots stay
+  pub folded-slot : (v x : ℕ) → x < width → x ≢ u
+      → getD (foldedBack width u c l) (v * width + x) 0 ≡ getD l (v * width + x) 0
+  unfolding foldedBack
+  folded-slot v x h n =
+      lowered-other _ (c .b * width + u) (c .a * width + u + 1) (v * width + x)
+      (slot-apart v x (c .b) u width h (omega arith) n)
+      ∙ lowered-other l (c .a * width + u) (c .b * width + u + 1) (v * width + x)
+      (slot-apart v x (c .a) u width h (omega arith) n)
+
+  -- entries of other stations stay
+  pub folded-station : (v : ℕ) → v ≢ c .a → v ≢ c .b
+      → getD (foldedBack width u c l) (v * width + u) 0 ≡ getD l (v * width + u) 0
+  unfolding foldedBack
+  folded-station v not-a not-b =
+      lowered-other _ (c .b * width + u) (c .a * width + u + 1) (v * width + u)
+      (station-apart v u (c .b) u width (omega arith) (omega arith) not-b)
+      ∙ lowered-other l (c .a * width + u) (c .b * width + u + 1) (v * width + u)
+      (station-apart v u (c .a) u width (omega arith) (omega arith) not-a)
+
+  -- the entry of a is lowered by that of b
+  pub folded-a : getD (foldedBack width u c l) (c .a * width + u) 0
+      ≡ min (getD l (c .a * width + u) 0) (getD l (c .b * width + (u + 1)) 0 + 1)
+  unfolding foldedBack
+  folded-a =
+      let later : c .b * width + (u + 1) ≡ c .b * width + u + 1 = omega arith in
+      lowered-other _ (c .b * width + u) (c .a * width + u + 1) (c .a * width + u)
+      (station-apart (c .a) u (c .b) u width (omega arith) (omega arith) (omega arith))
+      ∙ lowered-there l (c .a * width + u) (c .b * width + u + 1)
+      (place-below {v = c .a} {u = u} {n = n} {width = width} (omega arith) (omega arith) fits)
+      ∙ rw later
+
+  -- (both ways) the entry of b is lowered by that of a
+  pub folded-b : getD (foldedBack width u c l) (c .b * width + u) 0
+      ≡ min (getD l (c .b * width + u) 0) (getD l (c .a * width + (u + 1)) 0 + 1)
+  unfolding foldedBack one
+  folded-b =
+      let later : c .a * width + u + 1 ≡ c .a * width + (u + 1) = omega arith in
+      let room : c .b * width + u < length one =
+      rw lowered-length (place-below {v = c .b} {u = u} {n = n} {width = width} station (omega arith) fits) in
+      let here : getD one (c .b * width + u) 0 ≡ getD l (c .b * width + u) 0 =
+      lowered-other l (c .a * width + u) (c .b * width + u + 1) (c .b * width + u)
+      (station-apart (c .b) u (c .a) u width (omega arith) (omega arith) (omega arith)) in
+      let next : getD one (c .a * width + (u + 1)) 0 ≡ getD l (c .a * width + (u + 1)) 0 =
+      lowered-other l (c .a * width + u) (c .b * width + u + 1) (c .a * width + (u + 1))
+      (slot-apart (c .a) (u + 1) (c .a) u width column (omega arith) (omega arith)) in
+      lowered-there one (c .b * width + u) (c .a * width + u + 1) room
+      ∙ ap (λ k. min (getD one (c .b * width + u) 0) (getD one k 0 + 1)) later
+      ∙ rw (here, next)
+
+  pub folded-beyond : drop (n * width) (foldedBack width u c l) ≡ drop (n * width) l
+  unfolding foldedBack
+  folded-beyond =
+      lowered-beyond _ (c .b * width + u) (c .a * width + u + 1) (n * width) (digits-lt station (omega arith))
+      ∙ lowered-beyond l (c .a * width + u) (c .b * width + u + 1) (n * width) (digits-lt (omega arith) (omega arith))
+
+-- ---- a column is copied
+
+module _ (n width u : ℕ) (column : u + 1 < width) where
+  -- the length stays
+  pub copied-length : (l : List ℕ) (v k : ℕ) → length (copiedFrom width u l v k) ≡ length l
+  unfolding copiedFrom
+  copied-length l v zero = refl
+  copied-length l v (suc k) =
+      copied-length (set l (v * width + u) (getD l (v * width + u + 1) 0)) (v + 1) k
+      ∙ length-set l (v * width + u) (getD l (v * width + u + 1) 0)
+
+  -- entries of other slots stay
+  pub copied-slot : (l : List ℕ) (v k x y : ℕ) → y < width → y ≢ u
+      → getD (copiedFrom width u l v k) (x * width + y) 0 ≡ getD l (x * width + y) 0
+  unfolding copiedFrom
+  copied-slot l v zero x y h n = refl
+  copied-slot l v (suc k) x y h n =
+      copied-slot (set l (v * width + u) (getD l (v * width + u + 1) 0)) (v + 1) k x y h n
+      ∙ getD-set-other l (v * width + u) (x * width + y) (getD l (v * width + u + 1) 0) 0
+      (slot-apart x y v u width h (omega arith) n)
+
+  -- entries of the stations before stay
+  copied-before : (l : List ℕ) (v k x : ℕ) → x < v
+      → getD (copiedFrom width u l v k) (x * width + u) 0 ≡ getD l (x * width + u) 0
+  unfolding copiedFrom
+  copied-before l v zero x h = refl
+  copied-before l v (suc k) x h =
+      copied-before (set l (v * width + u) (getD l (v * width + u + 1) 0)) (v + 1) k x (omega arith)
+      ∙ getD-set-other l (v * width + u) (x * width + u) (getD l (v * width + u + 1) 0) 0
+      (station-apart x u v u width (omega arith) (omega arith) (omega arith))
+
+  -- the others are the next slot's
+  pub copied-station : (l : List ℕ) (v k x : ℕ) → n * width ≤ length l → v ≤ x → x < v + k → v + k ≤ n
+      → getD (copiedFrom width u l v k) (x * width + u) 0 ≡ getD l (x * width + (u + 1)) 0
+  unfolding copiedFrom
+  copied-station l v zero x fits low high within = absurd (omega arith)
+  copied-station l v (suc k) x fits low high within =
+      by-cases (ℕ-discrete x v) here
+      (λ n.
+      copied-station set-one (v + 1) k x (rw length-set fits) (omega arith) (omega arith) (omega arith)
+      ∙ getD-set-other l (v * width + u) (x * width + (u + 1)) (getD l (v * width + u + 1) 0) 0
+      (slot-apart x (u + 1) v u width column (omega arith) (omega arith)))
+    where
+      set-one : List ℕ
+      set-one = set l (v * width + u) (getD l (v * width + u + 1) 0)
+
+      here : x ≡ v → getD (copiedFrom width u set-one (v + 1) k) (x * width + u) 0 ≡ getD l (x * width + (u + 1)) 0
+      here e =
+          let next : v * width + u + 1 ≡ v * width + (u + 1) = omega arith in
+          rw e (
+          copied-before set-one (v + 1) k v (omega arith)
+          ∙ getD-set-same l (v * width + u) (getD l (v * width + u + 1) 0) 0
+          (place-below {v = v} {u = u} {n = n} {width = width} (omega arith) (omega arith) fits)
+          ∙ ap (λ i. getD l i 0) next)
+
+  -- what lies past the table stays
+  pub copied-beyond : (l : List ℕ) (v k : ℕ) → v + k ≤ n
+      → drop (n * width) (copiedFrom width u l v k) ≡ drop (n * width) l
+  unfolding copiedFrom
+  copied-beyond l v zero within = refl
+  copied-beyond l v (suc k) within =
+      copied-beyond (set l (v * width + u) (getD l (v * width + u + 1) 0)) (v + 1) k (omega arith)
+      ∙ drop-set-lt (n * width) l (v * width + u) (getD l (v * width + u + 1) 0) (digits-lt (omega arith) (omega arith))
+
+-- the stations below v of n are copied
+pub record Copying (width u n : ℕ) (old : List ℕ) (v : ℕ) (now : List ℕ) : Type 0 where
+  pub within : v ≤ n
+  pub same : length now ≡ length old
+  pub rest : copiedFrom width u now v (n - v) ≡ copiedFrom width u old 0 n
+
+module _ (width u n : ℕ) (old : List ℕ) where
+  -- none is copied
+  pub copying-none : Copying width u n old 0 old
+  copying-none =
+      let all : n - 0 ≡ n = omega arith in
+      record { within = omega arith; same = refl; rest = ap (copiedFrom width u old 0) all }
+
+  -- one more
+  pub copying-more : (v : ℕ) (now : List ℕ) → v < n → Copying width u n old v now
+      → Copying width u n old (v + 1) (set now (v * width + u) (getD now (v * width + u + 1) 0))
+  unfolding copiedFrom
+  copying-more v now h s =
+      let more : n - v ≡ suc (n - (v + 1)) = omega arith in
+      record {
+        within = omega arith;
+        same = length-set now (v * width + u) (getD now (v * width + u + 1) 0) ∙ s .same;
+        rest = sym (ap (copiedFrom width u now v) more) ∙ s .rest;
+      }
+
+  -- all are
+  pub copying-all : (v : ℕ) (now : List ℕ) → n ≤ v → Copying width u n old v now → now ≡ copiedFrom width u old 0 n
+  unfolding copiedFrom
+  copying-all v now h s =
+      let none : n - v ≡ 0 = omega arith in
+      sym (ap (copiedFrom width u now v) none) ∙ s .rest

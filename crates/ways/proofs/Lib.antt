@@ -1,0 +1,14 @@
+-- What follows of the beginnings of shortest paths.
+pub mod PrefixLaws
+-- the completion table: fewest hops, walks from a position on, the table's columns, the pass
+mod FewestLaws
+mod AheadLaws
+mod ColumnLaws
+mod PassLaws
+mod LoopLaws
+-- the order of lists, searches, buffers, and what the code's tests decide
+mod OrderLaws
+mod SearchLaws
+mod ListingLaws
+mod CodeLaws
+mod AdvanceLaws

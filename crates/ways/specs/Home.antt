@@ -1,0 +1,40 @@
+-- The completion table: for each appearance the fewest hops of a walk from it to a destination. Definitions only.
+-- Assumes nothing.
+use Prim.Native.Nat.{ℕ, _+_, _*_, _<_, _≤_}
+use mathlib.Core.Path.{_≡_}
+use mathlib.Core.List.{List}
+use lib.ListN.{length, getD, drop}
+use Rattle.temporal.specs.Plan.{Plan, Appearance}
+use Rattle.temporal.specs.Walk.{endsIn, isAt}
+use Rattle.temporal.specs.Shortest.{shortest, hops}
+use Rattle.temporal.specs.Bytes.{planOf}
+use Rattle.temporal.specs.Cause.{planFault}
+
+-- the appearance of station v in slot u
+abbrev pub appearance : ℕ → ℕ → Appearance
+appearance v u = record { station = v; slot = u }
+
+-- the fewest hops of a walk from an appearance to station z; 65535 where there is none
+unfoldable pub homeFrom : Plan → ℕ → Appearance → ℕ
+homeFrom p z x = hops (shortest p (endsIn p x (isAt z)))
+
+-- the same for the appearance of station v in slot u
+abbrev pub homeHops : Plan → ℕ → ℕ → ℕ → ℕ
+homeHops p z v u = homeFrom p z (appearance v u)
+
+-- a table whose entry at place v (T + 1) + u is what the appearance (v, u) has to go
+pub record Table (bs : List ℕ) (n t z : ℕ) (l : List ℕ) : Type 0 where
+  pub fits : n * (t + 1) ≤ length l
+  pub entry : (v u : ℕ) → v < n → u < t + 1 → getD l (v * (t + 1) + u) 0 ≡ homeHops (planOf bs n t) z v u
+
+-- what filling the table asks: an accepted plan, a destination in it, and room
+pub record Completable (bs : List ℕ) (n t z : ℕ) (l : List ℕ) : Type 0 where
+  pub accepted : planFault bs n t ≡ 0
+  pub destination : z < n
+  pub fits : n * (t + 1) ≤ length l
+
+-- the table is filled, and the entries past it and the length are kept
+pub record Completed (bs : List ℕ) (n t z : ℕ) (old new : List ℕ) : Type 0 where
+  pub table : Table bs n t z new
+  pub beyond : drop (n * (t + 1)) new ≡ drop (n * (t + 1)) old
+  pub same : length new ≡ length old

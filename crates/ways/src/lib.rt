@@ -1,0 +1,337 @@
+// The completion table, and the shortest paths of a pair in lexicographic order: the first one, whether a buffer begins
+// with one, and the one after it. None of these is an operation: a caller has excluded every cause of refusal before.
+ghost use mathlib.Core.Path.{_≡_};
+ghost use mathlib.Core.List.{[]};
+ghost use Prim.Native.Nat.{ℕ, _+_, _-_, _*_, _<_, _≤_};
+ghost use lib.ListN.{length, getD, set, take, replicate};
+ghost use Rattle.temporal.specs.Plan.{start};
+ghost use Rattle.temporal.specs.Walk.{step};
+ghost use Rattle.temporal.specs.Bytes.{contactAt, records, planOf};
+ghost use Rattle.temporal.specs.Outcome.{over};
+ghost use Rattle.ways.specs.Home.{Completable, Completed};
+ghost use Rattle.ways.specs.Column.{
+  lowered,
+  foldedBack,
+  copiedFrom,
+  begunBack,
+  lastInSlot,
+  turnedBack,
+  FoldableBack,
+  TurnableBack,
+};
+ghost use Rattle.ways.specs.Prefix.{endAfter, Advanced};
+ghost use Rattle.ways.specs.Found.{
+  spotOf,
+  endOf,
+  foundOf,
+  planIn,
+  listIn,
+  begins,
+  servesAt,
+  firstFrom,
+  foundAt,
+  Placed,
+  putAt,
+  isOffered,
+  Searchable,
+  Placeable,
+  Listable,
+  Startable,
+  Advancable,
+  Continuable,
+  Stepped,
+};
+
+// What a listing is about: the numbers of an accepted plan, a pair of its stations, and the pair's hops.
+pub struct Pair {
+    pub stations: usize,
+    pub slots: usize,
+    pub source: usize,
+    pub destination: usize,
+    pub hops: usize,
+}
+
+// An appearance: a station, reached in a slot.
+pub struct Spot {
+    pub station: usize,
+    pub slot: usize,
+}
+
+// Where positions lead.
+pub enum End {
+    At(Spot),
+    Nowhere,
+}
+
+// What a search for a position yields.
+pub enum Found {
+    At(usize),
+    Nothing,
+}
+
+// Lowers the entry at a place to one more than another entry, where that is less.
+fn lower(work: &mut [u64], at: usize, from: usize)
+    requires { ⌜ (at < length (now work)) × (from < length (now work)) ⌝ }
+    ensures { λ _. ⌜ now (work .exit) ≡ lowered (now (work .entry)) at from ⌝ }
+{
+    let h = work[from];
+    if h < work[at] {
+        work[at] = h + 1;
+    }
+}
+
+// Folds the record at j into column u, both ways.
+fn fold_back(work: &mut [u64], plan: &[u8], width: usize, u: usize, j: usize)
+    requires { ⌜ FoldableBack (now plan) width u j (now work) ⌝ }
+    ensures { λ _. ⌜ now (work .exit) ≡ foldedBack width u (contactAt (now (plan .entry)) j) (now (work .entry)) ⌝ }
+{
+    let c = plan::contact_at(plan, j);
+    let a = c.a * width + u;
+    let b = c.b * width + u;
+    lower(work, a, b + 1);
+    lower(work, b, a + 1);
+}
+
+// Copies the entry after a place to it.
+fn copy_entry(work: &mut [u64], at: usize)
+    requires { ⌜ at + 1 < length (now work) ⌝ }
+    ensures { λ _. ⌜ now (work .exit) ≡ set (now (work .entry)) at (getD (now (work .entry)) (at + 1) 0) ⌝ }
+{
+    work[at] = work[at + 1];
+}
+
+// Copies the column after u to column u.
+fn copy_column(work: &mut [u64], n: usize, width: usize, u: usize)
+    requires { ⌜ (n * width ≤ length (now work)) × (u + 1 < width) ⌝ }
+    ensures { λ _. ⌜ now (work .exit) ≡ copiedFrom width u (now (work .entry)) 0 n ⌝ }
+{
+    let mut v = 0;
+    while v < n {
+        copy_entry(work, v * width + u);
+        v += 1;
+    }
+}
+
+// Writes one number to the first k entries.
+fn fill(table: &mut [u64], k: usize, x: u64)
+    requires { ⌜ k ≤ length (now table) ⌝ }
+    ensures { λ _. ⌜ now (table .exit) ≡ over (replicate k x) (now (table .entry)) ⌝ }
+{
+    let mut i = 0;
+    while i < k {
+        table[i] = x;
+        i += 1;
+    }
+}
+
+// Clears the table, and puts the empty walk of the destination into the last slot.
+fn begin_back(work: &mut [u64], n: usize, width: usize, t: usize, z: usize)
+    requires { ⌜ (n * width ≤ length (now work)) × (t < width) × (z < n) ⌝ }
+    ensures { λ _. ⌜ now (work .exit) ≡ begunBack n width t z (now (work .entry)) ⌝ }
+{
+    fill(work, n * width, 65535);
+    let home = z * width + t;
+    work[home] = 0;
+}
+
+// Whether there is a record before position j and the last of them lies in slot u.
+fn last_in_slot(plan: &[u8], j: usize, u: usize) -> bool
+    requires { ⌜ j * 6 ≤ length (now plan) ⌝ }
+    ensures { λ r. ⌜ r ≡ lastInSlot (now (plan .entry)) j u ⌝ }
+{
+    if 0 < j {
+        let c = plan::contact_at(plan, j - 1);
+        c.slot == u
+    } else {
+        false
+    }
+}
+
+// One turn of the pass in column u: folds the last record before j in where it lies in the next slot, and else goes on to
+// the column before. True where it folded.
+fn turn_back(work: &mut [u64], plan: &[u8], n: usize, width: usize, u: usize, j: usize) -> bool
+    requires { ⌜ TurnableBack (now plan) n width u j (now work) ⌝ }
+    ensures { λ r. ⌜ (r ≡ lastInSlot (now (plan .entry)) j (u + 1)) × (now (work .exit) ≡ turnedBack (now (plan .entry)) n width u j (now (work .entry))) ⌝ }
+{
+    if last_in_slot(plan, j, u + 1) {
+        fold_back(work, plan, width, u, j - 1);
+        return true;
+    }
+    copy_column(work, n, width, u - 1);
+    false
+}
+
+// Fills the completion table of destination z: one pass back over the slots and the records.
+pub fn complete(work: &mut [u64], plan: &[u8], n: usize, t: usize, z: usize)
+    requires { ⌜ Completable (now plan) n t z (now work) ⌝ }
+    ensures { λ _. ⌜ Completed (now (plan .entry)) n t z (now (work .entry)) (now (work .exit)) ⌝ }
+{
+    let width = t + 1;
+    begin_back(work, n, width, t, z);
+    let mut u = t;
+    let mut j = plan.len() / 6;
+    while 0 < u + j {
+        if turn_back(work, plan, n, width, u, j) {
+            j -= 1;
+        } else {
+            u -= 1;
+        }
+    }
+}
+
+// A 16-bit entry as a number.
+fn wide(x: u16) -> usize
+    ensures { λ r. ⌜ (r ≡ x) × (r < 65536) ⌝ }
+{
+    x as usize
+}
+
+// Where position i leads from an appearance. A position that is no record leads nowhere.
+fn step_on(plan: &[u8], x: Spot, i: usize) -> End
+    ensures { λ r. ⌜ ((n t : ℕ) → endOf r ≡ step (planOf (now (plan .entry)) n t) (spotOf x) i) ⌝ }
+{
+    if plan.len() / 6 <= i {
+        return End::Nowhere;
+    }
+    let c = plan::contact_at(plan, i);
+    if c.slot <= x.slot {
+        return End::Nowhere;
+    }
+    if x.station == c.a {
+        return End::At(Spot {
+            station: c.b,
+            slot: c.slot,
+        });
+    }
+    if x.station == c.b {
+        return End::At(Spot {
+            station: c.a,
+            slot: c.slot,
+        });
+    }
+    End::Nowhere
+}
+
+// Where the first k entries of a buffer lead from the source. No entry is trusted.
+fn end_of(way: &[u16], plan: &[u8], q: Pair, k: usize) -> End
+    requires { ⌜ k ≤ length (now way) ⌝ }
+    ensures { λ r. ⌜ endOf r ≡ endAfter (planIn (now (plan .entry)) q) (start (q .source)) (take k (now (way .entry))) ⌝ }
+{
+    let mut x = Spot {
+        station: q.source,
+        slot: 0,
+    };
+    let mut i = 0;
+    while i < k {
+        let next = step_on(plan, x, wide(way[i]));
+        let End::At(y) = next else {
+            return End::Nowhere;
+        };
+        x = y;
+        i += 1;
+    }
+    End::At(x)
+}
+
+// Whether position i leads on from an appearance to one from which so many hops are left.
+fn serves(work: &[u64], plan: &[u8], q: Pair, x: Spot, need: u64, i: usize) -> bool
+    requires { ⌜ Searchable (now plan) q (now work) ⌝ }
+    ensures { λ r. ⌜ r ≡ servesAt (planIn (now (plan .entry)) q) (now (work .entry)) (q .slots + 1) (spotOf x) need i ⌝ }
+{
+    let end = step_on(plan, x, i);
+    let End::At(y) = end else {
+        return false;
+    };
+    let at = y.station * (q.slots + 1) + y.slot;
+    work[at] == need
+}
+
+// The first position from a given one on that leads home with so many hops left behind it.
+fn find(work: &[u64], plan: &[u8], q: Pair, x: Spot, need: u64, from: usize) -> Found
+    requires { ⌜ Searchable (now plan) q (now work) ⌝ }
+    ensures { λ r. ⌜ foundOf r ≡ firstFrom (servesAt (planIn (now (plan .entry)) q) (now (work .entry)) (q .slots + 1) (spotOf x) need) from (records (now (plan .entry)) - from) ⌝ }
+{
+    let m = plan.len() / 6;
+    let mut i = from;
+    let found = loop {
+        if m <= i {
+            break Found::Nothing;
+        }
+        if serves(work, plan, q, x, need, i) {
+            break Found::At(i);
+        }
+        i += 1;
+    };
+    found
+}
+
+// Puts the first position from a given one on that leads home behind the first k entries. False where there is none.
+fn place(way: &mut [u16], work: &[u64], plan: &[u8], q: Pair, k: usize, from: usize) -> bool
+    requires { ⌜ Placeable (now plan) q (now work) k (now way) ⌝ }
+    ensures { λ r. ⌜ _≡_ {A = Placed} (record { answer = r; buffer = now (way .exit) }) (putAt k (now (way .entry)) (foundAt (now (plan .entry)) q (now (work .entry)) k from (now (way .entry)))) ⌝ }
+{
+    let end = end_of(way, plan, q, k);
+    let End::At(x) = end else {
+        return false;
+    };
+    let need = (q.hops - (k + 1)) as u64;
+    let found = find(work, plan, q, x, need, from);
+    let Found::At(i) = found else {
+        return false;
+    };
+    way[k] = i as u16;
+    true
+}
+
+// Writes the first shortest path of a pair that has one: leg by leg the first position that leads home.
+pub fn first_path(way: &mut [u16], work: &[u64], plan: &[u8], q: Pair)
+    requires { ⌜ Startable (now plan) q (now work) (now way) ⌝ }
+    ensures { λ _. ⌜ now (way .exit) ≡ over (getD (listIn (now (plan .entry)) q) 0 []) (now (way .entry)) ⌝ }
+{
+    let hops = q.hops;
+    let mut k = 0;
+    while k < hops {
+        place(way, work, plan, q, k, 0);
+        k += 1;
+    }
+}
+
+// Whether a buffer begins with a shortest path of a pair that has one.
+pub fn offered(way: &[u16], plan: &[u8], q: Pair) -> bool
+    requires { ⌜ Listable (now plan) q (now way) ⌝ }
+    ensures { λ r. ⌜ r ≡ isOffered (now (plan .entry)) q (now (way .entry)) ⌝ }
+{
+    let end = end_of(way, plan, q, q.hops);
+    let End::At(x) = end else {
+        return false;
+    };
+    x.station == q.destination
+}
+
+// Advances the first `leg` entries to the next ones that begin a shortest path: a later last position, or else the legs
+// before it advanced, and the first position behind them. False where there are none, and the buffer stays.
+fn advance(way: &mut [u16], work: &[u64], plan: &[u8], q: Pair, leg: usize) -> bool
+    requires { ⌜ Advancable (now plan) q (now work) leg (now way) ⌝ }
+    ensures { λ r. ⌜ Advanced (begins (now (plan .entry)) q) leg (now (way .entry)) r (now (way .exit)) ⌝ }
+{
+    if leg == 0 {
+        return false;
+    }
+    let last = leg - 1;
+    let from = wide(way[last]) + 1;
+    if place(way, work, plan, q, last, from) {
+        return true;
+    }
+    if advance(way, work, plan, q, last) {
+        return place(way, work, plan, q, last, 0);
+    }
+    false
+}
+
+// Moves a buffer that begins with a shortest path on to the next one. False on the last, and the buffer stays.
+pub fn next_path(way: &mut [u16], work: &[u64], plan: &[u8], q: Pair) -> bool
+    requires { ⌜ Continuable (now plan) q (now work) (now way) ⌝ }
+    ensures { λ r. ⌜ Stepped (listIn (now (plan .entry)) q) (now (way .entry)) r (now (way .exit)) ⌝ }
+{
+    advance(way, work, plan, q, q.hops)
+}

@@ -1,0 +1,183 @@
+//! Plans built from ladders, and the ladders that document 01 names.
+
+use super::{Case, Counting};
+use crate::cases::{plan_bytes, Record};
+use crate::fast::{entries, Entries};
+use crate::plan::{read, PlanInput};
+
+/// A plan in the making; station 0 is the source.
+#[derive(Clone, Debug)]
+pub struct Builder {
+    stations: usize,
+    slots: usize,
+    records: Vec<Record>,
+}
+
+impl Builder {
+    /// The source alone.
+    pub fn start() -> Builder {
+        Builder {
+            stations: 1,
+            slots: 1,
+            records: Vec::new(),
+        }
+    }
+
+    /// A new station.
+    pub fn station(&mut self) -> usize {
+        self.stations += 1;
+        self.stations - 1
+    }
+
+    /// So many new stations.
+    pub fn layer(&mut self, width: usize) -> Vec<usize> {
+        (0..width).map(|_| self.station()).collect()
+    }
+
+    /// Two stations meet in a slot.
+    pub fn meet(&mut self, slot: usize, one: usize, other: usize) {
+        let (a, b) = (one.min(other), one.max(other));
+        self.slots = self.slots.max(slot);
+        self.records.push((slot as u16, a as u16, b as u16));
+    }
+
+    /// A station meets each of some others in a slot.
+    pub fn meet_all(&mut self, slot: usize, one: usize, others: &[usize]) {
+        for other in others {
+            self.meet(slot, one, *other);
+        }
+    }
+
+    /// More stations and slots, without contacts.
+    pub fn grow(&mut self, stations: usize, slots: usize) {
+        self.stations = self.stations.max(stations);
+        self.slots = self.slots.max(slots);
+    }
+
+    fn bytes(&self) -> Vec<u8> {
+        let mut records = self.records.clone();
+        records.sort_unstable();
+        plan_bytes(&records)
+    }
+
+    /// The number of records.
+    pub fn contacts(&self) -> usize {
+        self.records.len()
+    }
+
+    /// The entries from the source.
+    pub fn entries(&self) -> Entries {
+        let input = PlanInput {
+            bytes: &self.bytes(),
+            stations: self.stations,
+            slots: self.slots,
+        };
+        entries(&read(input).expect("an accepted plan"), 0)
+    }
+
+    /// Reach from the source, on tables of exactly the named lengths.
+    pub fn case(&self, label: &str) -> Case {
+        let sizes = (self.stations as u16, self.slots as u16);
+        let case = Case::on_bytes(label, sizes, self.bytes(), 0);
+        Case {
+            counting: Counting::Fast,
+            ..case
+        }
+    }
+
+    /// Layers of equal width in the first slots, every station meeting all of the next layer.
+    /// Answers the last layer.
+    pub fn ladder(&mut self, layers: usize, width: usize) -> Vec<usize> {
+        let mut last = vec![0];
+        for slot in 1..=layers {
+            let next = self.layer(width);
+            for station in last {
+                self.meet_all(slot, station, &next);
+            }
+            last = next;
+        }
+        last
+    }
+
+    /// A row of stations, each meeting the next in `width` slots. Answers the last station.
+    pub fn slot_ladder(&mut self, stages: usize, width: usize) -> usize {
+        let mut last = 0;
+        for stage in 0..stages {
+            let next = self.station();
+            for slot in 1..=width {
+                self.meet(width * stage + slot, last, next);
+            }
+            last = next;
+        }
+        last
+    }
+}
+
+/// A ladder alone.
+pub fn ladder(layers: usize, width: usize) -> Builder {
+    let mut builder = Builder::start();
+    builder.ladder(layers, width);
+    builder
+}
+
+pub fn cases() -> Vec<Case> {
+    let mut cases = named_ladders();
+    cases.extend(other_sources());
+    cases.extend(other_widths());
+    cases
+}
+
+/// 63, 64 and 65 layers, on tables of the named lengths and longer.
+fn named_ladders() -> Vec<Case> {
+    let mut cases = Vec::new();
+    for (layers, stated) in [(63, 0), (64, 0), (65, 9)] {
+        let builder = ladder(layers, 2);
+        let last = builder.entries().station(2 * layers);
+        let (hops, count) = (layers as u16, 1 << (layers - 1));
+        assert_eq!((last.hops, last.count), (hops, count));
+        assert_eq!(builder.stations, 2 * layers + 1);
+        assert_eq!(builder.contacts(), 4 * layers - 2);
+        let label = format!("ladder of {layers} layers");
+        cases.push(builder.case(&label).stating(stated));
+        let label = format!("ladder of {layers} layers, longer tables");
+        let longer = builder.case(&label).longer([9, 8, 7, 6]);
+        cases.push(longer.marked(4321).stating(stated));
+    }
+    cases
+}
+
+/// 65 layers from other sources, which have fewer walks.
+fn other_sources() -> Vec<Case> {
+    let case = |source: u16| {
+        let label = format!("ladder of 65 layers, from {source}");
+        let case = ladder(65, 2).case(&label).stating(0);
+        Case {
+            station: source,
+            ..case
+        }
+    };
+    [1, 2, 3, 129, 130].map(case).to_vec()
+}
+
+/// Ladders of other widths, the last accepted one and the first that is not.
+fn other_widths() -> Vec<Case> {
+    let mut cases = Vec::new();
+    for (width, layers, stated) in [
+        (3, 41, 0),
+        (3, 42, 9),
+        (4, 32, 0),
+        (4, 33, 9),
+        (5, 28, 0),
+        (5, 29, 9),
+        (7, 23, 0),
+        (7, 24, 9),
+    ] {
+        let builder = ladder(layers, width);
+        let last = builder.entries().station(width * layers);
+        assert_eq!(last.count, (width as u128).pow(layers as u32 - 1));
+        assert_eq!(last.count > u128::from(u64::MAX), stated == 9);
+        let label = format!("ladder of {layers} layers, {width} wide");
+        cases.push(builder.case(&label).stating(stated));
+    }
+    cases
+}

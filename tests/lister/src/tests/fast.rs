@@ -1,0 +1,129 @@
+//! The numbers of walks, compared with the plain lister.
+
+use super::support::{random_plan, tiny_plans, Owned};
+use crate::answer::{number, Answer};
+use crate::fast::{self, entries, Entry};
+use crate::plan::PlanInput;
+use crate::random::Random;
+use crate::reach::{reach_within, ReachTables};
+use crate::reach_cases::{exact_plans, Builder, Tables};
+use crate::shortest::COUNT_LIMIT;
+
+type Reach = fn(u64, PlanInput, usize, ReachTables) -> Answer<()>;
+
+/// The number and the tables of a reach, with two entries behind each named part.
+fn outcome(reach: Reach, limit: u64, owned: &Owned, source: usize) -> (u8, Tables) {
+    let named = owned.stations * (owned.slots + 1);
+    let mut tables = Tables {
+        appearance_hops: vec![77; named + 2],
+        appearance_counts: vec![77; named + 2],
+        station_hops: vec![77; owned.stations + 2],
+        station_counts: vec![77; owned.stations + 2],
+    };
+    let lent = ReachTables {
+        appearance_hops: &mut tables.appearance_hops,
+        appearance_counts: &mut tables.appearance_counts,
+        station_hops: &mut tables.station_hops,
+        station_counts: &mut tables.station_counts,
+    };
+    let answer = reach(limit, owned.input(), source, lent);
+    (number(&answer), tables)
+}
+
+/// Asserts that both reaches answer alike, and gives the number.
+fn assert_alike(limit: u64, owned: &Owned, source: usize) -> u8 {
+    let listed = outcome(reach_within, limit, owned, source);
+    let counted = outcome(fast::reach_within, limit, owned, source);
+    assert_eq!(listed, counted, "limit {limit}, source {source}, {owned:?}");
+    listed.0
+}
+
+#[test]
+fn tiny_plans_are_counted_as_listed() {
+    let mut refused = 0;
+    for owned in tiny_plans() {
+        for source in 0..owned.stations {
+            for limit in [1, 2, COUNT_LIMIT] {
+                refused += usize::from(assert_alike(limit, &owned, source) == 9);
+            }
+        }
+    }
+    assert!(refused > 1000, "{refused}");
+}
+
+#[test]
+fn random_plans_are_counted_as_listed() {
+    let mut random = Random::new(9);
+    let mut refused = 0;
+    for _ in 0..4000 {
+        let owned = random_plan(&mut random);
+        let source = random.below(owned.stations);
+        let limit = [1, 2, 3, 5, 9, COUNT_LIMIT][random.below(6)];
+        refused += usize::from(assert_alike(limit, &owned, source) == 9);
+    }
+    assert!((500..3500).contains(&refused), "{refused}");
+}
+
+#[test]
+fn refused_calls_are_answered_alike() {
+    let owned = Owned::plan_a();
+    assert_eq!(assert_alike(COUNT_LIMIT, &owned, 5), 6);
+    let few_stations = Owned {
+        stations: 4,
+        ..owned.clone()
+    };
+    assert_eq!(assert_alike(COUNT_LIMIT, &few_stations, 0), 4);
+    let few_slots = Owned { slots: 3, ..owned };
+    assert_eq!(assert_alike(COUNT_LIMIT, &few_slots, 9), 3);
+}
+
+#[test]
+fn entries_of_plan_a() {
+    let entries = entries(&Owned::plan_a().plan(), 0);
+    let entry = |hops: u16, count: u128| Entry { hops, count };
+    assert_eq!(entries.station(0), entry(0, 1));
+    assert_eq!(entries.station(2), entry(1, 1));
+    assert_eq!(entries.station(3), entry(2, 3));
+    assert_eq!(entries.station(4), entry(3, 3));
+    assert_eq!(entries.appearance(2, 3), entry(3, 2));
+    assert_eq!(entries.appearance(3, 2), entry(2, 2));
+    assert_eq!(entries.appearance(3, 3), entry(2, 1));
+    assert_eq!(entries.appearance(1, 0), entry(65535, 0));
+    assert_eq!(entries.stations_over(2), [3, 4]);
+    assert_eq!(entries.appearances_over(2), [(4, 4)]);
+    assert_eq!(entries.appearances_over(1), [(2, 3), (3, 2), (4, 4)]);
+    assert!(entries.stations_over(3).is_empty());
+}
+
+#[test]
+fn a_ladder_passes_64_bits() {
+    let mut builder = Builder::start();
+    let last = builder.ladder(100, 2);
+    let entry = builder.entries().station(last[0]);
+    assert_eq!((entry.hops, entry.count), (100, 1 << 99));
+}
+
+#[test]
+#[should_panic(expected = "numbers of walks fit 128 bits")]
+fn a_sum_over_128_bits_stops() {
+    let mut builder = Builder::start();
+    builder.ladder(84, 3);
+    builder.entries();
+}
+
+#[test]
+fn exact_plans_of_few_bits_are_counted_as_listed() {
+    for bits in 2..=5 {
+        let limit = (1 << bits) - 1;
+        for exact in exact_plans(bits) {
+            let case = exact.builder.case(&exact.label);
+            let owned = Owned {
+                bytes: case.bytes,
+                stations: case.stations.into(),
+                slots: case.slots.into(),
+            };
+            let number = assert_alike(limit, &owned, 0);
+            assert_eq!(number, exact.number, "{}", exact.label);
+        }
+    }
+}

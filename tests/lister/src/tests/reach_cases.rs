@@ -1,0 +1,259 @@
+//! The files of reach-cases.
+
+use std::collections::BTreeSet;
+use std::sync::OnceLock;
+
+use crate::answer::number;
+use crate::fast;
+use crate::plan::PlanInput;
+use crate::reach::{reach, ReachTables};
+use crate::reach_cases::{
+    all_cases, stdin_bytes, stdout_text, Case, Counting, Operation, Tables, LONGEST_LABEL,
+    LONGEST_PLAN, LONGEST_TABLES,
+};
+use crate::row::{row, row_number};
+
+/// All cases, made once.
+fn cases() -> &'static [Case] {
+    static CASES: OnceLock<Vec<Case>> = OnceLock::new();
+    CASES.get_or_init(all_cases)
+}
+
+/// The number of a case's line.
+fn number_of(case: &Case) -> u8 {
+    match case.operation {
+        Operation::Reach => case.reached().0,
+        Operation::Row => case.part().0,
+    }
+}
+
+#[test]
+fn stated_numbers_are_those_of_the_lister() {
+    let mut reached = [0; 10];
+    let mut rows = [0; 10];
+    for case in cases().iter().filter(|case| case.stated.is_some()) {
+        let number = number_of(case);
+        assert_eq!(Some(number), case.stated, "{}", case.label);
+        match case.operation {
+            Operation::Reach => reached[usize::from(number)] += 1,
+            Operation::Row => rows[usize::from(number)] += 1,
+        }
+    }
+    for number in [0, 1, 2, 3, 4, 5, 6, 8, 9] {
+        assert!(reached[number] > 4, "{number}: {reached:?}");
+    }
+    for number in [0, 1, 6, 8] {
+        assert!(rows[number] > 4, "{number}: {rows:?}");
+    }
+}
+
+#[test]
+fn labels_are_short_printable_and_distinct() {
+    let labels: BTreeSet<&str> = cases().iter().map(|case| case.label.as_str()).collect();
+    assert_eq!(labels.len(), cases().len());
+    for label in labels {
+        assert!((1..=LONGEST_LABEL).contains(&label.len()), "{label}");
+        let printable = |byte: u8| (32..127).contains(&byte);
+        assert!(label.bytes().all(printable), "{label}");
+    }
+}
+
+/// The line of the case with a label.
+fn line_of(label: &str) -> String {
+    let case = cases().iter().find(|case| case.label == label);
+    case.map(Case::line).unwrap_or_default()
+}
+
+#[test]
+fn lines_by_hand() {
+    for line in [
+        "P1 empty plan, n 1, T 1: 0 | 0: 0 | 0: 1 | 0: 0 | 0: 1",
+        "P2 plan A from 0: 0 | 0: 0 6: 1 11: 1 13: 3 17 .. 18: 2 24: 3 \
+         | 0: 1 6: 1 11: 1 13: 2 17: 2 18: 1 24: 3 \
+         | 0: 0 1 .. 2: 1 3: 2 4: 3 | 0 .. 2: 1 3 .. 4: 3",
+        "plan A from 4: 0 | 19: 1 20: 0 | 19 .. 20: 1 | 3: 1 4: 0 | 3 .. 4: 1",
+        "8 for one entry less of counts: 8 | 0 .. 24: 999 | 0 .. 23: 999 | 0 .. 4: 999 | 0 .. 4: 999",
+        "8 for empty tables: 8 | | | |",
+        "ladder of 65 layers: 9 | 0 .. 8645: 0 | | 0 .. 130: 0 |",
+        "ladder of 65 layers, longer tables: 9 | 0 .. 8645: 0 8646 .. 8654: 4321 \
+         | 8646 .. 8653: 4321 | 0 .. 130: 0 131 .. 137: 4321 | 131 .. 136: 4321",
+        "row 2 of n 5, T 4, 26 entries: 0 5 | 0: 31 1: 34 2: 37 3: 40 4: 43",
+        "row 5 of n 5, T 4, 24 entries: 6 0 |",
+    ] {
+        let (label, _) = line.split_once(" | ").or(line.split_once(" |")).unwrap();
+        let (label, _) = label.split_once(": ").unwrap();
+        assert_eq!(line_of(label), line);
+    }
+    let last = line_of("ladder of 64 layers");
+    assert!(last.ends_with(" 127 .. 128: 9223372036854775808"), "{last}");
+    let below = line_of("2^64-1 in one slot");
+    assert!(below.ends_with(": 18446744073709551615"), "{below}");
+}
+
+/// Takes `length` bytes off the front.
+fn take<'a>(bytes: &mut &'a [u8], length: usize) -> &'a [u8] {
+    let (front, rest) = bytes.split_at(length);
+    *bytes = rest;
+    front
+}
+
+fn take_number(bytes: &mut &[u8], length: usize) -> usize {
+    let digits = take(bytes, length);
+    let next = |number: usize, byte: &u8| 256 * number + usize::from(*byte);
+    digits.iter().fold(0, next)
+}
+
+/// The entries that the runs of a table give; the others are left out.
+fn entries_of(runs: &str, length: usize, left_out: u64) -> Vec<u64> {
+    let mut entries = vec![left_out; length];
+    let mut words = runs.split(' ').skip(1);
+    while let Some(word) = words.next() {
+        let (from, last) = match word.strip_suffix(':') {
+            Some(only) => (only, only),
+            None => {
+                assert_eq!(words.next(), Some(".."));
+                (word, words.next().unwrap().strip_suffix(':').unwrap())
+            }
+        };
+        let value = words.next().unwrap().parse().unwrap();
+        let range = from.parse::<usize>().unwrap()..=last.parse::<usize>().unwrap();
+        entries[range].fill(value);
+    }
+    entries
+}
+
+/// Calls what a case of standard input names; the tables as the line gives them.
+fn assert_line(stdin: &mut &[u8], line: &str, counting: Counting) {
+    let [kind, stations, slots, station] = [2; 4].map(|length| take_number(stdin, length));
+    let [plan, label, mark] = [2; 3].map(|length| take_number(stdin, length));
+    let lengths = [4; 4].map(|length| take_number(stdin, length));
+    assert!((0..4).all(|table| lengths[table] <= LONGEST_TABLES[table]));
+    let label = std::str::from_utf8(take(stdin, label)).unwrap();
+    let bytes = take(stdin, plan);
+    let input = PlanInput {
+        bytes,
+        stations,
+        slots,
+    };
+    let rest = line
+        .strip_prefix(label)
+        .unwrap()
+        .strip_prefix(": ")
+        .unwrap();
+    let parts: Vec<&str> = rest.split(" |").collect();
+    if kind == 1 {
+        let mut table: Vec<u64> = (0..lengths[1]).map(|at| 3 * at as u64 + 1).collect();
+        let number = row_number(stations, slots, station, &table);
+        let part = row(stations, slots, station, &mut table);
+        assert_eq!(parts[0], format!("{number} {}", part.len()));
+        assert_eq!(entries_of(parts[1], part.len(), 0), part);
+        return;
+    }
+    let hops = |runs: &str, length: usize| -> Vec<u16> {
+        let entries = entries_of(runs, length, 65535);
+        entries.iter().map(|entry| *entry as u16).collect()
+    };
+    let written = Tables {
+        appearance_hops: hops(parts[1], lengths[0]),
+        appearance_counts: entries_of(parts[2], lengths[1], 0),
+        station_hops: hops(parts[3], lengths[2]),
+        station_counts: entries_of(parts[4], lengths[3], 0),
+    };
+    let mut tables = Tables {
+        appearance_hops: vec![mark as u16; lengths[0]],
+        appearance_counts: vec![mark as u64; lengths[1]],
+        station_hops: vec![mark as u16; lengths[2]],
+        station_counts: vec![mark as u64; lengths[3]],
+    };
+    let lent = ReachTables {
+        appearance_hops: &mut tables.appearance_hops,
+        appearance_counts: &mut tables.appearance_counts,
+        station_hops: &mut tables.station_hops,
+        station_counts: &mut tables.station_counts,
+    };
+    let answer = match counting {
+        Counting::Listed => reach(input, station, lent),
+        Counting::Fast => fast::reach(input, station, lent),
+    };
+    assert_eq!(parts[0], number(&answer).to_string(), "{label}");
+    assert_eq!(written, tables, "{label}");
+}
+
+#[test]
+fn stdin_read_back_gives_stdout() {
+    let cases = cases();
+    let (stdin, stdout) = (stdin_bytes(cases), stdout_text(cases));
+    assert!(stdin.len() < 500_000 && stdout.len() < 400_000);
+    let mut rest = stdin.as_slice();
+    for (case, line) in cases.iter().zip(stdout.lines()) {
+        assert_line(&mut rest, line, case.counting);
+    }
+    assert!(rest.is_empty());
+    assert_eq!(stdout.lines().count(), cases.len());
+}
+
+#[test]
+fn cases_fit_the_program() {
+    let cases = cases();
+    let mut longest = [0; 4];
+    for case in cases {
+        assert!(case.bytes.len() <= LONGEST_PLAN, "{}", case.label);
+        for (most, length) in longest.iter_mut().zip(case.lengths) {
+            *most = length.max(*most);
+        }
+    }
+    assert!((0..4).all(|table| longest[table] <= LONGEST_TABLES[table]));
+    assert!(longest[0] >= 65_600 && longest[1] >= 65_599, "{longest:?}");
+    let records = |count: usize| {
+        cases
+            .iter()
+            .filter(move |case| case.bytes.len() == 6 * count)
+    };
+    assert!(records(4096).count() > 4 && records(4097).count() > 0);
+}
+
+#[test]
+fn walks_are_counted_for_ladders_alone() {
+    let words = ["ladder of", "before 9", "2^6", "3^4", "15^16"];
+    let mut listed = 0;
+    for case in cases() {
+        let is_ladder = words.iter().any(|word| case.label.contains(word));
+        assert_eq!(case.counting == Counting::Fast, is_ladder, "{}", case.label);
+        listed += usize::from(case.counting == Counting::Listed);
+    }
+    assert!(listed > 1000, "{listed}");
+}
+
+#[test]
+fn listed_cases_are_counted_alike() {
+    let reaches =
+        |case: &Case| case.operation == Operation::Reach && case.counting == Counting::Listed;
+    for case in cases().iter().filter(|case| reaches(case)) {
+        let counted = Case {
+            counting: Counting::Fast,
+            ..case.clone()
+        };
+        assert_eq!(counted.reached(), case.reached(), "{}", case.label);
+    }
+}
+
+#[test]
+fn small_plans_vary() {
+    let small = cases()
+        .iter()
+        .filter(|case| case.label.starts_with("small "));
+    let small: Vec<&Case> = small.collect();
+    assert_eq!(small.len(), 300);
+    let refused = small.iter().filter(|case| number_of(case) == 8).count();
+    assert!((5..60).contains(&refused), "{refused}");
+    let marks: BTreeSet<u16> = small.iter().map(|case| case.mark).collect();
+    assert!(marks.len() > 250);
+    let largest = |case: &&Case| case.reached().1.station_counts.into_iter().max();
+    let several = small.iter().copied().filter(|case| largest(case) > Some(1));
+    assert!(several.count() > 30);
+}
+
+#[test]
+fn files_are_the_same_each_time() {
+    assert_eq!(all_cases(), cases());
+}
