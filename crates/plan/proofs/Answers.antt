@@ -15,7 +15,6 @@ use Rattle.plan.specs.declared.CheckAnswer.the-variants.{Accepted, Refus
 
 -- no fault has the number 0
 pub number-positive : (f : PlanFault) → 0 < planNumber f
-unfolding planNumber
 number-positive plan-fault.Limits = lit< tt
 number-positive plan-fault.Length = lit< tt
 number-positive plan-fault.Slot = lit< tt
@@ -25,11 +24,9 @@ number-positive plan-fault.Order = lit< tt
 module _ (bs : List ℕ) (n t i : ℕ) (inside : i < records bs) (rest : planFault bs n t ≡ faultFrom bs n t i)
     (r : CheckAnswer) (answer : checkNumber r ≡ first (recordCauses bs n t i)) where
   pub refused-decides : (f : PlanFault) → r ≡ Refused f → planNumber f ≡ planFault bs n t
-  unfolding checkNumber
   refused-decides f e =
       let here : planNumber f ≡ first (recordCauses bs n t i) = ap checkNumber (sym e) ∙ answer in
       here ∙ sym (rest ∙ records-stop bs n t i inside (subst (λ k. 0 < k) here (number-positive f)))
 
   pub accepted-passes : r ≡ Accepted → planFault bs n t ≡ faultFrom bs n t (i + 1)
-  unfolding checkNumber
   accepted-passes e = rest ∙ records-pass bs n t i inside (sym answer ∙ ap checkNumber e)
