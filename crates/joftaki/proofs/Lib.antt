@@ -4,6 +4,6 @@ mod ThroughLaws
 mod BlockLaws
 mod PairLaws
 mod TableLaws
-mod LoadLaws
+pub mod LoadLaws
 -- demand 3 of pair and loads
 pub mod Demand3

@@ -1,4 +1,4 @@
-// Operations 4 to 8: pair, loads, busiest, first way and next way, over the pass, the tally and the lister.
+// Operations 4 to 6: pair, loads and busiest, over the pass and the tally.
 ghost use mathlib.Core.Path.{_≡_};
 ghost use Prim.Native.Nat.{_+_, _<_, _≤_, min};
 ghost use lib.ListN.{length};
