@@ -1,7 +1,7 @@
 -- what merging an entry leaves, and the loops over entries
 mod MergeLaws
 mod LoopLaws
-mod PlaceLaws
+pub mod PlaceLaws
 mod PassLaws
 mod EntryLaws
 mod TableLaws
@@ -12,5 +12,5 @@ mod EndLaws
 mod TurnLaws
 mod OutcomeLaws
 mod ReachedLaws
-mod CallLaws
+pub mod CallLaws
 pub mod Demand2
