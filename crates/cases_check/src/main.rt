@@ -4,24 +4,14 @@
 
 // One case; false where the input has no further one.
 fn run_case(head: &mut [u8], label: &mut [u8], plan: &mut [u8]) -> bool {
-    if !cases::read_part(head, 8) {
+    if !cases::read_case(head, label, plan, 6, 4) {
         return false;
     }
-    let size = cases::word(head, 4);
-    let name = cases::word(head, 6);
-    if !cases::read_part(label, name) {
-        return false;
-    }
-    if !cases::read_part(plan, size) {
-        return false;
-    }
-    if plan.len() < size {
-        return false;
-    }
+    let size = cases::least(cases::word(head, 4), plan.len());
     let n = cases::word(head, 0);
     let t = cases::word(head, 2);
     let answer = plan::check(&plan[..size], n, t);
-    cases::write_part(label, name);
+    cases::write_part(label, cases::word(head, 6));
     cases::write_number(plan::check_number(answer) as u64);
     cases::end_line();
     true

@@ -22,15 +22,6 @@ fn mark16(table: &mut [u16], x: u16) {
     }
 }
 
-// Fills a table with a mark.
-fn mark64(table: &mut [u64], x: u64) {
-    let mut i = 0;
-    while i < table.len() {
-        table[i] = x;
-        i += 1;
-    }
-}
-
 // Fills a table with distinct numbers: entry i is 3i + 1.
 fn number_entries(table: &mut [u64]) {
     let mut i = 0;
@@ -56,61 +47,17 @@ fn run_end16(table: &[u16], from: usize) -> usize
     end
 }
 
-// Where the run of one value that starts at an entry ends.
-fn run_end64(table: &[u64], from: usize) -> usize
-    requires { ⌜ from < length (now table) ⌝ }
-    ensures { λ r. ⌜ (from < r) × (r ≤ length (now (table .entry))) ⌝ }
-{
-    let x = table[from];
-    let mut end = from + 1;
-    while end < table.len() {
-        if table[end] != x {
-            return end;
-        }
-        end += 1;
-    }
-    end
-}
-
-// Writes the run of x from an entry to the one before the end, unless x is the value left out.
-fn write_run(from: usize, end: usize, x: u64, out: u64)
-    requires { ⌜ from < end ⌝ }
-{
-    if x == out {
-        return;
-    }
-    let last = end - 1;
-    cases::write_number(from as u64);
-    if from < last {
-        cases::write_part(b" ..", 3);
-        cases::write_number(last as u64);
-    }
-    cases::write_part(b":", 1);
-    cases::write_number(x);
-}
-
 fn wide(x: u16) -> u64 {
     x as u64
 }
 
-// Writes the entries of a table of hops.
+// Writes " |" and the runs of a table of hops, but those of 65535.
 fn write16(table: &[u16]) {
     cases::write_part(b" |", 2);
     let mut from = 0;
     while from < table.len() {
         let end = run_end16(table, from);
-        write_run(from, end, wide(table[from]), 65535);
-        from = end;
-    }
-}
-
-// Writes the entries of a table of counts.
-fn write64(table: &[u64]) {
-    cases::write_part(b" |", 2);
-    let mut from = 0;
-    while from < table.len() {
-        let end = run_end64(table, from);
-        write_run(from, end, table[from], 0);
+        cases::write_run(from, end - 1, wide(table[from]), 65535);
         from = end;
     }
 }
@@ -133,9 +80,9 @@ fn mark_tables(
 ) {
     let mark = cases::word(head, 12);
     mark16(hops, mark as u16);
-    mark64(counts, mark as u64);
+    cases::mark64(counts, mark as u64);
     mark16(near, mark as u16);
-    mark64(ways, mark as u64);
+    cases::mark64(ways, mark as u64);
 }
 
 // Calls reach on the lent parts, and writes its answer.
@@ -154,9 +101,9 @@ fn run_reach(
     let answer = reach::reach(plan, n, t, source, hops, counts, near, ways);
     cases::write_number(reach_number(answer) as u64);
     write16(hops);
-    write64(counts);
+    cases::write64(counts);
     write16(near);
-    write64(ways);
+    cases::write64(ways);
 }
 
 // Calls row and its sister on the lent part, and writes the answers.
@@ -168,25 +115,7 @@ fn run_row(head: &[u8], table: &mut [u64]) {
     cases::write_number(reach::row_number(table, n, t, station) as u64);
     let part = reach::row(table, n, t, station);
     cases::write_number(part.len() as u64);
-    write64(part);
-}
-
-// The smaller of two numbers.
-fn least(a: usize, b: usize) -> usize
-    ensures { λ r. ⌜ (r ≤ a) × (r ≤ b) ⌝ }
-{
-    if a < b { a } else { b }
-}
-
-// The 32-bit number of the head whose first byte stands at k, but no more than a buffer has.
-fn lent(head: &[u8], k: usize, most: usize) -> usize
-    requires { ⌜ k < 256 ⌝ }
-    ensures { λ r. ⌜ r ≤ most ⌝ }
-{
-    least(
-        cases::word(head, k) * 65536 + cases::word(head, k + 2),
-        most,
-    )
+    cases::write64(part);
 }
 
 // Lends what the head names, and runs the case.
@@ -198,10 +127,10 @@ fn run_named(
     near: &mut [u16],
     ways: &mut [u64],
 ) {
-    let a = lent(head, 14, hops.len());
-    let b = lent(head, 18, counts.len());
-    let c = lent(head, 22, near.len());
-    let d = lent(head, 26, ways.len());
+    let a = cases::lent(head, 14, hops.len());
+    let b = cases::lent(head, 18, counts.len());
+    let c = cases::lent(head, 22, near.len());
+    let d = cases::lent(head, 26, ways.len());
     if cases::word(head, 0) == 0 {
         run_reach(
             head,
@@ -216,17 +145,6 @@ fn run_named(
     }
 }
 
-// Reads a head, a label and a plan; false where the input has no further case.
-fn read_case(head: &mut [u8], label: &mut [u8], plan: &mut [u8]) -> bool {
-    if !cases::read_part(head, 30) {
-        return false;
-    }
-    if !cases::read_part(label, cases::word(head, 10)) {
-        return false;
-    }
-    cases::read_part(plan, cases::word(head, 8))
-}
-
 // One case; false where the input has no further one.
 fn run_case(
     head: &mut [u8],
@@ -237,12 +155,12 @@ fn run_case(
     near: &mut [u16],
     ways: &mut [u64],
 ) -> bool {
-    if !read_case(head, label, plan) {
+    if !cases::read_case(head, label, plan, 10, 8) {
         return false;
     }
     cases::write_part(label, cases::word(head, 10));
     cases::write_part(b":", 1);
-    let size = least(cases::word(head, 8), plan.len());
+    let size = cases::least(cases::word(head, 8), plan.len());
     run_named(head, &plan[..size], hops, counts, near, ways);
     cases::end_line();
     true

@@ -12,7 +12,7 @@ mod records;
 use crate::answer::number;
 use crate::plan::{check, PlanInput};
 
-pub use generated::{generated_cases, SEED};
+pub use generated::{damage, generated_cases, valid_records, SEED};
 
 /// The longest label, in bytes.
 pub const LONGEST_LABEL: usize = 60;

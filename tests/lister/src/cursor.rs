@@ -52,7 +52,13 @@ impl Cursor {
 
     /// What the call must answer; its causes other than 10 come from the arguments alone.
     pub fn call(&mut self, operation: Operation, call: &PathCall) -> Answer<Found> {
-        paths_of_call(self.limit, call)?;
+        let causes = paths_of_call(self.limit, call).map(|_| ());
+        self.answer(operation, causes)
+    }
+
+    /// What a call must answer, its causes other than 10 being given.
+    pub fn answer(&mut self, operation: Operation, causes: Answer<()>) -> Answer<Found> {
+        causes?;
         match operation {
             Operation::First if self.list.is_empty() => Ok(Found::NoPath),
             Operation::First => Ok(self.go_to(0)),

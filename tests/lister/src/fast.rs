@@ -2,10 +2,11 @@
 //!
 //! For each number of hops it adds up how many walks of so many hops, shortest or not, end at each
 //! appearance, in 128 bits. It serves plans with too many walks to be listed; the tests compare it
-//! with the plain lister on small plans. A sum over 2^128−1 stops the program.
+//! with the plain lister on small plans. A number over 2^128−1 is held as 2^128−1.
 
 use crate::answer::{Answer, CallFault};
 use crate::lent::{appearances, place};
+use crate::numbers::{Appearances, Walks};
 use crate::plan::{Plan, PlanInput};
 use crate::reach::{cleared, ReachTables};
 use crate::shortest::{COUNT_LIMIT, NO_WALK};
@@ -52,6 +53,15 @@ impl Entries {
     pub fn stations_over(&self, limit: u64) -> Vec<usize> {
         over(&self.stations, limit).collect()
     }
+
+    /// Cause 9: no appearance and no station has more than `limit` shortest walks.
+    pub fn within(&self, limit: u64) -> Answer<()> {
+        let appearances_fit = self.appearances_over(limit).is_empty();
+        if !appearances_fit || !self.stations_over(limit).is_empty() {
+            return Err(CallFault::TooMany.into());
+        }
+        Ok(())
+    }
 }
 
 /// The places of the entries with more than `limit` walks.
@@ -59,66 +69,28 @@ fn over(entries: &[Entry], limit: u64) -> impl Iterator<Item = usize> + '_ {
     (0..entries.len()).filter(move |at| entries[*at].count > u128::from(limit))
 }
 
-/// The sum of two numbers of walks.
-fn sum(one: u128, other: u128) -> u128 {
-    one.checked_add(other)
-        .expect("numbers of walks fit 128 bits")
-}
-
-/// For each appearance, the walks that end at its station in an earlier slot.
-fn before(plan: &Plan, walks: &[u128]) -> Vec<u128> {
-    let mut earlier = vec![0; walks.len()];
-    for station in 0..plan.stations {
-        for slot in 1..=plan.slots {
-            let at = place(plan.slots, station, slot);
-            earlier[at] = sum(earlier[at - 1], walks[at - 1]);
-        }
-    }
-    earlier
-}
-
-/// The walks of one hop more, for each appearance.
-fn longer(plan: &Plan, walks: &[u128]) -> Vec<u128> {
-    let earlier = before(plan, walks);
-    let mut longer = vec![0; walks.len()];
-    for contact in &plan.contacts {
-        let a = place(plan.slots, contact.a, contact.slot);
-        let b = place(plan.slots, contact.b, contact.slot);
-        longer[a] = sum(longer[a], earlier[b]);
-        longer[b] = sum(longer[b], earlier[a]);
-    }
-    longer
-}
-
-/// Enters walks of so many hops, where there are any and none with fewer hops.
-fn enter(entry: &mut Entry, hops: u16, count: u128) {
-    if *entry == NO_ENTRY && count > 0 {
-        *entry = Entry { hops, count };
-    }
+/// The entry of the shortest walks.
+fn entry(shortest: Option<(usize, u128)>) -> Entry {
+    shortest.map_or(NO_ENTRY, |(hops, count)| Entry {
+        hops: hops as u16,
+        count,
+    })
 }
 
 /// The entries of an accepted plan from a source.
 pub fn entries(plan: &Plan, source: usize) -> Entries {
-    let mut entries = Entries {
-        slots: plan.slots,
-        appearances: vec![NO_ENTRY; appearances(plan.stations, plan.slots)],
-        stations: vec![NO_ENTRY; plan.stations],
-    };
-    let mut walks = vec![0; appearances(plan.stations, plan.slots)];
-    walks[place(plan.slots, source, 0)] = 1;
-    let mut hops = 0;
-    while walks.iter().any(|count| *count > 0) {
-        for (entry, count) in entries.appearances.iter_mut().zip(&walks) {
-            enter(entry, hops, *count);
-        }
-        let rows = walks.chunks_exact(plan.slots + 1);
-        for (entry, row) in entries.stations.iter_mut().zip(rows) {
-            enter(entry, hops, row.iter().copied().fold(0, sum));
-        }
-        walks = longer(plan, &walks);
-        hops += 1;
+    let numbered = Appearances::new(plan);
+    let walks = Walks::from_source(&numbered, source);
+    let mut all = vec![NO_ENTRY; appearances(plan.stations, plan.slots)];
+    for (at, (station, slot)) in numbered.all.iter().enumerate() {
+        all[place(plan.slots, *station, *slot)] = entry(walks.to_appearance(at));
     }
-    entries
+    let to_station = |station: usize| entry(walks.to_station(station));
+    Entries {
+        slots: plan.slots,
+        appearances: all,
+        stations: (0..plan.stations).map(to_station).collect(),
+    }
 }
 
 /// Reach from a source.
@@ -135,10 +107,7 @@ pub fn reach_within(
 ) -> Answer<()> {
     let plan = cleared(input, source, &mut tables)?;
     let entries = entries(&plan, source);
-    let appearances_fit = entries.appearances_over(limit).is_empty();
-    if !appearances_fit || !entries.stations_over(limit).is_empty() {
-        return Err(CallFault::TooMany.into());
-    }
+    entries.within(limit)?;
     for (at, entry) in entries.appearances.iter().enumerate() {
         tables.appearance_hops[at] = entry.hops;
         tables.appearance_counts[at] = entry.count as u64;

@@ -2,7 +2,7 @@
 //!
 //! Every walk from a source is listed, hop by hop; the shortest are picked by comparing lengths;
 //! a count is the length of a list. It serves as the other side of comparisons on small plans. The
-//! module `fast` alone lists no walk; it serves plans with too many.
+//! modules `fast`, `fast_pairs` and `fast_ways` alone list no walk; they serve plans with too many.
 //!
 //! The words here, and document 01's where they differ:
 //!
@@ -26,17 +26,26 @@ pub mod answer;
 pub mod cases;
 pub mod cursor;
 pub mod fast;
+pub mod fast_pairs;
+pub mod fast_ways;
 pub mod lent;
+pub mod load_cases;
+pub mod load_program;
 pub mod loads;
+pub mod numbers;
 pub mod pair;
+pub mod pair_cases;
 pub mod plan;
+pub mod plans;
 pub mod random;
 pub mod reach;
 pub mod reach_cases;
 pub mod row;
 pub mod shortest;
 pub mod show;
+pub mod traces;
 pub mod walk;
+pub mod way_cases;
 pub mod ways;
 
 #[cfg(test)]

@@ -52,6 +52,46 @@ fn loads_of(limit: u64, plan: &Plan) -> Answer<Vec<Load>> {
     Ok(loads)
 }
 
+/// The plan of loads without a cause up to 8; the named parts of tables and scratch are then 0.
+pub fn cleared(
+    input: PlanInput,
+    pairs: &mut [u64],
+    loads: &mut [u64],
+    scratch: &mut [u64],
+) -> Answer<Plan> {
+    let stations = read(input)?.stations;
+    long_enough(pairs.len(), stations)?;
+    long_enough(loads.len(), stations)?;
+    let plan = cleared_scratch(input, scratch)?;
+    pairs[..stations].fill(0);
+    loads[..stations].fill(0);
+    Ok(plan)
+}
+
+/// The plan of busiest without a cause up to 8; the named part of the scratch is then 0.
+pub fn cleared_scratch(input: PlanInput, scratch: &mut [u64]) -> Answer<Plan> {
+    let plan = read(input)?;
+    long_enough(scratch.len(), scratch_named(&plan))?;
+    scratch[..scratch_named(&plan)].fill(0);
+    Ok(plan)
+}
+
+/// Writes pairs and loads to the two lent tables.
+pub fn write(entries: &[Load], pairs: &mut [u64], loads: &mut [u64]) {
+    for (station, entry) in entries.iter().enumerate() {
+        pairs[station] = entry.pairs;
+        loads[station] = entry.load;
+    }
+}
+
+/// The stations whose load no other exceeds.
+pub fn largest(loads: &[Load]) -> Busiest {
+    let exceeded = |station: &usize| loads.iter().any(|other| other.load > loads[*station].load);
+    Busiest {
+        stations: (0..loads.len()).filter(|v| !exceeded(v)).collect(),
+    }
+}
+
 /// Loads: each station's pairs and load in the two lent tables.
 pub fn loads(
     input: PlanInput,
@@ -70,18 +110,8 @@ pub fn loads_within(
     loads: &mut [u64],
     scratch: &mut [u64],
 ) -> Answer<()> {
-    let plan = read(input)?;
-    long_enough(pairs.len(), plan.stations)?;
-    long_enough(loads.len(), plan.stations)?;
-    long_enough(scratch.len(), scratch_named(&plan))?;
-
-    pairs[..plan.stations].fill(0);
-    loads[..plan.stations].fill(0);
-    scratch[..scratch_named(&plan)].fill(0);
-    for (station, entry) in loads_of(limit, &plan)?.iter().enumerate() {
-        pairs[station] = entry.pairs;
-        loads[station] = entry.load;
-    }
+    let plan = cleared(input, pairs, loads, scratch)?;
+    write(&loads_of(limit, &plan)?, pairs, loads);
     Ok(())
 }
 
@@ -92,13 +122,6 @@ pub fn busiest(input: PlanInput, scratch: &mut [u64]) -> Answer<Busiest> {
 
 /// Busiest with the largest count as an argument.
 pub fn busiest_within(limit: u64, input: PlanInput, scratch: &mut [u64]) -> Answer<Busiest> {
-    let plan = read(input)?;
-    long_enough(scratch.len(), scratch_named(&plan))?;
-
-    scratch[..scratch_named(&plan)].fill(0);
-    let loads = loads_of(limit, &plan)?;
-    let exceeded = |station: &usize| loads.iter().any(|other| other.load > loads[*station].load);
-    Ok(Busiest {
-        stations: (0..plan.stations).filter(|v| !exceeded(v)).collect(),
-    })
+    let plan = cleared_scratch(input, scratch)?;
+    Ok(largest(&loads_of(limit, &plan)?))
 }

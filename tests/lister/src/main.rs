@@ -4,14 +4,20 @@ use std::io::Read;
 use std::process::ExitCode;
 use std::{env, fs, io};
 
+use lister::load_program::load_text;
 use lister::plan::PlanInput;
-use lister::show::{loads_text, pair_text, text_of};
-use lister::{cases, reach_cases};
+use lister::show::{loads_text, pair_text, reach_text, text_of};
+use lister::{cases, load_cases, pair_cases, reach_cases, way_cases};
 
 const USAGE: &str = "usage:
   lister check-cases DIR         write DIR/stdin and DIR/stdout, cases of check
   lister reach-cases DIR         write DIR/stdin and DIR/stdout, cases of reach and row
+  lister load-cases DIR          write DIR/stdin and DIR/stdout, cases of the load program
+  lister load-text < input       what the load program prints
+  lister pair-cases DIR          write DIR/stdin and DIR/stdout, cases of pair, loads and busiest
+  lister way-cases DIR           write DIR/stdin and DIR/stdout, cases of first way and next way
   lister show n T s z < plan     hops, count, through counts and shortest paths of s, z
+  lister reach n T s < plan      hops and count of each station from s, and the stations' rows
   lister loads n T < plan        pairs and load of each station";
 
 fn main() -> ExitCode {
@@ -38,6 +44,25 @@ fn run(words: &[&str]) -> Result<(), String> {
             let stdout = reach_cases::stdout_text(&all);
             write_files(directory, &reach_cases::stdin_bytes(&all), &stdout)
         }
+        ["load-cases", directory] => {
+            let all = load_cases::all_cases();
+            let stdout = load_cases::stdout_text(&all);
+            write_files(directory, &load_cases::stdin_bytes(&all), &stdout)
+        }
+        ["load-text"] => {
+            print!("{}", load_text(&standard_input()?));
+            Ok(())
+        }
+        ["pair-cases", directory] => {
+            let all = pair_cases::all_cases();
+            let stdout = pair_cases::stdout_text(&all);
+            write_files(directory, &pair_cases::stdin_bytes(&all), &stdout)
+        }
+        ["way-cases", directory] => {
+            let all = way_cases::all_cases();
+            let stdout = way_cases::stdout_text(&all);
+            write_files(directory, &way_cases::stdin_bytes(&all), &stdout)
+        }
         ["show", stations, slots, source, destination] => {
             let source = decimal(source)?;
             let destination = decimal(destination)?;
@@ -47,6 +72,10 @@ fn run(words: &[&str]) -> Result<(), String> {
         }
         ["loads", stations, slots] => {
             print_for_plan(stations, slots, |input| text_of(loads_text(input)))
+        }
+        ["reach", stations, slots, source] => {
+            let source = decimal(source)?;
+            print_for_plan(stations, slots, |input| text_of(reach_text(input, source)))
         }
         _ => Err(USAGE.to_string()),
     }
@@ -61,6 +90,13 @@ fn write_files(directory: &str, stdin: &[u8], stdout: &str) -> Result<(), String
     write("stdout", stdout.as_bytes())
 }
 
+fn standard_input() -> Result<Vec<u8>, String> {
+    let mut bytes = Vec::new();
+    let read = io::stdin().read_to_end(&mut bytes);
+    read.map_err(|error| format!("standard input: {error}"))?;
+    Ok(bytes)
+}
+
 fn print_for_plan(
     stations: &str,
     slots: &str,
@@ -68,9 +104,7 @@ fn print_for_plan(
 ) -> Result<(), String> {
     let stations = decimal(stations)?;
     let slots = decimal(slots)?;
-    let mut bytes = Vec::new();
-    let read = io::stdin().read_to_end(&mut bytes);
-    read.map_err(|error| format!("standard input: {error}"))?;
+    let bytes = standard_input()?;
     let input = PlanInput {
         bytes: &bytes,
         stations,

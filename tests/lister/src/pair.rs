@@ -29,6 +29,24 @@ pub fn through_count(paths: &[&Walk], station: usize) -> u64 {
     through.count() as u64
 }
 
+/// The plan of a call without a cause up to 8; the named parts of table and scratch are then 0.
+pub fn cleared(
+    input: PlanInput,
+    source: usize,
+    destination: usize,
+    through: &mut [u64],
+    scratch: &mut [u64],
+) -> Answer<Plan> {
+    let plan = read(input)?;
+    two_stations(&plan, source, destination)?;
+    long_enough(through.len(), plan.stations)?;
+    long_enough(scratch.len(), scratch_named(&plan))?;
+
+    through[..plan.stations].fill(0);
+    scratch[..scratch_named(&plan)].fill(0);
+    Ok(plan)
+}
+
 /// Pair: hops, count, and n through counts in the lent table.
 pub fn pair(
     input: PlanInput,
@@ -49,13 +67,7 @@ pub fn pair_within(
     through: &mut [u64],
     scratch: &mut [u64],
 ) -> Answer<PairValues> {
-    let plan = read(input)?;
-    two_stations(&plan, source, destination)?;
-    long_enough(through.len(), plan.stations)?;
-    long_enough(scratch.len(), scratch_named(&plan))?;
-
-    through[..plan.stations].fill(0);
-    scratch[..scratch_named(&plan)].fill(0);
+    let plan = cleared(input, source, destination, through, scratch)?;
     let walks = walks_within(limit, &plan, source)?;
 
     let paths = shortest_paths(&walks, destination);

@@ -32,7 +32,7 @@ impl Contact {
     }
 
     /// The 6 bytes of a record, each field high byte first.
-    fn from_record(record: &[u8]) -> Contact {
+    pub fn from_record(record: &[u8]) -> Contact {
         let field = |at: usize| 256 * usize::from(record[at]) + usize::from(record[at + 1]);
         Contact {
             slot: field(0),

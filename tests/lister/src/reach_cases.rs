@@ -28,7 +28,10 @@ use crate::row::{row, row_number};
 use crate::shortest::NO_WALK;
 
 pub use exact::{exact_plans, Exact};
-pub use ladders::Builder;
+pub use ladders::{ladder, Builder};
+pub use limits::{every_slot, star, CORNERS};
+pub use refusals::{bytes_with_cause, plan_faults};
+pub use small::{cases as small_cases, further_plans, other_length, outer_stations};
 
 /// The longest label, in bytes.
 pub const LONGEST_LABEL: usize = 60;
@@ -209,7 +212,7 @@ fn hops_text(table: &[u16]) -> String {
 }
 
 /// A table of counts.
-fn counts_text(table: &[u64]) -> String {
+pub fn counts_text(table: &[u64]) -> String {
     runs_text(table, 0)
 }
 

@@ -36,8 +36,27 @@ pub struct PathCall<'a> {
     pub scratch_length: usize,
 }
 
+impl<'a> PathCall<'a> {
+    /// The arguments of a call that is lent a buffer and a scratch.
+    pub fn lent(
+        input: PlanInput<'a>,
+        source: usize,
+        destination: usize,
+        buffer: &[u16],
+        scratch: &[u64],
+    ) -> PathCall<'a> {
+        PathCall {
+            input,
+            source,
+            destination,
+            buffer_length: buffer.len(),
+            scratch_length: scratch.len(),
+        }
+    }
+}
+
 /// The plan of a call, or the first of causes 1 to 8.
-fn accepted_plan(call: &PathCall) -> Answer<Plan> {
+pub fn accepted_plan(call: &PathCall) -> Answer<Plan> {
     let plan = read(call.input)?;
     two_stations(&plan, call.source, call.destination)?;
     long_enough(call.buffer_length, plan.slots)?;
@@ -59,7 +78,7 @@ pub fn paths_of_call(limit: u64, call: &PathCall) -> Answer<Vec<Vec<u16>>> {
 }
 
 /// Gives a path: its positions go to the first entries of the buffer.
-fn give(positions: &[u16], buffer: &mut [u16]) -> Found {
+pub fn give(positions: &[u16], buffer: &mut [u16]) -> Found {
     buffer[..positions.len()].copy_from_slice(positions);
     Found::Path(positions.len() as u16)
 }
@@ -84,13 +103,7 @@ pub fn first_way_within(
     buffer: &mut [u16],
     scratch: &mut [u64],
 ) -> Answer<Found> {
-    let call = PathCall {
-        input,
-        source,
-        destination,
-        buffer_length: buffer.len(),
-        scratch_length: scratch.len(),
-    };
+    let call = PathCall::lent(input, source, destination, buffer, scratch);
     let plan = accepted_plan(&call)?;
     scratch[..scratch_named(&plan)].fill(0);
     let list = path_positions(limit, &plan, &call)?;
@@ -120,13 +133,7 @@ pub fn next_way_within(
     buffer: &mut [u16],
     scratch: &mut [u64],
 ) -> Answer<Found> {
-    let call = PathCall {
-        input,
-        source,
-        destination,
-        buffer_length: buffer.len(),
-        scratch_length: scratch.len(),
-    };
+    let call = PathCall::lent(input, source, destination, buffer, scratch);
     let plan = accepted_plan(&call)?;
     scratch[..scratch_named(&plan)].fill(0);
     let list = path_positions(limit, &plan, &call)?;

@@ -24,6 +24,9 @@ loop-holds c = search needs
 run-end16-requires : tie.Need-run-end16-requires Inv-loop μ-loop
 run-end16-requires c κs = search needs
 
+sub-write-run : tie.Need-sub-write-run Inv-loop μ-loop
+sub-write-run c = search needs
+
 mul-wide : tie.Need-mul-wide Inv-loop μ-loop
 mul-wide c = search needs
 
@@ -55,6 +58,7 @@ write16-spec =
     write-part-requires
     loop-holds
     run-end16-requires
+    sub-write-run
     mul-wide
     shared-slice-read-wide
     wide-requires

@@ -37,14 +37,7 @@ fn valid_case(random: &mut Random, small: bool) -> Case {
     } else {
         random.between(0, 16)
     };
-    let mut records: BTreeSet<Record> = BTreeSet::new();
-    for _ in 0..wanted {
-        let slot = random.between(1, slots);
-        let b = random.between(1, stations - 1);
-        let a = random.below(b);
-        records.insert((slot as u16, a as u16, b as u16));
-    }
-    let records: Vec<Record> = records.into_iter().collect();
+    let records = valid_records(random, stations, slots, wanted);
     Case {
         label: String::new(),
         stations: stations as u16,
@@ -54,8 +47,25 @@ fn valid_case(random: &mut Random, small: bool) -> Case {
     }
 }
 
+/// Records of a valid plan, each once and in order; `wanted` of them are drawn.
+pub fn valid_records(
+    random: &mut Random,
+    stations: usize,
+    slots: usize,
+    wanted: usize,
+) -> Vec<Record> {
+    let mut records: BTreeSet<Record> = BTreeSet::new();
+    for _ in 0..wanted {
+        let slot = random.between(1, slots);
+        let b = random.between(1, stations - 1);
+        let a = random.below(b);
+        records.insert((slot as u16, a as u16, b as u16));
+    }
+    records.into_iter().collect()
+}
+
 /// Damages a case in one place, and names the damage; the plan may still be valid.
-fn damage(random: &mut Random, case: &mut Case) -> &'static str {
+pub fn damage(random: &mut Random, case: &mut Case) -> &'static str {
     let records = case.bytes.len() / 6;
     if records == 0 {
         case.bytes.extend(vec![0; random.between(1, 6)]);

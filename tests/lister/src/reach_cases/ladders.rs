@@ -54,7 +54,13 @@ impl Builder {
         self.slots = self.slots.max(slots);
     }
 
-    fn bytes(&self) -> Vec<u8> {
+    /// n and T.
+    pub fn sizes(&self) -> (u16, u16) {
+        (self.stations as u16, self.slots as u16)
+    }
+
+    /// The plan.
+    pub fn bytes(&self) -> Vec<u8> {
         let mut records = self.records.clone();
         records.sort_unstable();
         plan_bytes(&records)
@@ -77,8 +83,7 @@ impl Builder {
 
     /// Reach from the source, on tables of exactly the named lengths.
     pub fn case(&self, label: &str) -> Case {
-        let sizes = (self.stations as u16, self.slots as u16);
-        let case = Case::on_bytes(label, sizes, self.bytes(), 0);
+        let case = Case::on_bytes(label, self.sizes(), self.bytes(), 0);
         Case {
             counting: Counting::Fast,
             ..case

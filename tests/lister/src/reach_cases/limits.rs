@@ -19,7 +19,7 @@ fn on(label: &str, records: &[Record], source: u16) -> Case {
 }
 
 /// Contacts of the first and the last stations in the first and the last slots.
-const CORNERS: [Record; 6] = [
+pub const CORNERS: [Record; 6] = [
     (1, 0, 255),
     (2, 254, 255),
     (254, 0, 1),
@@ -59,7 +59,7 @@ fn one_slot() -> Vec<Record> {
 }
 
 /// In slot t, 0 meets t; so many contacts of the others in slot 1 that there are 4,096.
-fn star() -> Vec<Record> {
+pub fn star() -> Vec<Record> {
     let of_a = |a: u16| (a + 1..256).map(move |b| (1, a, b));
     let mut records: Vec<Record> = vec![(1, 0, 1)];
     records.extend((1..256).flat_map(of_a).take(4096 - 255));
@@ -68,7 +68,7 @@ fn star() -> Vec<Record> {
 }
 
 /// Stations 0 to 15 meet one station each in slot 1; 16 contacts of others in every slot.
-fn every_slot() -> Vec<Record> {
+pub fn every_slot() -> Vec<Record> {
     let mut records: Vec<Record> = (0..16).map(|a| (1, a, 255 - a)).collect();
     for slot in 1..=255 {
         records.extend((0..16).map(|a| (slot, 80 + 16 * (slot % 8) + a, 239 - a)));

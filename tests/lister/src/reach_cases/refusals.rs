@@ -16,6 +16,16 @@ pub fn cases() -> Vec<Case> {
     cases
 }
 
+/// The cases with a cause from 1 to 5 and none of the call.
+pub fn plan_faults() -> Vec<Case> {
+    let mut cases = limits();
+    cases.extend(plans());
+    cases.extend(two_in_the_plan());
+    cases.extend(before_too_many());
+    cases.retain(|case| case.stated <= Some(5));
+    cases
+}
+
 /// Plan A's named lengths.
 const NAMED: [usize; 4] = [25, 25, 5, 5];
 
@@ -53,7 +63,7 @@ fn with_cause(cause: u8) -> Vec<Record> {
 }
 
 /// Bytes at n 5, T 4 that have cause 2, 3, 4 or 5.
-fn bytes_with_cause(cause: u8) -> Vec<u8> {
+pub fn bytes_with_cause(cause: u8) -> Vec<u8> {
     match cause {
         2 => plan_bytes(&PLAN_A)[..35].to_vec(),
         _ => plan_bytes(&with_cause(cause)),

@@ -3,7 +3,7 @@
 use std::collections::BTreeSet;
 
 use super::Case;
-use crate::cases::{generated_cases, Record};
+use crate::cases::{generated_cases, valid_records};
 use crate::random::Random;
 
 /// The seed of the further plans; each label names it.
@@ -46,7 +46,7 @@ fn checked_plans() -> Vec<Case> {
 }
 
 /// The first and the last station that a plan names; station 0 for an empty plan.
-fn outer_stations(bytes: &[u8]) -> BTreeSet<u16> {
+pub fn outer_stations(bytes: &[u8]) -> BTreeSet<u16> {
     let fields = |record: &[u8]| [3, 5].map(|low| u16::from(record[low]));
     let stations: BTreeSet<u16> = bytes.chunks_exact(6).flat_map(fields).collect();
     let ends = [stations.first(), stations.last()];
@@ -54,19 +54,13 @@ fn outer_stations(bytes: &[u8]) -> BTreeSet<u16> {
 }
 
 /// Plans of up to 6 stations, 5 slots and 10 records; every fourth varies the lengths.
-fn further_plans() -> Vec<Case> {
+pub fn further_plans() -> Vec<Case> {
     let mut random = Random::new(SEED);
     let case = |index: usize| {
         let stations = random.between(2, 6);
         let slots = random.between(1, 5);
-        let mut records: BTreeSet<Record> = BTreeSet::new();
-        for _ in 0..random.between(1, 10) {
-            let slot = random.between(1, slots);
-            let b = random.between(1, stations - 1);
-            let a = random.below(b);
-            records.insert((slot as u16, a as u16, b as u16));
-        }
-        let records: Vec<Record> = records.into_iter().collect();
+        let wanted = random.between(1, 10);
+        let records = valid_records(&mut random, stations, slots, wanted);
         let source = random.below(stations) as u16;
         let label = format!("small {index}, seed {SEED}, from {source}");
         let sizes = (stations as u16, slots as u16);
@@ -82,7 +76,7 @@ fn further_plans() -> Vec<Case> {
 }
 
 /// Another length: the named one, a little longer, or rarely one entry too short.
-fn other_length(random: &mut Random, named: usize) -> usize {
+pub fn other_length(random: &mut Random, named: usize) -> usize {
     match random.below(8) {
         0 => named - 1,
         1 | 2 => named,

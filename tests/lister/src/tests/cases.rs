@@ -1,7 +1,6 @@
 //! The files of check-cases.
 
-use std::collections::BTreeSet;
-
+use super::read_back::{assert_labels, take, take_number};
 use crate::answer::number;
 use crate::cases::{all_cases, generated_cases, stdin_bytes, stdout_text, LONGEST_LABEL};
 use crate::plan::{check, PlanInput};
@@ -33,25 +32,8 @@ fn generated_cases_meet_every_number() {
 #[test]
 fn labels_are_short_printable_and_distinct() {
     let cases = all_cases();
-    let labels: BTreeSet<&str> = cases.iter().map(|case| case.label.as_str()).collect();
-    assert_eq!(labels.len(), cases.len());
-    for label in labels {
-        assert!((1..=LONGEST_LABEL).contains(&label.len()), "{label}");
-        let printable = |byte: u8| (32..127).contains(&byte);
-        assert!(label.bytes().all(printable), "{label}");
-    }
-}
-
-/// Takes `length` bytes off the front.
-fn take<'a>(bytes: &mut &'a [u8], length: usize) -> &'a [u8] {
-    let (front, rest) = bytes.split_at(length);
-    *bytes = rest;
-    front
-}
-
-fn take_number(bytes: &mut &[u8]) -> usize {
-    let two = take(bytes, 2);
-    usize::from(two[0]) << 8 | usize::from(two[1])
+    let labels = cases.iter().map(|case| case.label.as_str());
+    assert_labels(labels, LONGEST_LABEL);
 }
 
 #[test]
@@ -62,10 +44,10 @@ fn stdin_read_back_gives_stdout() {
     let mut stdout = Vec::new();
     let mut read = 0;
     while !rest.is_empty() {
-        let stations = take_number(&mut rest);
-        let slots = take_number(&mut rest);
-        let plan_length = take_number(&mut rest);
-        let label_length = take_number(&mut rest);
+        let stations = take_number(&mut rest, 2);
+        let slots = take_number(&mut rest, 2);
+        let plan_length = take_number(&mut rest, 2);
+        let label_length = take_number(&mut rest, 2);
         let label = take(&mut rest, label_length);
         let bytes = take(&mut rest, plan_length);
         let answer = check(PlanInput {

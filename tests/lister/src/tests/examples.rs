@@ -7,7 +7,7 @@ use crate::loads::{Busiest, Load};
 use crate::pair::PairValues;
 use crate::plan::check;
 use crate::shortest::{walks_to_appearance, COUNT_LIMIT};
-use crate::show::{loads_text, pair_text, text_of};
+use crate::show::{loads_text, pair_text, reach_text, text_of};
 use crate::walk::walks_from;
 use crate::ways::{first_way, next_way, Found};
 
@@ -174,4 +174,21 @@ fn shown_pair() {
     assert_eq!(text_of(pair_text(owned.input(), 0, 5)), "refused 6\n");
     let none = "hops 65535\ncount 0\nthrough 0 0 0 0 0\n";
     assert_eq!(text_of(pair_text(owned.input(), 2, 1)), none);
+}
+
+#[test]
+fn shown_reach() {
+    let owned = Owned::plan_a();
+    let shown = "station 0 hops 0 count 1\n\
+                 station 1 hops 1 count 1\n\
+                 station 2 hops 1 count 1\n\
+                 station 3 hops 2 count 3\n\
+                 station 4 hops 3 count 3\n\
+                 row 0 1 0 0 0 0\n\
+                 row 1 0 1 0 0 0\n\
+                 row 2 0 1 0 2 0\n\
+                 row 3 0 0 2 1 0\n\
+                 row 4 0 0 0 0 3\n";
+    assert_eq!(text_of(reach_text(owned.input(), 0)), shown);
+    assert_eq!(text_of(reach_text(owned.input(), 5)), "refused 6\n");
 }

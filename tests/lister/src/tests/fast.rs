@@ -104,11 +104,14 @@ fn a_ladder_passes_64_bits() {
 }
 
 #[test]
-#[should_panic(expected = "numbers of walks fit 128 bits")]
-fn a_sum_over_128_bits_stops() {
+fn numbers_over_128_bits_are_held() {
     let mut builder = Builder::start();
-    builder.ladder(84, 3);
-    builder.entries();
+    let last = builder.ladder(84, 3);
+    let entry = builder.entries().station(last[0]);
+    assert_eq!((entry.hops, entry.count), (84, u128::MAX));
+    let owned = Owned::built(&builder);
+    let (number, _) = outcome(fast::reach_within, COUNT_LIMIT, &owned, 0);
+    assert_eq!(number, 9);
 }
 
 #[test]
@@ -116,12 +119,7 @@ fn exact_plans_of_few_bits_are_counted_as_listed() {
     for bits in 2..=5 {
         let limit = (1 << bits) - 1;
         for exact in exact_plans(bits) {
-            let case = exact.builder.case(&exact.label);
-            let owned = Owned {
-                bytes: case.bytes,
-                stations: case.stations.into(),
-                slots: case.slots.into(),
-            };
+            let owned = Owned::built(&exact.builder);
             let number = assert_alike(limit, &owned, 0);
             assert_eq!(number, exact.number, "{}", exact.label);
         }

@@ -3,6 +3,7 @@
 use std::collections::BTreeSet;
 use std::sync::OnceLock;
 
+use super::read_back::{assert_labels, entries_of, take, take_number};
 use crate::answer::number;
 use crate::fast;
 use crate::plan::PlanInput;
@@ -49,13 +50,8 @@ fn stated_numbers_are_those_of_the_lister() {
 
 #[test]
 fn labels_are_short_printable_and_distinct() {
-    let labels: BTreeSet<&str> = cases().iter().map(|case| case.label.as_str()).collect();
-    assert_eq!(labels.len(), cases().len());
-    for label in labels {
-        assert!((1..=LONGEST_LABEL).contains(&label.len()), "{label}");
-        let printable = |byte: u8| (32..127).contains(&byte);
-        assert!(label.bytes().all(printable), "{label}");
-    }
+    let labels = cases().iter().map(|case| case.label.as_str());
+    assert_labels(labels, LONGEST_LABEL);
 }
 
 /// The line of the case with a label.
@@ -88,38 +84,6 @@ fn lines_by_hand() {
     assert!(last.ends_with(" 127 .. 128: 9223372036854775808"), "{last}");
     let below = line_of("2^64-1 in one slot");
     assert!(below.ends_with(": 18446744073709551615"), "{below}");
-}
-
-/// Takes `length` bytes off the front.
-fn take<'a>(bytes: &mut &'a [u8], length: usize) -> &'a [u8] {
-    let (front, rest) = bytes.split_at(length);
-    *bytes = rest;
-    front
-}
-
-fn take_number(bytes: &mut &[u8], length: usize) -> usize {
-    let digits = take(bytes, length);
-    let next = |number: usize, byte: &u8| 256 * number + usize::from(*byte);
-    digits.iter().fold(0, next)
-}
-
-/// The entries that the runs of a table give; the others are left out.
-fn entries_of(runs: &str, length: usize, left_out: u64) -> Vec<u64> {
-    let mut entries = vec![left_out; length];
-    let mut words = runs.split(' ').skip(1);
-    while let Some(word) = words.next() {
-        let (from, last) = match word.strip_suffix(':') {
-            Some(only) => (only, only),
-            None => {
-                assert_eq!(words.next(), Some(".."));
-                (word, words.next().unwrap().strip_suffix(':').unwrap())
-            }
-        };
-        let value = words.next().unwrap().parse().unwrap();
-        let range = from.parse::<usize>().unwrap()..=last.parse::<usize>().unwrap();
-        entries[range].fill(value);
-    }
-    entries
 }
 
 /// Calls what a case of standard input names; the tables as the line gives them.

@@ -1,65 +1,22 @@
 //! Plans and calls that several tests share.
 
 use crate::answer::Answer;
-use crate::cases::{plan_bytes, Record, PLAN_A};
+use crate::cases::PLAN_A;
 use crate::loads::{busiest_within, loads_within, Busiest, Load};
 use crate::pair::{pair_within, PairValues};
-use crate::plan::{read, Plan, PlanInput};
-use crate::random::Random;
+use crate::plan::{read, Plan};
 use crate::reach::{reach_within, ReachTables};
-use crate::shortest::COUNT_LIMIT;
-use crate::ways::{paths_of_call, PathCall};
+use crate::reach_cases::{exact_plans, Exact};
 
-/// A plan's bytes with n and T.
-#[derive(Clone, Debug)]
-pub struct Owned {
-    pub bytes: Vec<u8>,
-    pub stations: usize,
-    pub slots: usize,
-}
+pub use crate::plans::{all_plans, random_plan, Owned};
 
 impl Owned {
-    pub fn new(stations: usize, slots: usize, records: &[Record]) -> Owned {
-        Owned {
-            bytes: plan_bytes(records),
-            stations,
-            slots,
-        }
-    }
-
     pub fn plan_a() -> Owned {
         Owned::new(5, 4, &PLAN_A)
     }
 
-    pub fn input(&self) -> PlanInput<'_> {
-        PlanInput {
-            bytes: &self.bytes,
-            stations: self.stations,
-            slots: self.slots,
-        }
-    }
-
     pub fn plan(&self) -> Plan {
         read(self.input()).unwrap()
-    }
-
-    pub fn scratch_length(&self) -> usize {
-        4 * self.stations * (self.slots + 1)
-    }
-
-    pub fn path_call(&self, source: usize, destination: usize) -> PathCall<'_> {
-        PathCall {
-            input: self.input(),
-            source,
-            destination,
-            buffer_length: self.slots,
-            scratch_length: self.scratch_length(),
-        }
-    }
-
-    /// The positions of the pair's shortest paths.
-    pub fn list(&self, source: usize, destination: usize) -> Vec<Vec<u16>> {
-        paths_of_call(COUNT_LIMIT, &self.path_call(source, destination)).unwrap()
     }
 
     /// Reach on tables of exactly the named lengths.
@@ -151,31 +108,6 @@ pub struct Paired {
     pub through: Vec<u64>,
 }
 
-/// All records that a valid plan can have, in order.
-pub fn possible_records(stations: usize, slots: usize) -> Vec<Record> {
-    let mut records = Vec::new();
-    for slot in 1..=slots {
-        for a in 0..stations {
-            for b in a + 1..stations {
-                records.push((slot as u16, a as u16, b as u16));
-            }
-        }
-    }
-    records
-}
-
-/// All valid plans of n stations and T slots: every subset of the possible records.
-pub fn all_plans(stations: usize, slots: usize) -> Vec<Owned> {
-    let possible = possible_records(stations, slots);
-    let plan = |subset: u32| {
-        let chosen = |place: &usize| subset >> place & 1 == 1;
-        let places = (0..possible.len()).filter(chosen);
-        let records: Vec<Record> = places.map(|place| possible[place]).collect();
-        Owned::new(stations, slots, &records)
-    };
-    (0..1 << possible.len()).map(plan).collect()
-}
-
 /// All plans with n up to 3 and T up to 3, and those with n 4 and T 2.
 pub fn tiny_plans() -> Vec<Owned> {
     let mut plans = Vec::new();
@@ -188,12 +120,12 @@ pub fn tiny_plans() -> Vec<Owned> {
     plans
 }
 
-/// A plan of up to 6 stations and 5 slots, with each possible record at even odds or rarer.
-pub fn random_plan(random: &mut Random) -> Owned {
-    let stations = random.between(2, 6);
-    let slots = random.between(1, 5);
-    let odds = random.between(2, 5);
-    let mut records = possible_records(stations, slots);
-    records.retain(|_| random.below(odds) == 0);
-    Owned::new(stations, slots, &records)
+/// The plans around a largest count of 2^bits−1 that are small enough to be listed often.
+pub fn small_exact_plans(bits: usize) -> Vec<(Exact, Owned)> {
+    let plans = exact_plans(bits).into_iter();
+    let built = plans.map(|exact| {
+        let owned = Owned::built(&exact.builder);
+        (exact, owned)
+    });
+    built.filter(|(_, owned)| owned.stations < 100).collect()
 }

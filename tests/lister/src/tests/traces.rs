@@ -1,91 +1,38 @@
 //! Random traces against the cursor.
 
 use super::support::{random_plan, Owned};
+use super::way_cases::steps_of;
 use crate::answer::number;
 use crate::cases::PLAN_A;
 use crate::cursor::{first_difference, Cursor, Operation, Step};
 use crate::random::Random;
 use crate::shortest::COUNT_LIMIT;
-use crate::ways::{Found, PathCall};
+use crate::way_cases::{mixed, Case};
+use crate::ways::Found;
 
 /// The seed of the random traces.
 const SEED: u64 = 2;
 
-/// Contents of a buffer: a path of the list, a path with one entry changed, or any numbers.
-fn contents(random: &mut Random, list: &[Vec<u16>], length: usize) -> Vec<u16> {
-    let mut buffer: Vec<u16> = (0..length).map(|_| random.below(9) as u16).collect();
-    if !list.is_empty() && random.below(3) > 0 {
-        let path = &list[random.below(list.len())];
-        buffer[..path.len()].copy_from_slice(path);
-        if random.below(2) == 0 {
-            buffer[random.below(path.len())] = random.below(65536) as u16;
-        }
-    }
-    buffer
-}
-
-/// A call with a cause of refusal from 1 to 8.
-fn refused_call<'a>(random: &mut Random, call: PathCall<'a>, bad_bytes: &'a [u8]) -> PathCall<'a> {
-    let mut call = call;
-    match random.below(8) {
-        0 => call.input.stations = 257,
-        1 => call.input.slots = 0,
-        2 => call.input.bytes = &bad_bytes[..7],
-        3 => call.input.bytes = bad_bytes,
-        4 => call.destination = call.input.stations,
-        5 => call.destination = call.source,
-        6 => call.buffer_length = call.input.slots - 1,
-        _ => call.scratch_length -= 1,
-    }
-    call
-}
-
 /// A trace on one pair: calls, refused calls, and writes behind the pair's hops.
-fn random_trace<'a>(
-    random: &mut Random,
-    call: PathCall<'a>,
-    hops: usize,
-    length: usize,
-    bad_bytes: &'a [u8],
-) -> Vec<Step<'a>> {
-    let steps = random.between(1, 30);
-    let step = |_| {
-        let mut call = call;
-        call.buffer_length = random.between(call.input.slots, length);
-        let operation = if random.below(6) == 0 {
-            Operation::First
-        } else {
-            Operation::Next
-        };
-        match random.below(6) {
-            0 => Step::Call(operation, refused_call(random, call, bad_bytes)),
-            1 if hops < length => {
-                let entry = random.between(hops, length - 1);
-                Step::Write(entry, random.below(65536) as u16)
-            }
-            _ => Step::Call(operation, call),
-        }
-    };
-    (0..steps).map(step).collect()
+fn random_trace(random: &mut Random, owned: &Owned, source: usize, destination: usize) -> Case {
+    let sizes = (owned.stations as u16, owned.slots as u16);
+    let stations = (source as u16, destination as u16);
+    let case = Case::on_bytes("", sizes, owned.bytes.clone(), stations);
+    mixed(random, case, 30)
 }
 
 #[test]
 fn answers_and_buffers_are_the_cursors() {
     let mut random = Random::new(SEED);
-    let bad_bytes = Owned::new(2, 1, &[(1, 1, 1), (1, 0, 1)]).bytes;
     let mut lengths = [0; 4];
     for round in 0..1500 {
         let owned = random_plan(&mut random);
         let source = random.below(owned.stations);
         let destination = (source + random.between(1, owned.stations - 1)) % owned.stations;
+        let case = random_trace(&mut random, &owned, source, destination);
+        lengths[case.list.len().min(3)] += 1;
         let list = owned.list(source, destination);
-        lengths[list.len().min(3)] += 1;
-        let hops = list.first().map_or(0, Vec::len);
-        let length = owned.slots + random.below(3);
-        let start = contents(&mut random, &list, length);
-        let call = owned.path_call(source, destination);
-        let trace = random_trace(&mut random, call, hops, length, &bad_bytes);
-        let difference = first_difference(COUNT_LIMIT, list, &start, &trace);
+        let difference = first_difference(COUNT_LIMIT, list, &case.contents, &steps_of(&case));
         assert_eq!(difference, None, "seed {SEED} round {round} {owned:?}");
     }
     assert!(lengths.iter().all(|rounds| *rounds > 100), "{lengths:?}");
@@ -94,20 +41,27 @@ fn answers_and_buffers_are_the_cursors() {
 #[test]
 fn count_limit_refuses_every_call_of_a_trace() {
     let mut random = Random::new(SEED);
-    let bad_bytes = Owned::new(2, 1, &[(1, 1, 1), (1, 0, 1)]).bytes;
     let owned = Owned::plan_a();
     let list = owned.list(0, 4);
     for _ in 0..200 {
-        let start = contents(&mut random, &list, 6);
-        let trace = random_trace(&mut random, owned.path_call(0, 4), 3, 6, &bad_bytes);
-        assert_eq!(first_difference(2, list.clone(), &start, &trace), None);
-        let mut cursor = Cursor::start(2, list.clone(), &start);
+        let case = random_trace(&mut random, &owned, 0, 4);
+        let trace = steps_of(&case);
+        let start = case.contents.as_slice();
+        assert_eq!(first_difference(2, list.clone(), start, &trace), None);
+        let mut cursor = Cursor::start(2, list.clone(), start);
+        let mut written = start.to_vec();
         for step in &trace {
-            if let Step::Call(operation, call) = step {
-                assert!((1..=9).contains(&number(&cursor.call(*operation, call))));
+            match step {
+                Step::Call(operation, call) => {
+                    assert!((1..=9).contains(&number(&cursor.call(*operation, call))));
+                }
+                Step::Write(entry, value) => {
+                    cursor.write(*entry, *value);
+                    written[*entry] = *value;
+                }
             }
         }
-        assert_eq!(cursor.buffer(), start);
+        assert_eq!(cursor.buffer(), written);
     }
 }
 

@@ -1,12 +1,12 @@
--- `cases_reach::mark64` is safe and ends: the table keeps its length, and the number of entries left falls.
+-- `cases::mark64` is safe and ends: the table keeps its length, and the number of entries left falls.
 -- Assumes nothing.
 use mathlib.Core.Path.{_≡_}
 use Prim.Native.Nat.{_-_}
 use native.Mathlib.Omega.{arith}
 use lib.ListN.{length, length-set}
 use borrow.Author.Needs.{needs}
-use Rattle.cases_reach.proofs.mark64.Statement.{statement}
-use Rattle.cases_reach.proofs.mark64.Tie as tie
+use Rattle.cases.proofs.mark64.Statement.{statement}
+use Rattle.cases.proofs.mark64.Tie as tie
 
 abbrev Inv-loop : tie.InvT-loop
 Inv-loop table₀ x i₀ table i = length table₀ ≡ length table

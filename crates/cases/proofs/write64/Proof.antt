@@ -1,10 +1,10 @@
--- `cases_reach::write64` is safe and ends: each run ends behind its first entry, so the number of entries left falls.
+-- `cases::write64` is safe and ends: each run ends behind its first entry, so the number of entries left falls.
 -- Assumes nothing.
 use Prim.Native.Nat.{_≤_, _-_}
 use lib.ListN.{length}
 use borrow.Author.Needs.{needs}
-use Rattle.cases_reach.proofs.write64.Statement.{statement}
-use Rattle.cases_reach.proofs.write64.Tie as tie
+use Rattle.cases.proofs.write64.Statement.{statement}
+use Rattle.cases.proofs.write64.Tie as tie
 
 abbrev Inv-loop : tie.InvT-loop
 Inv-loop table from₀ from = from ≤ length table
@@ -23,6 +23,9 @@ loop-holds c = search needs
 
 run-end64-requires : tie.Need-run-end64-requires Inv-loop μ-loop
 run-end64-requires c κs = search needs
+
+sub-write-run : tie.Need-sub-write-run Inv-loop μ-loop
+sub-write-run c = search needs
 
 mul-write-run : tie.Need-mul-write-run Inv-loop μ-loop
 mul-write-run c = search needs
@@ -52,6 +55,7 @@ write64-spec =
     write-part-requires
     loop-holds
     run-end64-requires
+    sub-write-run
     mul-write-run
     shared-slice-read-write-run
     write-run-requires

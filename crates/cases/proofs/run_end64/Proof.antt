@@ -1,10 +1,10 @@
--- `cases_reach::run_end64` meets its contract: the end lies behind the first entry and within the table.
+-- `cases::run_end64` meets its contract: the end lies behind the first entry and within the table.
 -- Assumes nothing.
 use Prim.Native.Nat.{_<_, _≤_, _-_}
 use lib.ListN.{length}
 use borrow.Author.Needs.{needs}
-use Rattle.cases_reach.proofs.run_end64.Statement.{statement}
-use Rattle.cases_reach.proofs.run_end64.Tie as tie
+use Rattle.cases.proofs.run_end64.Statement.{statement}
+use Rattle.cases.proofs.run_end64.Tie as tie
 
 abbrev Inv-loop : tie.InvT-loop
 Inv-loop table from x end₀ end = (from < end) × (end ≤ length table)

@@ -1,0 +1,153 @@
+//! Two or more causes in one input: which number comes first.
+
+use super::lengths::spread_records;
+use super::{on_table, Case};
+use crate::cases::{plan_bytes, Record};
+
+pub fn cases() -> Vec<Case> {
+    let mut cases = length_first();
+    cases.extend(too_many_first());
+    cases.extend(sizes_second());
+    cases.extend(one_record());
+    cases.extend(two_records());
+    cases
+}
+
+/// Records with one of causes 1, 3, 4, 5 each.
+const FAULTS: [(&str, &[Record]); 8] = [
+    ("n 33", &[(1, 0, 1), (1, 0, 32)]),
+    ("n 65536", &[(1, 0, 65535), (2, 0, 1)]),
+    ("T 64", &[(1, 0, 1), (64, 0, 1)]),
+    ("T 0", &[(1, 0, 1), (0, 0, 1)]),
+    ("slot 0", &[(0, 0, 1), (1, 0, 1)]),
+    ("slot above T", &[(2, 0, 1), (1, 0, 1)]),
+    ("a = b", &[(1, 0, 1), (1, 1, 1)]),
+    ("equal records", &[(1, 0, 1), (1, 0, 1)]),
+];
+
+/// A wrong length with each other fault, its records whole or its last one cut.
+fn length_first() -> Vec<Case> {
+    let mut cases = Vec::new();
+    for (fault, records) in FAULTS {
+        let whole = plan_bytes(records);
+        for more in [1, 5] {
+            let bytes = [whole.as_slice(), &vec![0; more]].concat();
+            let label = format!("2 before {fault}, {more} bytes behind");
+            cases.push(Case::on_bytes(&label, bytes, 2));
+        }
+        let bytes = whole[..whole.len() - 1].to_vec();
+        let label = format!("2 before {fault}, a byte cut off");
+        cases.push(Case::on_bytes(&label, bytes, 2));
+    }
+    cases
+}
+
+/// 513 records with each other fault, at their beginning and at their end.
+fn too_many_first() -> Vec<Case> {
+    let mut cases = Vec::new();
+    for (fault, records) in FAULTS {
+        let spread = spread_records(513 - records.len());
+        let early = [records, &spread].concat();
+        let label = format!("2 before {fault}, 513 records");
+        cases.push(Case::on_records(&label, &early, 2));
+        let late = [&spread, records].concat();
+        let label = format!("2 before {fault} at the end, 513 records");
+        cases.push(Case::on_records(&label, &late, 2));
+    }
+    cases
+}
+
+/// n or T outside its limits with a fault of a record, before it and after it.
+fn sizes_second() -> Vec<Case> {
+    on_table(&[
+        ("n 33 after slot 0", &[(0, 0, 1), (1, 0, 32)], 1),
+        ("n 33 after slot above T", &[(3, 0, 1), (1, 0, 32)], 1),
+        ("n 33 after a = b", &[(1, 1, 1), (1, 1, 32)], 1),
+        (
+            "n 33 after equal records",
+            &[(1, 0, 1), (1, 0, 1), (1, 0, 32)],
+            1,
+        ),
+        ("n 33 before slot 0", &[(1, 0, 32), (0, 0, 1), (2, 0, 1)], 1),
+        ("n 33 before a = b", &[(1, 0, 32), (2, 1, 1)], 1),
+        (
+            "n 33 before equal records",
+            &[(1, 0, 32), (2, 0, 1), (2, 0, 1)],
+            1,
+        ),
+        ("n 33 in a record of slot 0", &[(0, 0, 32), (1, 0, 1)], 1),
+        ("n 33 by a = b", &[(1, 32, 32), (2, 0, 1)], 1),
+        ("T 0 after slot above T", &[(1, 0, 1), (0, 0, 1)], 1),
+        ("T 0 after a = b", &[(1, 1, 1), (0, 0, 1)], 1),
+        ("T 0 in a record with a = b", &[(0, 1, 1)], 1),
+        ("T 0 in a record of zeros", &[(0, 0, 0)], 1),
+        (
+            "T 0 after equal records",
+            &[(1, 0, 1), (1, 0, 1), (0, 0, 1)],
+            1,
+        ),
+        ("T 64 after slot 0", &[(0, 0, 1), (64, 0, 1)], 1),
+        ("T 64 after a = b", &[(1, 1, 1), (64, 0, 1)], 1),
+        (
+            "T 64 after equal records",
+            &[(1, 0, 1), (1, 0, 1), (64, 0, 1)],
+            1,
+        ),
+        ("T 65535 in a record with a = b", &[(65535, 1, 1)], 1),
+        ("n 65536, T 65535, a = b", &[(65535, 65535, 65535)], 1),
+        ("n 33, T 0", &[(0, 0, 32)], 1),
+        ("n 33, T 64", &[(64, 0, 32)], 1),
+    ])
+}
+
+/// Causes 3, 4 and 5 of one record; the records behind it give n and T.
+fn one_record() -> Vec<Case> {
+    on_table(&[
+        ("3 before 4, slot 0", &[(0, 1, 1), (1, 0, 1)], 3),
+        ("3 before 4, slot above T", &[(5, 3, 2), (4, 0, 1)], 3),
+        ("3 before 5, slot 0", &[(1, 0, 1), (0, 0, 1), (2, 0, 1)], 3),
+        ("3 before 4 and 5", &[(1, 0, 1), (0, 0, 0), (2, 0, 1)], 3),
+        ("4 before 5, a = b", &[(2, 1, 2), (1, 3, 3), (2, 1, 3)], 4),
+        (
+            "4 before 5, b before a",
+            &[(2, 1, 2), (2, 1, 0), (2, 1, 3)],
+            4,
+        ),
+        ("4 before 5 in the last record", &[(2, 1, 2), (2, 0, 0)], 4),
+        (
+            "4 of a record above its neighbour",
+            &[(1, 0, 1), (1, 1, 1)],
+            4,
+        ),
+    ])
+}
+
+/// Causes 3, 4 and 5 of different records: the earlier record decides.
+fn two_records() -> Vec<Case> {
+    let same: Record = (1, 0, 1);
+    on_table(&[
+        ("earlier 3, later 4", &[(0, 0, 1), (1, 1, 1), (1, 0, 1)], 3),
+        ("earlier 3, later 5", &[(2, 0, 1), same, same], 3),
+        ("earlier 4, later 3", &[(1, 1, 0), (0, 0, 1), (1, 0, 1)], 4),
+        (
+            "earlier 4, later slot above T",
+            &[(1, 1, 1), (5, 0, 1), (2, 0, 1)],
+            4,
+        ),
+        ("earlier 4, later 5", &[(1, 2, 2), same, same], 4),
+        ("earlier 5, later 3", &[same, same, (0, 0, 1), (2, 0, 1)], 5),
+        (
+            "earlier 5, later slot above T",
+            &[same, same, (5, 0, 1), (2, 0, 1)],
+            5,
+        ),
+        ("earlier 5, later 4", &[same, same, (2, 1, 1)], 5),
+        ("3, then 4, then 5", &[(0, 0, 1), (1, 1, 1), same, same], 3),
+        ("4, then 3, then 5", &[(1, 1, 1), (0, 0, 1), same, same], 4),
+        (
+            "5, then 4, then 3",
+            &[same, same, (1, 1, 1), (0, 0, 1), (2, 0, 1)],
+            5,
+        ),
+    ])
+}

@@ -1,0 +1,96 @@
+//! Generated cases: valid plans of three sizes, and damaged ones.
+
+use super::Case;
+use crate::cases::{self, damage, plan_bytes, valid_records};
+use crate::load_program::{MOST_CONTACTS, MOST_SLOTS, MOST_STATIONS};
+use crate::random::Random;
+
+/// The seed of the generated cases; each label names it.
+pub const SEED: u64 = 4;
+/// The number of plans of each size.
+const PLANS: usize = 50;
+
+/// A size of plans: the largest n, T and number of records.
+struct Size {
+    name: &'static str,
+    stations: usize,
+    slots: usize,
+    records: usize,
+}
+
+const SIZES: [Size; 3] = [
+    Size {
+        name: "small",
+        stations: 6,
+        slots: 5,
+        records: 12,
+    },
+    Size {
+        name: "middle",
+        stations: 14,
+        slots: 16,
+        records: 60,
+    },
+    Size {
+        name: "large",
+        stations: MOST_STATIONS,
+        slots: MOST_SLOTS,
+        records: MOST_CONTACTS,
+    },
+];
+
+pub fn cases() -> Vec<Case> {
+    let mut random = Random::new(SEED);
+    let mut cases = Vec::new();
+    for size in &SIZES {
+        for index in 0..PLANS {
+            cases.push(Case {
+                label: format!("{} {index}, seed {SEED}", size.name),
+                bytes: valid_plan(&mut random, size),
+                stated: Some(0),
+            });
+        }
+    }
+    for index in 0..PLANS {
+        cases.push(damaged(&mut random, index));
+    }
+    cases
+}
+
+/// A valid plan of a size.
+fn valid_plan(random: &mut Random, size: &Size) -> Vec<u8> {
+    let stations = random.between(2, size.stations);
+    let slots = random.between(1, size.slots);
+    let wanted = random.between(1, size.records);
+    plan_bytes(&valid_records(random, stations, slots, wanted))
+}
+
+/// A small plan or a plan of middle size, damaged in one or two places.
+fn damaged(random: &mut Random, index: usize) -> Case {
+    let mut case = cases::Case {
+        label: String::new(),
+        stations: 0,
+        slots: 5,
+        bytes: valid_plan(random, &SIZES[index % 2]),
+        stated: None,
+    };
+    let mut done = Vec::new();
+    for _ in 0..random.between(1, 2) {
+        done.push(damage_bytes(random, &mut case));
+    }
+    Case {
+        label: format!("damaged {index}, seed {SEED}: {}", done.join(", ")),
+        bytes: case.bytes,
+        stated: None,
+    }
+}
+
+/// Damages the bytes of a case; damages of n and T are passed over, since the bytes give both here.
+fn damage_bytes(random: &mut Random, case: &mut cases::Case) -> &'static str {
+    let before = case.bytes.clone();
+    let mut done = damage(random, case);
+    while case.bytes == before {
+        done = damage(random, case);
+    }
+    done
+}

@@ -1,0 +1,62 @@
+//! Ladders within the limits, and those that pass them.
+
+use super::Case;
+use crate::plans::Owned;
+use crate::reach_cases::Builder;
+
+pub fn cases() -> Vec<Case> {
+    let mut cases = layers();
+    cases.extend(slots());
+    cases
+}
+
+/// Layers of stations; 16 layers of two have 33 stations.
+fn layers() -> Vec<Case> {
+    let mut ladders: Vec<(usize, usize)> = (1..=16).map(|layers| (layers, 2)).collect();
+    ladders.extend([(5, 3), (10, 3), (11, 3), (7, 4), (6, 5), (5, 6), (4, 7)]);
+    ladders.extend([
+        (3, 10),
+        (2, 15),
+        (2, 16),
+        (1, 31),
+        (1, 32),
+        (31, 1),
+        (32, 1),
+    ]);
+    let case = |(layers, width): &(usize, usize)| {
+        let mut builder = Builder::start();
+        builder.ladder(*layers, *width);
+        let label = format!("ladder of {layers} layers of {width}");
+        let stated = if layers * width > 31 { 1 } else { 0 };
+        Case::on_bytes(&label, Owned::built(&builder).bytes, stated)
+    };
+    ladders.iter().map(case).collect()
+}
+
+/// Rows of stations that meet the next in several slots; 32 hops have 33 stations, and 64 slots are
+/// too many.
+fn slots() -> Vec<Case> {
+    let rows = [
+        (31, 2),
+        (32, 1),
+        (21, 3),
+        (15, 4),
+        (16, 4),
+        (12, 5),
+        (9, 7),
+        (7, 9),
+        (8, 8),
+        (3, 21),
+        (2, 31),
+        (1, 63),
+        (1, 64),
+    ];
+    let case = |(hops, width): (usize, usize)| {
+        let mut builder = Builder::start();
+        builder.slot_ladder(hops, width);
+        let label = format!("row of {hops} hops, {width} slots a hop");
+        let stated = if hops > 31 || hops * width > 63 { 1 } else { 0 };
+        Case::on_bytes(&label, Owned::built(&builder).bytes, stated)
+    };
+    rows.map(case).to_vec()
+}

@@ -1,0 +1,124 @@
+//! Causes 3, 4 and 5 of one record: the first, a middle one and the last.
+
+use super::{on_table, Case};
+use crate::cases::{Record, PLAN_A};
+
+pub fn cases() -> Vec<Case> {
+    let mut cases = slots();
+    cases.extend(stations());
+    cases.extend(orders());
+    cases.extend(small_slots());
+    cases.extend(small_orders());
+    cases
+}
+
+/// The index of the last record of plan A.
+const LAST: usize = PLAN_A.len() - 1;
+
+/// Plan A with one record changed.
+fn changed(at: usize, change: impl Fn(Record) -> Record) -> [Record; 6] {
+    let mut records = PLAN_A;
+    records[at] = change(records[at]);
+    records
+}
+
+/// Every record of plan A with another slot. The last record gives T, which leaves 1 for it where the
+/// slot is outside T's limits, and 3 for an earlier record where T becomes less than its slot.
+fn slots() -> Vec<Case> {
+    let mut cases = Vec::new();
+    for at in 0..PLAN_A.len() {
+        for slot in [0, 5, 63, 64, 256, 260, 65535] {
+            let records = changed(at, |(_, a, b)| (slot, a, b));
+            let stated = match (at, slot) {
+                (LAST, 5 | 63) => 0,
+                (LAST, _) => 1,
+                _ => 3,
+            };
+            let label = format!("plan A, record {at} in slot {slot}");
+            cases.push(Case::on_records(&label, &records, stated));
+        }
+    }
+    for slot in [1, 2] {
+        let records = changed(LAST, |(_, a, b)| (slot, a, b));
+        let label = format!("plan A, record {LAST} in slot {slot}");
+        cases.push(Case::on_records(&label, &records, 3));
+    }
+    // In slot 3 the last record is above the one before it.
+    let records = changed(LAST, |(_, a, b)| (3, a, b));
+    let label = format!("plan A, record {LAST} in slot 3");
+    cases.push(Case::on_records(&label, &records, 0));
+    cases
+}
+
+/// Every record of plan A with a = b and with a and b exchanged.
+fn stations() -> Vec<Case> {
+    let mut cases = Vec::new();
+    for at in 0..PLAN_A.len() {
+        let label = |what: &str| format!("plan A, record {at}, {what}");
+        let exchanged = changed(at, |(slot, a, b)| (slot, b, a));
+        cases.push(Case::on_records(&label("b before a"), &exchanged, 4));
+        let same = changed(at, |(slot, a, _)| (slot, a, a));
+        cases.push(Case::on_records(&label("b as a"), &same, 4));
+        let same = changed(at, |(slot, _, b)| (slot, b, b));
+        cases.push(Case::on_records(&label("a as b"), &same, 4));
+    }
+    cases
+}
+
+/// Every record of plan A twice, and exchanged with the next.
+fn orders() -> Vec<Case> {
+    let mut cases = Vec::new();
+    for at in 0..PLAN_A.len() {
+        let mut records = PLAN_A.to_vec();
+        records.insert(at, PLAN_A[at]);
+        let label = format!("plan A, record {at} twice");
+        cases.push(Case::on_records(&label, &records, 5));
+    }
+    for at in 0..LAST {
+        let mut records = PLAN_A;
+        records.swap(at, at + 1);
+        // With record 4 last T is 3, and the slot of the record before it is above T.
+        let stated = if at + 1 == LAST { 3 } else { 5 };
+        let label = format!("plan A, records {at} and {} exchanged", at + 1);
+        cases.push(Case::on_records(&label, &records, stated));
+    }
+    cases
+}
+
+/// Slots of two and three records, with T from the last.
+fn small_slots() -> Vec<Case> {
+    on_table(&[
+        ("slots 2, 1", &[(2, 0, 1), (1, 0, 1)], 3),
+        ("slots 2, 1, stations rising", &[(2, 0, 1), (1, 1, 2)], 3),
+        ("slots 1, 2, 1", &[(1, 0, 1), (2, 0, 1), (1, 1, 2)], 3),
+        ("slots 1, 0", &[(1, 0, 1), (0, 0, 1)], 1),
+        ("slots 0, 1", &[(0, 0, 1), (1, 0, 1)], 3),
+        ("slots 1, 0, 1", &[(1, 0, 1), (0, 1, 2), (1, 1, 2)], 3),
+        ("slots 63, 62", &[(63, 0, 1), (62, 0, 1)], 3),
+        ("slots 65535, 1", &[(65535, 0, 1), (1, 0, 1)], 3),
+        ("slots 256, 1", &[(256, 0, 1), (1, 0, 1)], 3),
+        ("slots 257, 1", &[(257, 0, 1), (1, 1, 2)], 3),
+    ])
+}
+
+/// Orders of a few records whose slots are all within T.
+fn small_orders() -> Vec<Case> {
+    on_table(&[
+        (
+            "slots 1, 2, 1, 2",
+            &[(1, 0, 1), (2, 0, 1), (1, 0, 1), (2, 0, 1)],
+            5,
+        ),
+        ("slots 2, 1, 2", &[(2, 0, 1), (1, 0, 1), (2, 1, 2)], 5),
+        ("not above by a", &[(1, 1, 2), (1, 0, 3)], 5),
+        ("not above by b", &[(1, 0, 2), (1, 0, 1)], 5),
+        (
+            "equal records 0 and 2",
+            &[(1, 0, 1), (1, 0, 2), (1, 0, 1)],
+            5,
+        ),
+        ("above by b alone", &[(1, 0, 1), (1, 0, 2)], 0),
+        ("above by a, b less", &[(1, 0, 3), (1, 1, 2)], 0),
+        ("above by slot, a and b less", &[(1, 2, 3), (2, 0, 1)], 0),
+    ])
+}

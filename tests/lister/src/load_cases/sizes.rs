@@ -1,0 +1,135 @@
+//! Cause 1: n and T as the records give them, at their limits.
+
+use super::lengths::spread_records;
+use super::{on_table, Case};
+use crate::cases::Record;
+
+pub fn cases() -> Vec<Case> {
+    let mut cases = station_limits();
+    cases.extend(slot_limits());
+    cases.extend(both_limits());
+    cases.extend(places());
+    cases.extend(most_records());
+    cases
+}
+
+/// One contact with a station number around the limits, and with a plain low byte.
+fn station_limits() -> Vec<Case> {
+    let mut cases = Vec::new();
+    for (b, stated) in [
+        (2, 0),
+        (30, 0),
+        (31, 0),
+        (32, 1),
+        (33, 1),
+        (255, 1),
+        (256, 1),
+        (257, 1),
+        (32767, 1),
+        (32768, 1),
+        (65534, 1),
+        (65535, 1),
+    ] {
+        let label = format!("contact 0 {b} in slot 1");
+        cases.push(Case::on_records(&label, &[(1, 0, b)], stated));
+        // The larger number first is cause 4, where n has no cause.
+        let stated = if stated == 0 { 4 } else { stated };
+        let label = format!("contact {b} 0 in slot 1");
+        cases.push(Case::on_records(&label, &[(1, b, 0)], stated));
+        let label = format!("contact {b} {b} in slot 1");
+        cases.push(Case::on_records(&label, &[(1, b, b)], stated));
+    }
+    cases.push(Case::on_records("contact 0 0, n 1", &[(1, 0, 0)], 4));
+    cases
+}
+
+/// One contact with a slot around the limits, and with a plain low byte.
+fn slot_limits() -> Vec<Case> {
+    let slots = [
+        (0, 1),
+        (1, 0),
+        (62, 0),
+        (63, 0),
+        (64, 1),
+        (65, 1),
+        (255, 1),
+        (256, 1),
+        (257, 1),
+        (319, 1),
+        (32769, 1),
+        (65535, 1),
+    ];
+    let case = |(slot, stated): &(u16, u8)| {
+        let label = format!("contact 0 1 in slot {slot}");
+        Case::on_records(&label, &[(*slot, 0, 1)], *stated)
+    };
+    slots.iter().map(case).collect()
+}
+
+/// n and T at their limits together.
+fn both_limits() -> Vec<Case> {
+    let mut cases = Vec::new();
+    for (slot, b, stated) in [(63, 31, 0), (63, 32, 1), (64, 31, 1), (64, 32, 1)] {
+        let label = format!("n {}, T {slot}, last record", b + 1);
+        let records = [(1, 0, 1), (slot, 30, b)];
+        cases.push(Case::on_records(&label, &records, stated));
+    }
+    cases
+}
+
+/// The largest station number in the first, a middle and the last record.
+fn places() -> Vec<Case> {
+    on_table(&[
+        ("n 32 in record 0", &[(1, 0, 31), (2, 0, 1), (3, 1, 2)], 0),
+        ("n 32 in record 1", &[(1, 0, 1), (2, 1, 31), (3, 1, 2)], 0),
+        ("n 32 in record 2", &[(1, 0, 1), (2, 1, 2), (3, 2, 31)], 0),
+        ("n 33 in record 0", &[(1, 0, 32), (2, 0, 1), (3, 1, 2)], 1),
+        ("n 33 in record 1", &[(1, 0, 1), (2, 1, 32), (3, 1, 2)], 1),
+        ("n 33 in record 2", &[(1, 0, 1), (2, 1, 2), (3, 2, 32)], 1),
+        ("n 65536 in record 0", &[(1, 0, 65535), (2, 0, 1)], 1),
+        ("n 65536 in record 1", &[(1, 0, 1), (2, 0, 65535)], 1),
+        ("n 65536 by a", &[(1, 65535, 0), (2, 0, 1)], 1),
+        (
+            "n 65536 in every record",
+            &[(1, 0, 65535), (2, 0, 65535)],
+            1,
+        ),
+        (
+            "slot 64 before the last record",
+            &[(64, 0, 1), (63, 0, 1)],
+            3,
+        ),
+        ("slot 64 in the last record", &[(63, 0, 1), (64, 0, 1)], 1),
+        (
+            "T 63 after slots 1 and 2",
+            &[(1, 0, 1), (2, 1, 2), (63, 2, 3)],
+            0,
+        ),
+    ])
+}
+
+/// 512 records at the limits, and one change in them.
+fn most_records() -> Vec<Case> {
+    let whole = spread_records(512);
+    let changed = |at: usize, record: Record| {
+        let mut records = whole.clone();
+        records[at] = record;
+        records
+    };
+    let equal = changed(511, whole[510]);
+    let longer = spread_records(513);
+    vec![
+        Case::on_records("512 records, n 32, T 63", &whole, 0),
+        Case::on_records("513 records, n 32, T 63", &longer, 2),
+        Case::on_records("512 records, last b 32", &changed(511, (63, 30, 32)), 1),
+        Case::on_records("512 records, last slot 64", &changed(511, (64, 0, 1)), 1),
+        Case::on_records("512 records, last slot 0", &changed(511, (0, 30, 31)), 1),
+        Case::on_records("512 records, last slot 62", &changed(511, (62, 0, 1)), 3),
+        Case::on_records("512 records, last a = b", &changed(511, (63, 31, 31)), 4),
+        Case::on_records("512 records, last two equal", &equal, 5),
+        Case::on_records("512 records, first b 32", &changed(0, (1, 0, 32)), 1),
+        Case::on_records("512 records, first slot 0", &changed(0, (0, 0, 1)), 3),
+        Case::on_records("512 records, first a = b", &changed(0, (1, 0, 0)), 4),
+        Case::on_records("512 records, first two equal", &changed(0, whole[1]), 5),
+    ]
+}

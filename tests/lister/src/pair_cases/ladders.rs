@@ -1,0 +1,106 @@
+//! Ladders, and plans around 2^64 walks from one source.
+
+use super::{Case, LabelledPlan};
+use crate::reach_cases::{exact_plans, ladder, Exact};
+
+pub fn cases() -> Vec<Case> {
+    let mut cases = accepted_ladders();
+    cases.extend(too_many());
+    cases.extend(other_sources());
+    cases.extend(other_widths());
+    cases.extend(exact());
+    cases
+}
+
+/// A ladder of so many layers of two.
+fn on(layers: usize, label: &str) -> LabelledPlan {
+    let label = format!("ladder of {layers} layers{label}");
+    LabelledPlan::built(&label, &ladder(layers, 2))
+}
+
+/// The last station of such a ladder.
+fn last(layers: usize) -> u16 {
+    2 * layers as u16
+}
+
+/// 63 and 64 layers.
+fn accepted_ladders() -> Vec<Case> {
+    let mut cases = Vec::new();
+    for layers in [63, 64] {
+        let plan = on(layers, "");
+        cases.push(plan.pair(0, last(layers)));
+        cases.push(plan.pair(0, last(layers) - 1));
+        cases.push(plan.pair(0, last(layers) / 2));
+        cases.push(plan.pair(last(layers), 0));
+    }
+    cases.extend([on(64, "").loads(), on(64, "").busiest()]);
+    let plan = on(64, ", longer");
+    for case in [plan.pair(0, last(64)), plan.loads()] {
+        cases.push(case.longer([7, 6, 8]).marked(4321));
+    }
+    cases.into_iter().map(|case| case.stating(0)).collect()
+}
+
+/// 65 layers: the source has 2^64 walks to the last two, whatever the destination.
+fn too_many() -> Vec<Case> {
+    let (plan, longer) = (on(65, ""), on(65, ", longer"));
+    let mut cases = vec![
+        plan.pair(0, last(65)),
+        plan.pair(0, 1),
+        plan.pair(0, 64),
+        plan.loads(),
+        plan.busiest(),
+    ];
+    for case in [longer.pair(0, last(65)), longer.loads(), longer.busiest()] {
+        cases.push(case.longer([7, 6, 8]).marked(4321));
+    }
+    cases.into_iter().map(|case| case.stating(9)).collect()
+}
+
+/// 65 layers from other sources, which have fewer walks: pair works on its source alone.
+fn other_sources() -> Vec<Case> {
+    let plan = on(65, "");
+    let pairs = [
+        (1, 130),
+        (2, 129),
+        (3, 130),
+        (64, 130),
+        (129, 130),
+        (130, 0),
+    ];
+    let case = |(source, destination): (u16, u16)| plan.pair(source, destination).stating(0);
+    pairs.into_iter().map(case).collect()
+}
+
+/// Ladders of other widths, the last accepted one and the first that is not.
+fn other_widths() -> Vec<Case> {
+    let mut cases = Vec::new();
+    for (width, layers, number) in [(3, 41, 0), (3, 42, 9), (7, 23, 0), (7, 24, 9)] {
+        let label = format!("ladder of {layers} layers, {width} wide");
+        let plan = LabelledPlan::built(&label, &ladder(layers, width));
+        cases.push(plan.pair(0, (width * layers) as u16).stating(number));
+        cases.push(plan.loads().stating(number));
+    }
+    cases
+}
+
+/// The plans around 2^64 of reach-cases: pair from their source, and loads of the refused ones and of
+/// the largest count.
+fn exact() -> Vec<Case> {
+    let mut cases = Vec::new();
+    for Exact {
+        label,
+        builder,
+        number,
+    } in exact_plans(64)
+    {
+        let plan = LabelledPlan::built(&label, &builder);
+        let end = builder.sizes().0 - 1;
+        let pair = plan.pair(0, end).stating(number);
+        cases.push(pair.longer([3, 0, 2]));
+        if number == 9 || label == "2^64-1 in one slot" {
+            cases.push(plan.loads().stating(number));
+        }
+    }
+    cases
+}

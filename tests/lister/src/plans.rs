@@ -1,0 +1,100 @@
+//! Small plans: all of a size, and generated ones.
+
+use crate::cases::{plan_bytes, Record};
+use crate::plan::PlanInput;
+use crate::random::Random;
+use crate::reach_cases::Builder;
+use crate::shortest::COUNT_LIMIT;
+use crate::ways::{paths_of_call, PathCall};
+
+/// A plan's bytes with n and T.
+#[derive(Clone, Debug)]
+pub struct Owned {
+    pub bytes: Vec<u8>,
+    pub stations: usize,
+    pub slots: usize,
+}
+
+impl Owned {
+    pub fn new(stations: usize, slots: usize, records: &[Record]) -> Owned {
+        Owned {
+            bytes: plan_bytes(records),
+            stations,
+            slots,
+        }
+    }
+
+    /// The plan of a builder.
+    pub fn built(builder: &Builder) -> Owned {
+        let case = builder.case("");
+        Owned {
+            bytes: case.bytes,
+            stations: case.stations.into(),
+            slots: case.slots.into(),
+        }
+    }
+
+    pub fn input(&self) -> PlanInput<'_> {
+        PlanInput {
+            bytes: &self.bytes,
+            stations: self.stations,
+            slots: self.slots,
+        }
+    }
+
+    /// The named entries of the scratch.
+    pub fn scratch_length(&self) -> usize {
+        4 * self.stations * (self.slots + 1)
+    }
+
+    /// A call on memory of exactly the named lengths.
+    pub fn path_call(&self, source: usize, destination: usize) -> PathCall<'_> {
+        PathCall {
+            input: self.input(),
+            source,
+            destination,
+            buffer_length: self.slots,
+            scratch_length: self.scratch_length(),
+        }
+    }
+
+    /// The positions of the pair's shortest paths.
+    pub fn list(&self, source: usize, destination: usize) -> Vec<Vec<u16>> {
+        paths_of_call(COUNT_LIMIT, &self.path_call(source, destination)).unwrap()
+    }
+}
+
+/// All records that a valid plan can have, in order.
+pub fn possible_records(stations: usize, slots: usize) -> Vec<Record> {
+    let mut records = Vec::new();
+    for slot in 1..=slots {
+        for a in 0..stations {
+            for b in a + 1..stations {
+                records.push((slot as u16, a as u16, b as u16));
+            }
+        }
+    }
+    records
+}
+
+/// All valid plans of n stations and T slots: every subset of the possible records.
+pub fn all_plans(stations: usize, slots: usize) -> Vec<Owned> {
+    let possible = possible_records(stations, slots);
+    let plan = |subset: u32| {
+        let chosen = |place: &usize| subset >> place & 1 == 1;
+        let places = (0..possible.len()).filter(chosen);
+        let records: Vec<Record> = places.map(|place| possible[place]).collect();
+        Owned::new(stations, slots, &records)
+    };
+    (0..1 << possible.len()).map(plan).collect()
+}
+
+/// A plan of up to 6 stations and 5 slots, with each possible record at even odds or rarer.
+pub fn random_plan(random: &mut Random) -> Owned {
+    let stations = random.between(2, 6);
+    let slots = random.between(1, 5);
+    let odds = random.between(2, 5);
+    let mut records = possible_records(stations, slots);
+    records.retain(|_| random.below(odds) == 0);
+    Owned::new(stations, slots, &records)
+}

@@ -1,0 +1,316 @@
+//! Pair, loads and busiest by numbers of walks, compared with the plain lister and closed forms.
+
+use super::support::{random_plan, small_exact_plans, tiny_plans, Owned};
+use crate::answer::{number, Answer};
+use crate::cases::plan_bytes;
+use crate::fast_pairs;
+use crate::loads::{busiest_within, loads_within, Busiest, Load};
+use crate::pair::{pair_within, PairValues};
+use crate::plan::PlanInput;
+use crate::random::Random;
+use crate::reach_cases::Builder;
+use crate::shortest::COUNT_LIMIT;
+
+type Pair = fn(u64, PlanInput, usize, usize, &mut [u64], &mut [u64]) -> Answer<PairValues>;
+type Loads = fn(u64, PlanInput, &mut [u64], &mut [u64], &mut [u64]) -> Answer<()>;
+
+/// Two tables of a plan's stations and a scratch, lent with so many entries more or fewer.
+type Lengths = [isize; 3];
+
+/// Two entries behind each named part.
+const LONGER: Lengths = [2; 3];
+
+/// Memory of the named lengths, changed as asked, marked with 77.
+fn lend(owned: &Owned, change: Lengths) -> [Vec<u64>; 3] {
+    let named = [owned.stations, owned.stations, owned.scratch_length()];
+    let lent = |table: usize| vec![77; named[table].saturating_add_signed(change[table])];
+    [0, 1, 2].map(lent)
+}
+
+/// The answer of a pair, and its memory after the call.
+fn paired(
+    pair: Pair,
+    limit: u64,
+    owned: &Owned,
+    (source, destination): (usize, usize),
+    change: Lengths,
+) -> (Answer<PairValues>, [Vec<u64>; 3]) {
+    let mut lent = lend(owned, change);
+    let [through, _, scratch] = &mut lent;
+    let answer = pair(limit, owned.input(), source, destination, through, scratch);
+    (answer, lent)
+}
+
+/// Asserts that both pairs answer alike, and gives the number.
+fn assert_pair(limit: u64, owned: &Owned, ends: (usize, usize), change: Lengths) -> u8 {
+    let listed = paired(pair_within, limit, owned, ends, change);
+    let counted = paired(fast_pairs::pair_within, limit, owned, ends, change);
+    assert_eq!(listed, counted, "limit {limit}, {ends:?}, {owned:?}");
+    number(&listed.0)
+}
+
+/// The answer of loads, and its memory after the call.
+fn loaded(loads: Loads, limit: u64, owned: &Owned, change: Lengths) -> (Answer<()>, [Vec<u64>; 3]) {
+    let mut lent = lend(owned, change);
+    let [pairs, sums, scratch] = &mut lent;
+    let answer = loads(limit, owned.input(), pairs, sums, scratch);
+    (answer, lent)
+}
+
+/// Asserts that both loads, both busiest and the largest load agree, and gives the number of loads.
+fn assert_loads(limit: u64, owned: &Owned, change: Lengths) -> u8 {
+    let listed = loaded(loads_within, limit, owned, change);
+    let counted = loaded(fast_pairs::loads_within, limit, owned, change);
+    assert_eq!(listed, counted, "limit {limit}, {owned:?}");
+    let input = owned.input();
+    let [mut one, mut other, mut third] = [2; 3].map(|_| lend(owned, change)[2].clone());
+    let busiest = busiest_within(limit, input, &mut one);
+    let counted = fast_pairs::busiest_within(limit, input, &mut other);
+    assert_eq!(busiest, counted, "limit {limit}, {owned:?}");
+    let largest = fast_pairs::largest_load_within(limit, input, &mut third);
+    let expected = busiest.map(|Busiest { stations }| match number(&listed.0) {
+        0 => listed.1[1][stations[0]],
+        _ => largest.unwrap(),
+    });
+    assert_eq!(largest, expected, "limit {limit}, {owned:?}");
+    assert_eq!((&one, &one), (&other, &third), "limit {limit}, {owned:?}");
+    number(&listed.0)
+}
+
+/// Asserts agreement on every pair and of the loads; adds up the numbers 9.
+fn assert_alike(limit: u64, owned: &Owned, refused: &mut [usize; 2]) {
+    for source in 0..owned.stations {
+        for destination in (0..owned.stations).filter(|station| *station != source) {
+            let number = assert_pair(limit, owned, (source, destination), LONGER);
+            refused[0] += usize::from(number == 9);
+        }
+    }
+    refused[1] += usize::from(assert_loads(limit, owned, LONGER) == 9);
+}
+
+#[test]
+fn tiny_plans_are_counted_as_listed() {
+    let mut refused = [0; 2];
+    for owned in tiny_plans() {
+        for limit in [1, 2, COUNT_LIMIT] {
+            assert_alike(limit, &owned, &mut refused);
+        }
+    }
+    assert!(refused.iter().all(|count| *count > 1000), "{refused:?}");
+}
+
+#[test]
+fn random_plans_are_counted_as_listed() {
+    let mut random = Random::new(10);
+    let mut refused = [0; 2];
+    for _ in 0..1000 {
+        let owned = random_plan(&mut random);
+        let limit = [1, 2, 3, 5, 9, COUNT_LIMIT][random.below(6)];
+        assert_alike(limit, &owned, &mut refused);
+    }
+    assert!(refused[0] > 2000, "{refused:?}");
+    assert!((150..500).contains(&refused[1]), "{refused:?}");
+}
+
+#[test]
+fn exact_plans_of_few_bits_are_counted_as_listed() {
+    for bits in 2..=4 {
+        let limit = (1 << bits) - 1;
+        for (exact, owned) in small_exact_plans(bits) {
+            for destination in 1..owned.stations {
+                let number = assert_pair(limit, &owned, (0, destination), LONGER);
+                assert_eq!(number, exact.number, "{}", exact.label);
+            }
+            assert_loads(limit, &owned, LONGER);
+        }
+    }
+}
+
+#[test]
+fn refused_calls_are_answered_alike() {
+    let owned = Owned::plan_a();
+    let pair = |owned: &Owned, ends, change| assert_pair(COUNT_LIMIT, owned, ends, change);
+    let loads = |owned: &Owned, change| assert_loads(COUNT_LIMIT, owned, change);
+    assert_eq!(pair(&owned, (5, 5), [-1; 3]), 6);
+    assert_eq!(pair(&owned, (0, 5), LONGER), 6);
+    assert_eq!(pair(&owned, (2, 2), [-1; 3]), 7);
+    for table in [0, 2] {
+        let mut change = LONGER;
+        change[table] = -1;
+        assert_eq!(pair(&owned, (0, 4), change), 8);
+    }
+    for table in 0..3 {
+        let mut change = LONGER;
+        change[table] = -1;
+        assert_eq!(loads(&owned, change), 8);
+    }
+    let few_stations = Owned {
+        stations: 4,
+        ..owned.clone()
+    };
+    let few_slots = Owned {
+        slots: 3,
+        ..owned.clone()
+    };
+    let repeated = Owned {
+        bytes: plan_bytes(&[(1, 0, 1), (1, 0, 1)]),
+        ..owned.clone()
+    };
+    let cut = Owned {
+        bytes: owned.bytes[1..].to_vec(),
+        ..owned.clone()
+    };
+    let no_stations = Owned {
+        stations: 0,
+        ..owned
+    };
+    for (owned, number) in [
+        (no_stations, 1),
+        (cut, 2),
+        (few_slots, 3),
+        (few_stations, 4),
+        (repeated, 5),
+    ] {
+        assert_eq!(pair(&owned, (9, 9), [-1; 3]), number);
+        assert_eq!(loads(&owned, [-1; 3]), number);
+    }
+}
+
+/// A ladder's plan.
+fn ladder(layers: usize, width: usize) -> Owned {
+    let mut builder = Builder::start();
+    builder.ladder(layers, width);
+    Owned::built(&builder)
+}
+
+/// Values and through counts of a pair, or the number.
+fn pair(owned: &Owned, source: usize, destination: usize) -> Result<(PairValues, Vec<u64>), u8> {
+    let (answer, [mut through, _, scratch]) = paired(
+        fast_pairs::pair_within,
+        COUNT_LIMIT,
+        owned,
+        (source, destination),
+        [0; 3],
+    );
+    assert!(scratch.iter().all(|entry| *entry == 0));
+    through.truncate(owned.stations);
+    let values = answer.map_err(|refusal| refusal.number())?;
+    Ok((values, through))
+}
+
+/// Pairs and load of each station, or the number.
+fn loads(owned: &Owned) -> Result<Vec<Load>, u8> {
+    let (answer, [pairs, sums, _]) = loaded(fast_pairs::loads_within, COUNT_LIMIT, owned, [0; 3]);
+    answer.map_err(|refusal| refusal.number())?;
+    let entry = |(pairs, load)| Load { pairs, load };
+    Ok(pairs.into_iter().zip(sums).map(entry).collect())
+}
+
+/// The layer of a station of a ladder; the source is layer 0.
+fn layer(width: usize, station: usize) -> usize {
+    station.div_ceil(width)
+}
+
+#[test]
+fn pairs_of_ladders() {
+    for (layers, width) in [(5, 2), (64, 2), (41, 3), (32, 4), (23, 7)] {
+        let owned = ladder(layers, width);
+        let last = owned.stations - 1;
+        for source in [0, 1, 1 + width, 1 + 2 * width] {
+            let from = layer(width, source);
+            let count = |hops: usize| (width as u64).pow(hops as u32 - 1);
+            let hops = layers - from;
+            let (values, through) = pair(&owned, source, last).unwrap();
+            assert_eq!((values.hops, values.count), (hops as u16, count(hops)));
+            for (station, entry) in through.iter().enumerate() {
+                let interior = (from + 1..layers).contains(&layer(width, station));
+                let expected = if interior { count(hops - 1) } else { 0 };
+                assert_eq!(*entry, expected, "{layers} {width} {source} {station}");
+            }
+        }
+        let (values, through) = pair(&owned, last, 0).unwrap();
+        assert_eq!((values.hops, values.count), (65535, 0));
+        assert!(through.iter().all(|entry| *entry == 0));
+    }
+}
+
+#[test]
+fn loads_of_ladders() {
+    for (layers, width) in [(5, 2), (64, 2), (41, 3), (32, 4), (23, 7)] {
+        let owned = ladder(layers, width);
+        let loads = loads(&owned).unwrap();
+        for (station, entry) in loads.iter().enumerate() {
+            let at = layer(width, station);
+            let before = 1 + width * at.saturating_sub(1);
+            let pairs = if at == 0 {
+                0
+            } else {
+                before * width * (layers - at)
+            } as u64;
+            let load = pairs * ((1 << 32) / width as u64);
+            assert_eq!(*entry, Load { pairs, load }, "{layers} {width} {station}");
+        }
+        let largest = loads.iter().map(|entry| entry.load).max();
+        let mut scratch = vec![7; owned.scratch_length()];
+        let counted = fast_pairs::largest_load(owned.input(), &mut scratch);
+        assert_eq!(counted.ok(), largest);
+        let busiest = fast_pairs::busiest(owned.input(), &mut scratch).unwrap();
+        for (station, entry) in loads.iter().enumerate() {
+            let is_largest = Some(entry.load) == largest;
+            assert_eq!(busiest.stations.contains(&station), is_largest);
+        }
+    }
+}
+
+#[test]
+fn ladders_with_too_many_walks() {
+    let owned = ladder(65, 2);
+    assert_eq!(pair(&owned, 0, 1), Err(9));
+    assert_eq!(pair(&owned, 1, 130).unwrap().0.count, 1 << 63);
+    assert_eq!(loads(&owned), Err(9));
+    assert_eq!(loads(&ladder(84, 3)), Err(9));
+}
+
+#[test]
+fn a_single_path_beside_a_ladder() {
+    let mut builder = Builder::start();
+    let last = builder.ladder(40, 2);
+    let (mut before, mut single) = (0, Vec::new());
+    for slot in 1..=40 {
+        single.push(builder.station());
+        builder.meet(slot, before, single[slot - 1]);
+        before = single[slot - 1];
+    }
+    let end = builder.station();
+    builder.meet_all(41, end, &last);
+    builder.meet(41, end, before);
+    let owned = Owned::built(&builder);
+    let (values, through) = pair(&owned, 0, end).unwrap();
+    assert_eq!((values.hops, values.count), (41, (1 << 40) + 1));
+    assert!((1..=80).all(|station| through[station] == 1 << 39));
+    assert!(single.iter().all(|station| through[*station] == 1));
+    let loads = loads(&owned).unwrap();
+    let after = |at: usize| 40 - at as u64;
+    for (at, station) in single.iter().enumerate() {
+        let pairs = (at as u64 + 1) * after(at);
+        let load = (pairs - 1) << 32;
+        assert_eq!(loads[*station], Load { pairs, load }, "{at}");
+    }
+}
+
+/// A row of stations with as many slots between two: every path passes all of them.
+#[test]
+fn rows_of_stations() {
+    let mut builder = Builder::start();
+    let last = builder.slot_ladder(31, 4);
+    let owned = Owned::built(&builder);
+    let (values, through) = pair(&owned, 0, last).unwrap();
+    assert_eq!((values.hops, values.count), (31, 1 << 62));
+    assert_eq!(through[1..last], vec![1 << 62; 30]);
+    assert_eq!((through[0], through[last]), (0, 0));
+    for (station, entry) in loads(&owned).unwrap().iter().enumerate() {
+        let pairs = (station * (last - station)) as u64;
+        let load = pairs << 32;
+        assert_eq!(*entry, Load { pairs, load }, "{station}");
+    }
+}

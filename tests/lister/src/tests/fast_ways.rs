@@ -1,0 +1,140 @@
+//! First way and next way by numbers of walks, compared with the plain lister and ladders.
+
+use super::support::{random_plan, small_exact_plans, tiny_plans, Owned};
+use crate::answer::{number, Answer};
+use crate::fast_ways;
+use crate::plan::PlanInput;
+use crate::random::Random;
+use crate::reach_cases::Builder;
+use crate::shortest::COUNT_LIMIT;
+use crate::traces::contents;
+use crate::ways::{first_way_within, next_way_within, Found};
+
+type Way = fn(u64, PlanInput, usize, usize, &mut [u16], &mut [u64]) -> Answer<Found>;
+
+/// Answer, buffer and scratch of a call; two entries more than named are lent of the scratch.
+fn outcome(
+    way: Way,
+    limit: u64,
+    owned: &Owned,
+    (source, destination): (usize, usize),
+    offered: &[u16],
+) -> (Answer<Found>, Vec<u16>, Vec<u64>) {
+    let mut buffer = offered.to_vec();
+    let mut scratch = vec![77; owned.scratch_length() + 2];
+    let input = owned.input();
+    let answer = way(limit, input, source, destination, &mut buffer, &mut scratch);
+    (answer, buffer, scratch)
+}
+
+/// Asserts that both operations answer alike on a buffer; gives the number of next way.
+fn assert_alike(limit: u64, owned: &Owned, ends: (usize, usize), offered: &[u16]) -> u8 {
+    let first = outcome(first_way_within, limit, owned, ends, offered);
+    let counted = outcome(fast_ways::first_way_within, limit, owned, ends, offered);
+    assert_eq!(first, counted, "first, {limit}, {ends:?}, {owned:?}");
+    let next = outcome(next_way_within, limit, owned, ends, offered);
+    let counted = outcome(fast_ways::next_way_within, limit, owned, ends, offered);
+    assert_eq!(next, counted, "next, {limit}, {ends:?}, {owned:?}");
+    number(&next.0)
+}
+
+/// The ordered pairs of two stations.
+fn pairs(stations: usize) -> impl Iterator<Item = (usize, usize)> {
+    let all = (0..stations).flat_map(move |source| (0..stations).map(move |other| (source, other)));
+    all.filter(|(source, destination)| source != destination)
+}
+
+#[test]
+fn every_path_of_tiny_plans_is_followed_alike() {
+    let mut offered = 0;
+    for owned in tiny_plans() {
+        for ends in pairs(owned.stations) {
+            for path in owned.list(ends.0, ends.1) {
+                let mut buffer = vec![60000; owned.slots + 1];
+                buffer[..path.len()].copy_from_slice(&path);
+                assert_eq!(assert_alike(COUNT_LIMIT, &owned, ends, &buffer), 0);
+                offered += 1;
+            }
+            let buffer = vec![0; owned.slots];
+            assert_alike(COUNT_LIMIT, &owned, ends, &buffer);
+        }
+    }
+    assert!(offered > 50_000, "{offered}");
+}
+
+#[test]
+fn random_contents_are_answered_alike() {
+    let mut random = Random::new(11);
+    let mut seen = [0; 11];
+    for _ in 0..500 {
+        let owned = random_plan(&mut random);
+        let limit = [1, 3, 9, COUNT_LIMIT, COUNT_LIMIT][random.below(5)];
+        for ends in pairs(owned.stations) {
+            let list = owned.list(ends.0, ends.1);
+            let offered = contents(&mut random, &list, owned.slots);
+            seen[usize::from(assert_alike(limit, &owned, ends, &offered))] += 1;
+        }
+    }
+    let often = |number: usize| seen[number] > 500;
+    assert!(often(0) && often(9) && often(10), "{seen:?}");
+}
+
+#[test]
+fn exact_plans_of_few_bits_are_answered_alike() {
+    for (exact, owned) in small_exact_plans(3) {
+        for destination in 1..owned.stations {
+            let offered = vec![1; owned.slots];
+            let next = assert_alike(7, &owned, (0, destination), &offered);
+            assert_eq!(next == 9, exact.number == 9, "{}", exact.label);
+        }
+    }
+}
+
+#[test]
+fn refused_calls_are_answered_alike() {
+    let owned = Owned::plan_a();
+    let next = |owned: &Owned, ends, length| {
+        let offered = vec![5; length];
+        assert_alike(COUNT_LIMIT, owned, ends, &offered)
+    };
+    assert_eq!(next(&owned, (5, 5), 3), 6);
+    assert_eq!(next(&owned, (4, 4), 3), 7);
+    assert_eq!(next(&owned, (0, 4), 3), 8);
+    assert_eq!(next(&owned, (0, 4), 4), 10);
+    let few_slots = Owned { slots: 3, ..owned };
+    assert_eq!(next(&few_slots, (5, 5), 3), 3);
+}
+
+/// Path `index` of a ladder of two stations a layer, to the first station of the last layer: the
+/// binary digits of the index are the stations of the layers before, the highest the first's.
+fn ladder_path(layers: usize, index: u64) -> Vec<u16> {
+    let digit = |layer: usize| match layer {
+        layer if layer == layers => 0,
+        _ => (index >> (layers - 1 - layer) & 1) as usize,
+    };
+    let position = |layer: usize| match layer {
+        1 => digit(1),
+        _ => 4 * layer - 6 + 2 * digit(layer - 1) + digit(layer),
+    };
+    (1..=layers).map(|layer| position(layer) as u16).collect()
+}
+
+#[test]
+fn paths_of_a_ladder() {
+    let mut builder = Builder::start();
+    let last = builder.ladder(64, 2)[0];
+    let owned = Owned::built(&builder);
+    let ways: [Way; 2] = [fast_ways::first_way_within, fast_ways::next_way_within];
+    let answer = |way: usize, offered: &[u16]| {
+        let (answer, buffer, _) = outcome(ways[way], COUNT_LIMIT, &owned, (0, last), offered);
+        (answer, buffer)
+    };
+    let given = |index: u64| (Ok(Found::Path(64)), ladder_path(64, index));
+    assert_eq!(answer(0, &[9; 64]), given(0));
+    let (half, end) = (1 << 62, (1 << 63) - 1);
+    for index in [0, 1, 2, 12345, half - 1, half, end - 1] {
+        assert_eq!(answer(1, &ladder_path(64, index)), given(index + 1));
+    }
+    let path = ladder_path(64, end);
+    assert_eq!(answer(1, &path), (Ok(Found::Last), path));
+}

@@ -1,0 +1,401 @@
+//! The files of pair-cases.
+
+use std::collections::BTreeMap;
+use std::sync::OnceLock;
+
+use super::read_back::{assert_labels, entries_of, take, take_number};
+use crate::loads::busiest;
+use crate::pair_cases::{
+    all_cases, mixed_ladders, stdin_bytes, stdout_text, Case, Operation, Outcome, BLOCKS,
+    LONGEST_LABEL, LONGEST_TABLES,
+};
+use crate::reach_cases::{Counting, LONGEST_PLAN};
+
+/// All cases with their outcomes, made once.
+fn cases() -> &'static [(Case, Outcome)] {
+    static CASES: OnceLock<Vec<(Case, Outcome)>> = OnceLock::new();
+    CASES.get_or_init(|| {
+        let with_outcome = |case: Case| {
+            let outcome = case.outcome();
+            (case, outcome)
+        };
+        all_cases().into_iter().map(with_outcome).collect()
+    })
+}
+
+/// The case with a label, and its outcome.
+fn labelled(label: &str) -> &'static (Case, Outcome) {
+    let found = cases().iter().find(|(case, _)| case.label == label);
+    found.unwrap_or_else(|| panic!("no case {label}"))
+}
+
+/// The place of an operation in the kinds of the program.
+fn kind(operation: Operation) -> usize {
+    match operation {
+        Operation::Pair(..) => 0,
+        Operation::Loads => 1,
+        Operation::Busiest => 2,
+    }
+}
+
+#[test]
+fn stated_numbers_are_those_of_the_lister() {
+    let mut seen = [[0; 10]; 3];
+    for (case, outcome) in cases() {
+        if let Some(stated) = case.stated {
+            assert_eq!(outcome.number, stated, "{}", case.label);
+            seen[kind(case.operation)][usize::from(stated)] += 1;
+        }
+    }
+    for number in 0..10 {
+        assert!(seen[0][number] > 4, "{number}: {seen:?}");
+    }
+    for seen in &seen[1..] {
+        for number in [0, 1, 2, 3, 4, 5, 8] {
+            assert!(seen[number] > 4, "{number}: {seen:?}");
+        }
+        assert!(seen[9] > 1 && seen[6] == 0 && seen[7] == 0, "{seen:?}");
+    }
+}
+
+#[test]
+fn hand_made_cases_state_their_numbers() {
+    let generated = ["small ", "generated ", "mixed ladder"];
+    for (case, _) in cases() {
+        let is_generated = generated.iter().any(|word| case.label.starts_with(word));
+        assert_eq!(case.stated.is_none(), is_generated, "{}", case.label);
+    }
+}
+
+#[test]
+fn labels_are_short_printable_and_distinct() {
+    let labels = cases().iter().map(|(case, _)| case.label.as_str());
+    assert_labels(labels, LONGEST_LABEL);
+}
+
+#[test]
+fn lines_by_hand() {
+    for (label, rest) in [
+        ("P5 plan A, 0 to 4", "0 3 3 | 1: 1 2: 2 3: 3 |"),
+        (
+            "P5 plan A, longer, 0 to 4",
+            "0 3 3 | 1: 1 2: 2 3: 3 5 .. 6: 999 | 100 .. 102: 999",
+        ),
+        ("P6 plan A, 2 to 1", "0 65535 0 | |"),
+        (
+            "P9 plan A, loads",
+            "0 | 1 .. 2: 2 3: 4 | 1: 2863311530 2: 5726623060 3: 17179869184 |",
+        ),
+        ("plan A, busiest", "0 17179869184 |"),
+        ("P10 two contacts in slot 1, 0 to 2", "0 65535 0 | |"),
+        ("empty plan, n 1, T 1, busiest", "0 0 |"),
+        (
+            "6 for stations of plan A, 5 to 5",
+            "6 0 0 | 0 .. 6: 999 | 0 .. 100: 999",
+        ),
+        (
+            "7 for stations of plan A, 3 to 3",
+            "7 0 0 | 0 .. 5: 999 | 0 .. 101: 999",
+        ),
+        (
+            "8 for one entry less of scratch, busiest",
+            "8 0 | 0 .. 98: 502",
+        ),
+        (
+            "8 for one entry less of second table, loads",
+            "8 | 0 .. 4: 501 | 0 .. 3: 501 | 0 .. 99: 501",
+        ),
+        (
+            "ladder of 64 layers, 0 to 128",
+            "0 64 9223372036854775808 | 1 .. 126: 4611686018427387904 |",
+        ),
+        ("ladder of 65 layers, 0 to 130", "9 0 0 | |"),
+        (
+            "ladder of 65 layers, longer, loads",
+            "9 | 131 .. 137: 4321 | 131 .. 136: 4321 | 34584 .. 34591: 4321",
+        ),
+        (
+            "ladder of 65 layers, longer, busiest",
+            "9 0 | 34584 .. 34591: 4321",
+        ),
+        (
+            "ladder of 65 layers, 1 to 130",
+            "0 64 9223372036854775808 | 3 .. 128: 4611686018427387904 |",
+        ),
+    ] {
+        let (case, outcome) = labelled(label);
+        assert_eq!(case.line(outcome), format!("{label}: {rest}"));
+    }
+}
+
+/// Asserts that the next case of standard input is a given one.
+fn assert_read(stdin: &mut &[u8], case: &Case) {
+    let head = [2; 8].map(|length| take_number(stdin, length));
+    let lengths = [4; 3].map(|length| take_number(stdin, length));
+    let (source, destination) = match case.operation {
+        Operation::Pair(source, destination) => (source.into(), destination.into()),
+        Operation::Loads | Operation::Busiest => (0, 0),
+    };
+    let call = [
+        kind(case.operation),
+        case.stations.into(),
+        case.slots.into(),
+        source,
+        destination,
+        case.bytes.len(),
+        case.label.len(),
+        case.mark.into(),
+    ];
+    assert_eq!(head, call, "{}", case.label);
+    assert_eq!(lengths, case.lengths, "{}", case.label);
+    assert_eq!(take(stdin, case.label.len()), case.label.as_bytes());
+    assert_eq!(take(stdin, case.bytes.len()), case.bytes);
+}
+
+#[test]
+fn stdin_read_back_gives_the_cases() {
+    let all: Vec<Case> = cases().iter().map(|(case, _)| case.clone()).collect();
+    let stdin = stdin_bytes(&all);
+    assert!(stdin.len() < 1_000_000, "{}", stdin.len());
+    let mut rest = stdin.as_slice();
+    for case in &all {
+        assert_read(&mut rest, case);
+    }
+    assert!(rest.is_empty());
+}
+
+#[test]
+fn lines_read_back_give_the_outcomes() {
+    let mut length = 0;
+    for (case, outcome) in cases() {
+        let line = case.line(outcome);
+        length += line.len() + 1;
+        let rest = line.strip_prefix(&case.label).unwrap();
+        let mut parts = rest.strip_prefix(": ").unwrap().split(" |");
+        let numbers: Vec<u64> = parts
+            .next()
+            .unwrap()
+            .split(' ')
+            .map(|word| word.parse().unwrap())
+            .collect();
+        assert_eq!(numbers[0], u64::from(outcome.number), "{line}");
+        assert_eq!(numbers[1..], outcome.values, "{line}");
+        let lengths = outcome.buffers.iter().map(Vec::len);
+        let buffers: Vec<Vec<u64>> = parts
+            .zip(lengths)
+            .map(|(runs, length)| entries_of(runs, length, 0))
+            .collect();
+        assert_eq!(buffers, outcome.buffers, "{line}");
+    }
+    assert!(length < 500_000, "{length}");
+}
+
+#[test]
+fn stdout_has_a_line_a_case() {
+    let (all, lines): (Vec<Case>, Vec<String>) = cases()[..40]
+        .iter()
+        .map(|(case, outcome)| (case.clone(), case.line(outcome)))
+        .unzip();
+    assert_eq!(stdout_text(&all), lines.join("\n") + "\n");
+}
+
+#[test]
+fn lent_memory_is_what_the_operation_has() {
+    for (case, outcome) in cases() {
+        let [first, second, scratch] = case.lengths;
+        let lent = match case.operation {
+            Operation::Pair(..) => vec![first, scratch],
+            Operation::Loads => vec![first, second, scratch],
+            Operation::Busiest => vec![scratch],
+        };
+        let left: Vec<usize> = outcome.buffers.iter().map(Vec::len).collect();
+        assert_eq!(left, lent, "{}", case.label);
+    }
+}
+
+#[test]
+fn cases_fit_the_program() {
+    let mut longest = [0; 3];
+    let mut records: BTreeMap<usize, [usize; 3]> = BTreeMap::new();
+    for (case, _) in cases() {
+        assert!(case.bytes.len() <= LONGEST_PLAN, "{}", case.label);
+        for (most, length) in longest.iter_mut().zip(case.lengths) {
+            *most = length.max(*most);
+        }
+        let count = records.entry(case.bytes.len() / 6).or_default();
+        count[kind(case.operation)] += 1;
+    }
+    assert!((0..3).all(|table| longest[table] <= LONGEST_TABLES[table]));
+    assert_eq!([longest[0], longest[2]], [320, 262_200]);
+    for full in [4096, 4097] {
+        let seen = records[&full];
+        assert!(seen.iter().all(|count| *count > 0), "{full}: {seen:?}");
+    }
+}
+
+#[test]
+fn walks_are_listed_but_for_large_plans() {
+    let words = [
+        "ladder",
+        "before 9",
+        "2^6",
+        "blocks n 256",
+        "0 meets all",
+        "n 64, T 127",
+        "row",
+        "corners, longer",
+    ];
+    let mut listed = 0;
+    for (case, _) in cases() {
+        let is_named = words.iter().any(|word| case.label.contains(word));
+        match case.counting {
+            Counting::Listed => listed += 1,
+            Counting::Fast => assert!(is_named, "{}", case.label),
+        }
+    }
+    assert!(listed > 6500, "{listed}");
+}
+
+#[test]
+fn listed_cases_are_counted_alike() {
+    for (case, outcome) in cases() {
+        let counted = Case {
+            counting: Counting::Fast,
+            ..case.clone()
+        };
+        if case.counting == Counting::Listed {
+            assert_eq!(counted.outcome(), *outcome, "{}", case.label);
+        }
+    }
+}
+
+#[test]
+fn busiest_gives_the_largest_load() {
+    let mut seen = 0;
+    for (case, outcome) in cases() {
+        let prefix = case.label.strip_suffix("busiest");
+        let Some(prefix) = prefix.filter(|_| case.stations <= 33) else {
+            continue;
+        };
+        let loads = format!("{prefix}loads");
+        let Some((_, loads)) = cases().iter().find(|(other, _)| other.label == loads) else {
+            continue;
+        };
+        if outcome.number == 0 && loads.number == 0 {
+            let loads = &loads.buffers[1][..case.stations.into()];
+            assert_eq!(Some(&outcome.values[0]), loads.iter().max());
+            let mut scratch = vec![0; case.lengths[2]];
+            let given = busiest(case.input(), &mut scratch).unwrap();
+            let equal = |station: &usize| loads[*station] == outcome.values[0];
+            assert!(given.stations.iter().all(equal), "{}", case.label);
+            seen += 1;
+        }
+    }
+    assert!(seen > 300, "{seen}");
+}
+
+/// How many cases a label's beginning has, by operation, and with which numbers.
+fn small_numbers(prefix: &str) -> (BTreeMap<String, [usize; 3]>, [usize; 10]) {
+    let mut calls: BTreeMap<String, [usize; 3]> = BTreeMap::new();
+    let mut numbers = [0; 10];
+    for (case, outcome) in cases() {
+        let (plan, _) = case.label.split_once(", ").unwrap_or_default();
+        if plan.starts_with(prefix) {
+            let stations = format!("{plan} of {} stations", case.stations);
+            calls.entry(stations).or_default()[kind(case.operation)] += 1;
+            numbers[usize::from(outcome.number)] += 1;
+        }
+    }
+    (calls, numbers)
+}
+
+#[test]
+fn small_plans_have_every_pair() {
+    let (calls, numbers) = small_numbers("small ");
+    assert_eq!(calls.len(), 300);
+    for (plan, calls) in calls {
+        let words: Vec<&str> = plan.split(' ').collect();
+        let stations: usize = words[3].parse().unwrap();
+        assert_eq!(calls, [stations * (stations - 1), 1, 1], "{plan}");
+    }
+    assert!(numbers[0] > 4000 && numbers[8] > 100, "{numbers:?}");
+    let (generated, _) = small_numbers("generated ");
+    let every = |calls: &&[usize; 3]| calls[1] == 1 && calls[2] == 1;
+    assert!(generated.values().filter(every).count() > 100);
+}
+
+#[test]
+fn small_plans_vary() {
+    let mut several = 0;
+    let mut between = 0;
+    for (case, outcome) in cases() {
+        let is_pair = matches!(case.operation, Operation::Pair(..));
+        if case.label.starts_with("small ") && is_pair && outcome.number == 0 {
+            several += usize::from(outcome.values[1] > 1);
+            let named = &outcome.buffers[0][..case.stations.into()];
+            between += usize::from(named.iter().any(|through| *through > 0));
+        }
+    }
+    assert!(several > 200 && between > 200, "{several}, {between}");
+}
+
+#[test]
+fn shares_take_products_over_64_bits() {
+    for mixed in mixed_ladders() {
+        let (stations, _) = mixed.builder.sizes();
+        assert_eq!(Some(&(usize::from(stations) - 1)), mixed.last.last());
+        for end in mixed.last {
+            let (_, outcome) = labelled(&format!("{}, 0 to {end}", mixed.label));
+            let count = outcome.values[1];
+            assert!(count > 1 << 32 && !count.is_power_of_two(), "{count}");
+            let through = outcome.buffers[0].iter().filter(|count| **count > 0);
+            let large = |through: &&u64| **through > 1 << 32;
+            let parts = through.filter(large).filter(|through| {
+                let product = u128::from(**through) << 32;
+                product % u128::from(count) != 0
+            });
+            assert!(parts.count() > 10, "{}", mixed.label);
+        }
+    }
+    let (_, outcome) = labelled("2^64-1 in one slot, loads");
+    assert_eq!(outcome.number, 0);
+}
+
+/// Which blocks of a table's named part have an entry above 0.
+fn used_blocks(label: &str, table: usize, stations: usize, block: usize) -> Vec<bool> {
+    let (_, outcome) = labelled(label);
+    let blocks = outcome.buffers[table][..stations].chunks(block);
+    let used = |block: &[u64]| block.iter().any(|entry| *entry > 0);
+    blocks.map(used).collect()
+}
+
+#[test]
+fn blocks_are_uneven_and_used() {
+    let mut uneven = [0; 2];
+    for (stations, slots) in BLOCKS {
+        let (n, most) = (usize::from(stations), 2 * usize::from(slots));
+        let label = format!("blocks n {stations}, T {slots}, between");
+        let pair = format!("{label}, {} to {}", n / 2, n / 2 + 1);
+        let tables = [(pair, 0, most), (format!("{label}, loads"), 1, most - 1)];
+        for (at, (label, table, block)) in tables.into_iter().enumerate() {
+            let block = block.min(n);
+            uneven[at] += usize::from(n % block != 0);
+            let used = used_blocks(&label, table, n, block);
+            let count = used.iter().filter(|used| **used).count();
+            match slots {
+                1 => assert_eq!(count, 0, "{label}"),
+                _ => {
+                    assert!(used[0] && used[used.len() - 1], "{label}");
+                    assert!(4 * count > 3 * used.len(), "{label}");
+                }
+            }
+        }
+    }
+    assert!(uneven.iter().all(|count| *count > 5), "{uneven:?}");
+}
+
+#[test]
+fn files_are_the_same_each_time() {
+    let all: Vec<Case> = cases().iter().map(|(case, _)| case.clone()).collect();
+    assert_eq!(all_cases(), all);
+}
