@@ -1,0 +1,44 @@
+// What the load program prints, on cases from standard input. A case is two 16-bit numbers, high byte first: the length of a
+// label and the length of the input; then the label and the input. For each case the label, a colon, a line feed, and the text.
+
+// Writes the text of an input.
+fn write_text(input: &[u8]) {
+    let mut out = [0u8; 696];
+    let mut pairs = [0u64; 32];
+    let mut sums = [0u64; 32];
+    let mut work = [0u64; 8192];
+    let size = report::report(input, &mut out, &mut pairs, &mut sums, &mut work);
+    cases::write_part(&out[..size], size);
+}
+
+// One case; false where the input has no further one.
+fn run_case(head: &mut [u8], label: &mut [u8], input: &mut [u8]) -> bool {
+    if !cases::read_part(head, 4) {
+        return false;
+    }
+    let name = cases::word(head, 0);
+    let size = cases::word(head, 2);
+    if !cases::read_part(label, name) {
+        return false;
+    }
+    if !cases::read_part(input, size) {
+        return false;
+    }
+    if input.len() < size {
+        return false;
+    }
+    cases::write_part(label, name);
+    cases::write_part(b":\n", 2);
+    write_text(&input[..size]);
+    true
+}
+
+fn main() {
+    let mut head = [0u8; 4];
+    let mut label = [0u8; 64];
+    let mut input = [0u8; 3100];
+    let mut left = cases::MOST;
+    while 0 < left && run_case(&mut head, &mut label, &mut input) {
+        left -= 1;
+    }
+}

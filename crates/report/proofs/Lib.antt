@@ -1,0 +1,5 @@
+-- The laws of the report.
+pub mod SizeLaws
+pub mod LengthLaws
+pub mod LineLaws
+pub mod ReportLaws

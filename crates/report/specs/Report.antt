@@ -1,0 +1,83 @@
+-- What the load program prints: document 01's section "Plan A". Definitions only.
+-- Assumes nothing.
+use Prim.Native.Nat.{ℕ}
+use Prim.Native.Char.{code}
+use Prim.Native.String.{String}
+use Prim.Native.String as string
+use mathlib.Core.Path.{_≡_}
+use mathlib.Core.List.{List, [], _∷_, _++_, flatMap}
+use lib.ListN.{length}
+use Rattle.temporal.specs.Lists.{below}
+use Rattle.temporal.specs.Plan.{Plan}
+use Rattle.temporal.specs.Load.{pairs, load}
+use Rattle.temporal.specs.Bytes.{planOf}
+use Rattle.temporal.specs.Cause.{cause, first, unless, planCauses, tooManyAnywhere}
+use Rattle.temporal.specs.Outcome.{over}
+use Rattle.temporal.specs.OutcomePair.{LoadBuffers, loads}
+use Rattle.text.specs.Decimal.{decimal}
+use Rattle.report.specs.Sizes.{stationsOf, slotsOf, wrongInput, overLimits}
+
+-- the ASCII codes of a text
+abbrev pub ascii : String → List ℕ
+ascii string.[] = []
+ascii (string._∷_ c s) = code c ∷ ascii s
+
+-- a space, and the line feed that ends every line
+abbrev pub space : List ℕ
+space = 32 ∷ []
+
+abbrev pub lineFeed : List ℕ
+lineFeed = 10 ∷ []
+
+-- a number in decimal, and what stands behind it
+unfoldable pub field : ℕ → List ℕ → List ℕ
+field x behind = decimal x ++ behind
+
+-- the first line: the numbers of stations, slots and contacts
+unfoldable pub heading : ℕ → ℕ → ℕ → List ℕ
+heading n t m = ascii "stations " ++ field n (ascii " slots ") ++ field t (ascii " contacts ") ++ field m lineFeed
+
+-- a station's line: station, pairs, load
+unfoldable pub line : ℕ → ℕ → ℕ → List ℕ
+line v p l = field v space ++ field p space ++ field l lineFeed
+
+-- the loads of a plan: the first line, then a line for each station
+unfoldable pub loadsText : Plan → List ℕ
+loadsText p =
+    heading (p .stations) (p .slots) (length (p .contacts)) ++
+    flatMap (λ v. line v (pairs p v) (load p v)) (below (p .stations))
+
+-- the one line of a refusal
+unfoldable pub refusalText : ℕ → List ℕ
+refusalText k = ascii "refused " ++ field k lineFeed
+
+-- the causes that are looked at before the plan is: 2 before n and T are formed, then the program's limits
+unfoldable pub inputCauses : List ℕ → List ℕ
+inputCauses bs = cause 2 (wrongInput bs) ∷ cause 1 (overLimits (stationsOf bs) (slotsOf bs)) ∷ []
+
+-- the plan that the input is
+abbrev pub inputPlan : List ℕ → Plan
+inputPlan bs = planOf bs (stationsOf bs) (slotsOf bs)
+
+-- the number of the refusal, 0 where the loads are printed: the input's causes, the plan's, then 9
+unfoldable pub refusalOf : List ℕ → ℕ
+refusalOf bs =
+    first
+    (inputCauses bs ++ (planCauses bs (stationsOf bs) (slotsOf bs) ++ cause 9 (tooManyAnywhere (inputPlan bs)) ∷ []))
+
+-- The whole text that the load program prints for an input.
+unfoldable pub printed : List ℕ → List ℕ
+printed bs = unless (refusalOf bs) refusalText (loadsText (inputPlan bs))
+
+-- the lent tables and the work area afterwards: as they were where the input is refused before the plan is looked at,
+-- else as operation 5, loads, leaves them
+unfoldable pub lentAfter : List ℕ → LoadBuffers → LoadBuffers
+lentAfter bs old =
+    unless (first (inputCauses bs)) (λ _. old) (loads bs (stationsOf bs) (slotsOf bs) old .buffers)
+
+-- What the report function promises for every input: the text's length, the text at the beginning of the output buffer, and the
+-- lent tables, afterwards.
+pub record Reported (bs out : List ℕ) (old : LoadBuffers) (size : ℕ) (now : List ℕ) (new : LoadBuffers) : Type 0 where
+  pub length-is : size ≡ length (printed bs)
+  pub text-is : now ≡ over (printed bs) out
+  pub lent-is : new ≡ lentAfter bs old

@@ -1,0 +1,3 @@
+-- Bytes written into a buffer, and numbers as decimal digits. Definitions only.
+pub mod Written
+pub mod Decimal

@@ -1,0 +1,67 @@
+//! The built program: what it writes, and its exit status.
+
+use std::io::Write;
+use std::process::{Command, Output, Stdio};
+
+/// Plan A of document 01.
+const PLAN_A: &[u8] = include_bytes!("../../../tests/plans/a.plan");
+
+fn planconv(words: &[&str], input: &[u8]) -> Output {
+    let mut command = Command::new(env!("CARGO_BIN_EXE_planconv"));
+    command.args(words).stdin(Stdio::piped());
+    command.stdout(Stdio::piped()).stderr(Stdio::piped());
+    let mut child = command.spawn().unwrap();
+    // Where the words are wrong the program reads nothing, and the pipe may be closed.
+    let _ = child.stdin.take().unwrap().write_all(input);
+    child.wait_with_output().unwrap()
+}
+
+/// The standard output of a conversion that succeeds.
+fn converted(word: &str, input: &[u8]) -> Vec<u8> {
+    let output = planconv(&[word], input);
+    assert!(output.status.success() && output.stderr.is_empty());
+    output.stdout
+}
+
+/// The message of a run that fails.
+fn message(words: &[&str], input: &[u8]) -> String {
+    let output = planconv(words, input);
+    assert_eq!(output.status.code(), Some(1));
+    assert!(output.stdout.is_empty());
+    String::from_utf8(output.stderr).unwrap()
+}
+
+#[test]
+fn plan_a_makes_the_round_trip() {
+    let lines = converted("to-lines", PLAN_A);
+    assert_eq!(lines, b"1 0 1\n1 0 2\n2 1 3\n2 2 3\n3 2 3\n4 3 4\n");
+    assert_eq!(converted("to-bytes", &lines), PLAN_A);
+}
+
+#[test]
+fn empty_input_is_an_empty_plan() {
+    assert!(converted("to-bytes", b"").is_empty());
+    assert!(converted("to-lines", b"").is_empty());
+}
+
+#[test]
+fn a_wrong_line_leaves_standard_output_empty() {
+    let said = message(&["to-bytes"], b"1 0 1\n2 1 x\n");
+    assert_eq!(said, "line 2: not a number: \"x\"\n");
+}
+
+#[test]
+fn a_wrong_length_leaves_standard_output_empty() {
+    let said = message(&["to-lines"], &PLAN_A[..35]);
+    assert_eq!(
+        said,
+        "35 bytes are no multiple of 6: bytes behind the last record: 5\n"
+    );
+}
+
+#[test]
+fn other_words_give_the_usage() {
+    for words in [[].as_slice(), &["to-byte"], &["to-bytes", "to-lines"]] {
+        assert!(message(words, PLAN_A).starts_with("usage:\n"));
+    }
+}
