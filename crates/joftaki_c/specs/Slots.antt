@@ -1,0 +1,30 @@
+-- What the lent slots of reach, row, pair, loads and busiest hold at exit, beside the number given. Definitions only.
+-- Assumes nothing.
+use Prim.Native.Nat.{ℕ, _+_, _*_}
+use mathlib.Core.Path.{_≡_}
+use mathlib.Core.List.{List}
+use lib.ListN.{take, drop}
+use Rattle.temporal.specs.Cause.{unless}
+use Rattle.temporal.specs.Outcome.{Outcome, rowNumber, row}
+use Rattle.temporal.specs.OutcomePair.{PairValues, PairBuffers, busiest, BusiestGiven}
+
+-- a number with the lent buffers at exit
+abbrev pub given : {Buffers : Type 0} → ℕ → Buffers → Outcome (Unit {0}) Buffers
+given r b = record { number = r; values = tt; buffers = b }
+
+-- a number with pair's two slots and its lent buffers at exit
+abbrev pub pairGiven : ℕ → ℕ → ℕ → PairBuffers → Outcome PairValues PairBuffers
+pairGiven r hops count b = record { number = r; values = record { hops = hops; count = count }; buffers = b }
+
+-- Row's number, and the place and the length of the part in the caller's table: 0 and 0 on refusal.
+pub record RowGiven (n t v : ℕ) (table : List ℕ) (r offset size : ℕ) : Type 0 where
+  pub number : r ≡ rowNumber n t v table
+  pub place : offset ≡ unless (rowNumber n t v table) (λ _. 0) (v * (t + 1))
+  pub entries : size ≡ unless (rowNumber n t v table) (λ _. 0) (t + 1)
+  pub part : take size (drop offset table) ≡ row n t v table
+
+-- The number and the work area at exit are those of document 01; the station's slot holds one that is busiest, whichever,
+-- and 0 on refusal.
+pub record BusiestSlot (bs : List ℕ) (n t : ℕ) (work after : List ℕ) (r v : ℕ) : Type 0 where
+  pub outcome : given r after ≡ busiest bs n t work
+  pub station : BusiestGiven bs n t r v

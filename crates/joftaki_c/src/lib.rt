@@ -1,0 +1,218 @@
+// The operations for C: numbers as themselves, a slice as pointer and length, document 01's number as the answer (0:
+// accepted), and the values beside it in lent slots, 0 on refusal. include/joftaki.h declares them.
+ghost use mathlib.Core.Path.{_≡_};
+ghost use Rattle.temporal.specs.Cause.{planFault};
+ghost use Rattle.temporal.specs.Outcome.{reach, rowNumber};
+ghost use Rattle.temporal.specs.OutcomePair.{pair, loads};
+ghost use Rattle.temporal.specs.Cursor.{first-way, next-way};
+ghost use Rattle.temporal.specs.FirstNext.{wayAnswer};
+ghost use Rattle.plan.specs.Fault.{faultNumber};
+ghost use Rattle.reach.specs.Pass.{lentTables};
+ghost use Rattle.joftaki.specs.Answer.{pairBuffers, loadBuffers};
+ghost use Rattle.listing.specs.Answer.{replyOf, question};
+ghost use Rattle.joftaki_c.specs.Slots.{given, pairGiven, RowGiven, BusiestSlot};
+ghost use Rattle.joftaki_c.specs.Code.{replyCode, replyHops, wayGiven, wayExit};
+use joftaki::BusiestAnswer;
+use joftaki::LoadsAnswer;
+use joftaki::PairAnswer;
+use listing::WayAnswer;
+use plan::Fault;
+use reach::ReachAnswer;
+
+// Document 01's number of a fault, in 32 bits.
+fn fault_code(fault: Fault) -> u32
+    ensures { λ r. ⌜ r ≡ faultNumber fault ⌝ }
+{
+    plan::fault_number(fault) as u32
+}
+
+// Operation 1, check: document 01's number, 0 where the plan is accepted.
+#[no_mangle]
+pub extern "C" fn joftaki_check(plan: &[u8], n: usize, t: usize) -> u32
+    ensures { λ r. ⌜ r ≡ planFault (now (plan .entry)) n t ⌝ }
+{
+    plan::check_number(plan::check(plan, n, t)) as u32
+}
+
+// Operation 2, reach: its number, and the four tables as reach leaves them.
+#[no_mangle]
+pub extern "C" fn joftaki_reach(
+    plan: &[u8],
+    n: usize,
+    t: usize,
+    s: usize,
+    hops: &mut [u16],
+    counts: &mut [u64],
+    station_hops: &mut [u16],
+    station_counts: &mut [u64],
+) -> u32
+    ensures { λ r. ⌜ given r (lentTables (now (hops .exit)) (now (counts .exit)) (now («station_hops» .exit)) (now («station_counts» .exit))) ≡ reach (now (plan .entry)) n t s (lentTables (now (hops .entry)) (now (counts .entry)) (now («station_hops» .entry)) (now («station_counts» .entry))) ⌝ }
+{
+    match reach::reach(plan, n, t, s, hops, counts, station_hops, station_counts) {
+        ReachAnswer::Reached => 0,
+        ReachAnswer::Refused(fault) => fault_code(fault),
+    }
+}
+
+// The sister of row: row's number of refusal, 0 where row is accepted.
+#[no_mangle]
+pub extern "C" fn joftaki_row_number(table: &[u64], n: usize, t: usize, v: usize) -> u32
+    ensures { λ r. ⌜ r ≡ rowNumber n t v (now (table .entry)) ⌝ }
+{
+    reach::row_number(table, n, t, v) as u32
+}
+
+// Operation 3, row: its number, and where in the caller's table the part begins and how many entries it has; 0 and 0 on
+// refusal.
+#[no_mangle]
+pub extern "C" fn joftaki_row(
+    table: &[u64],
+    n: usize,
+    t: usize,
+    v: usize,
+    offset: &mut usize,
+    length: &mut usize,
+) -> u32
+    ensures { λ r. ⌜ RowGiven n t v (now (table .entry)) r (now (offset .exit)) (now (length .exit)) ⌝ }
+{
+    *length = reach::row(table, n, t, v).len();
+    let number = reach::row_number(table, n, t, v);
+    if number != 0 {
+        *offset = 0;
+        return number as u32;
+    }
+    *offset = v * (t + 1);
+    0
+}
+
+// Operation 4, pair: its number, the hops and the count in two slots, and the lent table and work area as pair leaves them.
+#[no_mangle]
+pub extern "C" fn joftaki_pair(
+    plan: &[u8],
+    n: usize,
+    t: usize,
+    s: usize,
+    z: usize,
+    hops: &mut u64,
+    count: &mut u64,
+    through: &mut [u64],
+    work: &mut [u64],
+) -> u32
+    ensures { λ r. ⌜ pairGiven r (now (hops .exit)) (now (count .exit)) (pairBuffers (now (through .exit)) (now (work .exit))) ≡ pair (now (plan .entry)) n t s z (pairBuffers (now (through .entry)) (now (work .entry))) ⌝ }
+{
+    match joftaki::pair(plan, n, t, s, z, through, work) {
+        PairAnswer::Counted(h, c) => {
+            *hops = h;
+            *count = c;
+            0
+        }
+        PairAnswer::Refused(fault) => {
+            *hops = 0;
+            *count = 0;
+            fault_code(fault)
+        }
+    }
+}
+
+// Operation 5, loads: its number, and the lent tables and work area as loads leaves them.
+#[no_mangle]
+pub extern "C" fn joftaki_loads(
+    plan: &[u8],
+    n: usize,
+    t: usize,
+    pairs: &mut [u64],
+    sums: &mut [u64],
+    work: &mut [u64],
+) -> u32
+    ensures { λ r. ⌜ given r (loadBuffers (now (pairs .exit)) (now (sums .exit)) (now (work .exit))) ≡ loads (now (plan .entry)) n t (loadBuffers (now (pairs .entry)) (now (sums .entry)) (now (work .entry))) ⌝ }
+{
+    match joftaki::loads(plan, n, t, pairs, sums, work) {
+        LoadsAnswer::Loaded => 0,
+        LoadsAnswer::Refused(fault) => fault_code(fault),
+    }
+}
+
+// Operation 6, busiest: its number, and the station in a slot; 0 on refusal.
+#[no_mangle]
+pub extern "C" fn joftaki_busiest(
+    plan: &[u8],
+    n: usize,
+    t: usize,
+    station: &mut usize,
+    work: &mut [u64],
+) -> u32
+    ensures { λ r. ⌜ BusiestSlot (now (plan .entry)) n t (now (work .entry)) (now (work .exit)) r (now (station .exit)) ⌝ }
+{
+    match joftaki::busiest(plan, n, t, work) {
+        BusiestAnswer::Station(v) => {
+            *station = v;
+            0
+        }
+        BusiestAnswer::Refused(fault) => {
+            *station = 0;
+            fault_code(fault)
+        }
+    }
+}
+
+// The hops of a way, 0 beside every other answer.
+fn way_hops(answer: WayAnswer) -> usize
+    ensures { λ r. ⌜ r ≡ replyHops (replyOf answer) ⌝ }
+{
+    match answer {
+        WayAnswer::Path(h) => h,
+        WayAnswer::NoPath => 0,
+        WayAnswer::LastPath => 0,
+        WayAnswer::Refused(_) => 0,
+    }
+}
+
+// The number of an answer: 0 for a way, 100 for none, 101 for last, a fault's number.
+fn way_code(answer: WayAnswer) -> u32
+    ensures { λ r. ⌜ r ≡ replyCode (replyOf answer) ⌝ }
+{
+    match answer {
+        WayAnswer::Path(_) => 0,
+        WayAnswer::NoPath => 100,
+        WayAnswer::LastPath => 101,
+        WayAnswer::Refused(fault) => fault_code(fault),
+    }
+}
+
+// Operation 7, first way: its number or none's, the hops in a slot, and the positions in the way buffer.
+#[no_mangle]
+pub extern "C" fn joftaki_first_way(
+    plan: &[u8],
+    n: usize,
+    t: usize,
+    s: usize,
+    z: usize,
+    hops: &mut usize,
+    way: &mut [u16],
+    work: &mut [u64],
+) -> u32
+    ensures { λ r. ⌜ wayGiven r (now (hops .exit)) (now (way .exit)) (now (work .exit)) ≡ wayExit (wayAnswer first-way (question (now (plan .entry)) n t s z) (now (way .entry)) (now (work .entry))) ⌝ }
+{
+    let answer = listing::first_way(plan, n, t, s, z, way, work);
+    *hops = way_hops(answer);
+    way_code(answer)
+}
+
+// Operation 8, next way: its number or last's, the hops in a slot, and the positions in the way buffer.
+#[no_mangle]
+pub extern "C" fn joftaki_next_way(
+    plan: &[u8],
+    n: usize,
+    t: usize,
+    s: usize,
+    z: usize,
+    hops: &mut usize,
+    way: &mut [u16],
+    work: &mut [u64],
+) -> u32
+    ensures { λ r. ⌜ wayGiven r (now (hops .exit)) (now (way .exit)) (now (work .exit)) ≡ wayExit (wayAnswer next-way (question (now (plan .entry)) n t s z) (now (way .entry)) (now (work .entry))) ⌝ }
+{
+    let answer = listing::next_way(plan, n, t, s, z, way, work);
+    *hops = way_hops(answer);
+    way_code(answer)
+}

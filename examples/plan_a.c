@@ -1,0 +1,147 @@
+/*
+ * Plan A of document 01 through the C interface: check, reach from 0, the row of station 3, the pairs 0 to 4 and 0 to 3 with
+ * their ways one by one, the loads and the busiest station. The callers lend all memory; the example stops at a refusal.
+ */
+#include <inttypes.h>
+#include <stdio.h>
+#include <stdlib.h>
+
+#include "joftaki.h"
+
+#define STATIONS 5
+#define SLOTS 4
+#define CONTACTS 6
+#define SOURCE 0
+#define STATION_OF_ROW 3
+
+static const uint8_t plan[CONTACTS * JOFTAKI_RECORD_BYTES] = {
+    0, 1, 0, 0, 0, 1, /* slot 1: 0 and 1 hear each other */
+    0, 1, 0, 0, 0, 2, /* slot 1: 0 and 2 */
+    0, 2, 0, 1, 0, 3, /* slot 2: 1 and 3 */
+    0, 2, 0, 2, 0, 3, /* slot 2: 2 and 3 */
+    0, 3, 0, 2, 0, 3, /* slot 3: 2 and 3 */
+    0, 4, 0, 3, 0, 4, /* slot 4: 3 and 4 */
+};
+
+/* Prints a refusal and ends the program; an accepted call goes on. */
+static void accept_or_stop(uint32_t number)
+{
+    if (number != JOFTAKI_ACCEPTED) {
+        printf("refused %" PRIu32 "\n", number);
+        exit(1);
+    }
+}
+
+/* Prints a word and a list of numbers in one line. */
+static void print_counts(const char *word, const uint64_t *numbers, size_t length)
+{
+    size_t i;
+    printf("%s", word);
+    for (i = 0; i < length; i++)
+        printf(" %" PRIu64, numbers[i]);
+    printf("\n");
+}
+
+/* Operations 2 and 3: each station's hops and count from the source, and one row of the appearances' counts. */
+static void print_reach(void)
+{
+    uint16_t hops[JOFTAKI_TABLE_LENGTH(STATIONS, SLOTS)];
+    uint64_t counts[JOFTAKI_TABLE_LENGTH(STATIONS, SLOTS)];
+    uint16_t station_hops[STATIONS];
+    uint64_t station_counts[STATIONS];
+    size_t offset;
+    size_t length;
+    size_t v;
+
+    accept_or_stop(joftaki_reach(plan, sizeof plan, STATIONS, SLOTS, SOURCE,
+                                 hops, JOFTAKI_TABLE_LENGTH(STATIONS, SLOTS),
+                                 counts, JOFTAKI_TABLE_LENGTH(STATIONS, SLOTS),
+                                 station_hops, STATIONS, station_counts, STATIONS));
+    for (v = 0; v < STATIONS; v++)
+        printf("station %zu hops %u count %" PRIu64 "\n", v, (unsigned)station_hops[v], station_counts[v]);
+
+    accept_or_stop(joftaki_row(counts, JOFTAKI_TABLE_LENGTH(STATIONS, SLOTS), STATIONS, SLOTS, STATION_OF_ROW,
+                               &offset, &length));
+    printf("row %d", STATION_OF_ROW);
+    print_counts("", counts + offset, length);
+}
+
+/* Operation 4: hops, count and through counts of a pair. */
+static void print_pair(size_t destination, uint64_t *work)
+{
+    uint64_t hops;
+    uint64_t count;
+    uint64_t through[STATIONS];
+
+    accept_or_stop(joftaki_pair(plan, sizeof plan, STATIONS, SLOTS, SOURCE, destination, &hops, &count,
+                                through, STATIONS, work, JOFTAKI_WORK_LENGTH(STATIONS, SLOTS)));
+    printf("hops %" PRIu64 "\ncount %" PRIu64 "\n", hops, count);
+    print_counts("through", through, STATIONS);
+}
+
+/* Prints the positions of a way in one line. */
+static void print_way(const uint16_t *way, size_t hops)
+{
+    size_t i;
+    printf("path");
+    for (i = 0; i < hops; i++)
+        printf(" %u", (unsigned)way[i]);
+    printf("\n");
+}
+
+/* Operations 7 and 8: every way of a pair, one a line. The way buffer alone says where the listing stands. */
+static void print_ways(size_t destination, uint64_t *work)
+{
+    uint16_t way[SLOTS];
+    size_t hops;
+    uint32_t number = joftaki_first_way(plan, sizeof plan, STATIONS, SLOTS, SOURCE, destination, &hops,
+                                        way, SLOTS, work, JOFTAKI_WORK_LENGTH(STATIONS, SLOTS));
+    while (number == JOFTAKI_ACCEPTED) {
+        print_way(way, hops);
+        number = joftaki_next_way(plan, sizeof plan, STATIONS, SLOTS, SOURCE, destination, &hops,
+                                  way, SLOTS, work, JOFTAKI_WORK_LENGTH(STATIONS, SLOTS));
+    }
+    if (number != JOFTAKI_NONE && number != JOFTAKI_LAST)
+        accept_or_stop(number);
+}
+
+/* Operation 5: each station's pairs and load. */
+static void print_loads(uint64_t *work)
+{
+    uint64_t pairs[STATIONS];
+    uint64_t loads[STATIONS];
+    size_t v;
+
+    accept_or_stop(joftaki_loads(plan, sizeof plan, STATIONS, SLOTS, pairs, STATIONS, loads, STATIONS,
+                                 work, JOFTAKI_WORK_LENGTH(STATIONS, SLOTS)));
+    printf("stations %d slots %d contacts %d\n", STATIONS, SLOTS, CONTACTS);
+    for (v = 0; v < STATIONS; v++)
+        printf("%zu %" PRIu64 " %" PRIu64 "\n", v, pairs[v], loads[v]);
+}
+
+/* Operation 6: a station whose load no other exceeds. */
+static void print_busiest(uint64_t *work)
+{
+    size_t station;
+
+    accept_or_stop(joftaki_busiest(plan, sizeof plan, STATIONS, SLOTS, &station,
+                                   work, JOFTAKI_WORK_LENGTH(STATIONS, SLOTS)));
+    printf("busiest %zu\n", station);
+}
+
+int main(void)
+{
+    uint64_t work[JOFTAKI_WORK_LENGTH(STATIONS, SLOTS)];
+    uint32_t number = joftaki_check(plan, sizeof plan, STATIONS, SLOTS);
+
+    accept_or_stop(number);
+    printf("check %" PRIu32 "\n", number);
+    print_reach();
+    print_pair(4, work);
+    print_ways(4, work);
+    print_pair(3, work);
+    print_ways(3, work);
+    print_loads(work);
+    print_busiest(work);
+    return 0;
+}

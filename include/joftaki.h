@@ -1,0 +1,221 @@
+/*
+ * Joftaki: least ways through a slot plan. The operations of document 01 for C99 and C++.
+ *
+ * Words. The comments have document 01's words; in names a walk is a chain, hops are legs, a path is a way, and shortest is
+ * least, with the fewest legs. An appearance (v, u) is station v reached by a chain whose last contact is in slot u.
+ *
+ * Arguments. plan: records of 6 bytes, no header: slot, a, b, each 16 bits, high byte first; in each record a < b, and
+ * records rise strictly by (slot, a, b). A record's place, counted from 0, is its position. n: the number of stations, 1 to
+ * 256; they are numbered from 0. t: the number of slots, 1 to 255; they are numbered from 1. s, z, v: stations. Every
+ * function but row and row_number reads the plan anew and trusts no earlier table.
+ *
+ * Answers. Every function gives a number: 0 where the call is accepted, else the number of document 01's first cause that
+ * holds, in its order: 1, 2, then 3, 4, 5 record by record, then 6, 7, 8, 9, 10. First way and next way have two more
+ * numbers, JOFTAKI_NONE and JOFTAKI_LAST, which are acceptances. A slot (hops, count, station, offset, length) is always
+ * written: its value on acceptance; 0 on every refusal, and 0 beside JOFTAKI_NONE and JOFTAKI_LAST.
+ *
+ * Lent memory. Tables, buffers and work areas may hold anything at entry. Numbers 1 to 8 leave all of them as they were. 9
+ * sets the named parts of the tables and of the work area to 0 and leaves the way buffer. 10 sets the named part of the work
+ * area to 0 and leaves the way buffer. Every acceptance leaves the named part of the work area 0. The named part is the
+ * length said at each prototype; entries past it are never touched, and longer is always fine.
+ *
+ * Proved. For every call that lends memory as said below, the number, the slots and every lent entry at exit are those of
+ * the definitions in crates/temporal/specs, and the function ends. The contracts stand in crates/joftaki_c/src/lib.rt, with
+ * the definitions of the slots and of JOFTAKI_NONE and JOFTAKI_LAST in crates/joftaki_c/specs. No contract asks anything of
+ * the numbers or of what the lent memory holds. No refusal has the number of JOFTAKI_NONE or JOFTAKI_LAST
+ * (crates/joftaki_c/proofs/Told.antt).
+ *
+ * Not proved. That these prototypes, written by hand, fit the archive; how long a call takes; how much stack it takes
+ * (measured: docs/MEMORY.md).
+ *
+ * What no contract can cover at this boundary, and nothing tests; a call that breaks one of these rules is undefined. It is
+ * said again at each prototype:
+ *   - each pointer is valid for as many entries as the length behind it says (a slot: for one), for reading, and where it is
+ *     not const for writing;
+ *   - it is aligned for its type;
+ *   - it is not null, also where the length is 0;
+ *   - no slot, table, buffer, work area or plan overlaps another that is lent to the same call;
+ *   - nothing else reads or writes what is lent as not const, or writes what is lent as const, until the call returns;
+ *   - an area takes at most PTRDIFF_MAX bytes.
+ *
+ * The functions keep nothing between calls and allocate nothing; calls on memory of their own may run at the same time.
+ * Beside themselves they need memset alone.
+ */
+#ifndef JOFTAKI_H
+#define JOFTAKI_H
+
+#include <stddef.h>
+#include <stdint.h>
+
+#ifdef __cplusplus
+extern "C" {
+#endif
+
+/* The numbers. */
+#define JOFTAKI_ACCEPTED 0u
+/* A fault of the plan. */
+#define JOFTAKI_LIMITS 1u /* n or t outside its limits */
+#define JOFTAKI_LENGTH 2u /* plan not a multiple of 6 bytes, or over 4,096 records */
+#define JOFTAKI_SLOT 3u   /* a slot is 0 or above t */
+#define JOFTAKI_ENDS 4u   /* a >= b, or b >= n */
+#define JOFTAKI_ORDER 5u  /* a record is not above the one before it */
+/* A fault of the call. */
+#define JOFTAKI_STATION 6u           /* a named station is >= n */
+#define JOFTAKI_SAME_STATION 7u      /* source equals destination */
+#define JOFTAKI_SHORT 8u             /* a lent table or buffer is too short */
+#define JOFTAKI_TOO_MANY 9u          /* an appearance or station has over 2^64 - 1 least chains from a source worked on */
+#define JOFTAKI_NOT_SHORTEST_PATH 10u /* next way: the offered positions are no least way of the pair, or it has none */
+/* First way and next way: acceptances that give no way. */
+#define JOFTAKI_NONE 100u /* the pair has no way */
+#define JOFTAKI_LAST 101u /* there is no way after the one in the buffer */
+
+/* The limits of n, of t and of the records of a plan. */
+#define JOFTAKI_MOST_STATIONS 256
+#define JOFTAKI_MOST_SLOTS 255
+#define JOFTAKI_MOST_RECORDS 4096
+#define JOFTAKI_RECORD_BYTES 6
+
+/* The legs where there is no chain, in a table or in the hops slot of pair. */
+#define JOFTAKI_NO_WALK 65535u
+
+/* The named lengths, in entries: of a table of appearances and of a work area. n and t are within their limits. */
+#define JOFTAKI_TABLE_LENGTH(n, t) ((size_t)(n) * ((size_t)(t) + 1))
+#define JOFTAKI_WORK_LENGTH(n, t) (4 * JOFTAKI_TABLE_LENGTH(n, t))
+
+/* The place of appearance (v, u) in a table of appearances. */
+#define JOFTAKI_PLACE(t, v, u) ((size_t)(v) * ((size_t)(t) + 1) + (size_t)(u))
+
+/*
+ * Operation 1, check a plan.
+ *
+ * Gives 0, or the first of 1, 2, 3, 4, 5. Every function that reads a plan gives the same number where check refuses it.
+ * Proved: the number.
+ * Not covered: plan is valid for plan_length bytes and not null, also where plan_length is 0.
+ */
+uint32_t joftaki_check(const uint8_t *plan, size_t plan_length, size_t n, size_t t);
+
+/*
+ * Operation 2, reach from s.
+ *
+ * hops and counts: for each appearance (v, u), at place v (t + 1) + u, the legs of a least chain from s to it, 65535 where
+ * there is no chain, and the count of least chains, 0 where there is none; (s, 0) has 0 legs and count 1. station_hops and
+ * station_counts: the same for each station v, at place v; s has 0 legs and count 1.
+ *
+ * Lend: hops and counts JOFTAKI_TABLE_LENGTH(n, t) entries each, station_hops and station_counts n entries each.
+ * Gives 0, or the first of 1, 2, 3, 4, 5, 6, 8, 9. 9 sets the named parts of all four tables to 0.
+ * Proved: the number and every entry of the four tables at exit.
+ * Not covered: each pointer is valid for its length, aligned and not null, also where its length is 0; the four tables and
+ * the plan do not overlap.
+ */
+uint32_t joftaki_reach(const uint8_t *plan, size_t plan_length, size_t n, size_t t, size_t s,
+                       uint16_t *hops, size_t hops_length,
+                       uint64_t *counts, size_t counts_length,
+                       uint16_t *station_hops, size_t station_hops_length,
+                       uint64_t *station_counts, size_t station_counts_length);
+
+/*
+ * Operation 3, row of station v: the part of the caller's table of appearance counts that holds v's t + 1 entries. It
+ * begins at table + *offset and has *length entries: v (t + 1) and t + 1; on refusal 0 and 0, an empty part. Reads no plan
+ * and no entry of the table.
+ *
+ * Lend: table, JOFTAKI_TABLE_LENGTH(n, t) entries, even if the row asked for would fit.
+ * Gives 0, or the first of 1, 6, 8.
+ * Proved: the number, both slots, and that this part of the table is document 01's row.
+ * Not covered: table is valid for table_length entries, aligned and not null, also where table_length is 0; offset and
+ * length are valid, aligned and not null; the two slots and the table do not overlap.
+ */
+uint32_t joftaki_row(const uint64_t *table, size_t table_length, size_t n, size_t t, size_t v,
+                     size_t *offset, size_t *length);
+
+/*
+ * The sister of row: row's number on the same arguments.
+ *
+ * Gives 0, or the first of 1, 6, 8.
+ * Proved: the number.
+ * Not covered: table is valid for table_length entries, aligned and not null, also where table_length is 0.
+ */
+uint32_t joftaki_row_number(const uint64_t *table, size_t table_length, size_t n, size_t t, size_t v);
+
+/*
+ * Operation 4, pair s, z: in *hops the legs of the least ways from s to z, in *count their number, and in through at place v
+ * how many of them have v inside: visited, and neither s nor z. Where there is no way: 65535, 0 and all 0.
+ *
+ * Lend: through n entries, work JOFTAKI_WORK_LENGTH(n, t) entries.
+ * Gives 0, or the first of 1, 2, 3, 4, 5, 6, 7, 8, 9. 9 sets the named parts of through and work to 0.
+ * Proved: the number, both slots, and every entry of through and work at exit.
+ * Not covered: each pointer is valid for its length, aligned and not null, also where its length is 0; hops and count are
+ * valid, aligned and not null; the two slots, through, work and the plan do not overlap.
+ */
+uint32_t joftaki_pair(const uint8_t *plan, size_t plan_length, size_t n, size_t t, size_t s, size_t z,
+                      uint64_t *hops, uint64_t *count,
+                      uint64_t *through, size_t through_length,
+                      uint64_t *work, size_t work_length);
+
+/*
+ * Operation 5, loads: for each station v, at place v, in pairs its pairs, the number of ordered pairs of two different
+ * stations with v inside some least way, and in loads its load, the sum of the shares over its pairs. A share is the whole
+ * part of 2^32 * through / count; one unit is 1 / 2^32.
+ *
+ * Lend: pairs and loads n entries each, work JOFTAKI_WORK_LENGTH(n, t) entries.
+ * Gives 0, or the first of 1, 2, 3, 4, 5, 8, 9; every source is worked on. 9 sets the named parts of all three to 0.
+ * Proved: the number and every entry of pairs, loads and work at exit.
+ * Not covered: each pointer is valid for its length, aligned and not null, also where its length is 0; pairs, loads, work
+ * and the plan do not overlap.
+ */
+uint32_t joftaki_loads(const uint8_t *plan, size_t plan_length, size_t n, size_t t,
+                       uint64_t *pairs, size_t pairs_length,
+                       uint64_t *loads, size_t loads_length,
+                       uint64_t *work, size_t work_length);
+
+/*
+ * Operation 6, busiest: in *station a station whose load no other exceeds; among equals any may be given.
+ *
+ * Lend: work JOFTAKI_WORK_LENGTH(n, t) entries.
+ * Gives 0, or the first of 1, 2, 3, 4, 5, 8, 9; every source is worked on. 9 sets the named part of work to 0.
+ * Proved: the number, every entry of work at exit, that the station is one of the n and that no other's load exceeds its
+ * load; 0 on refusal. Which of several such stations is given is left open.
+ * Not covered: each pointer is valid for its length, aligned and not null, also where its length is 0; station is valid,
+ * aligned and not null; the slot, work and the plan do not overlap.
+ */
+uint32_t joftaki_busiest(const uint8_t *plan, size_t plan_length, size_t n, size_t t,
+                         size_t *station,
+                         uint64_t *work, size_t work_length);
+
+/*
+ * Operation 7, first way of s, z: in *hops its legs, and in as many first entries of way its positions. The least ways of a
+ * pair are ordered by their positions, compared from the first leg.
+ *
+ * Lend: way t entries, even if the pair has fewer legs or no way; work JOFTAKI_WORK_LENGTH(n, t) entries.
+ * Gives 0; JOFTAKI_NONE where the pair has no way, which leaves the whole way buffer as it was; or the first of 1, 2, 3, 4,
+ * 5, 6, 7, 8, 9. Entries of way behind the legs are never touched.
+ * Proved: the number, the slot, and every entry of way and work at exit. For a listing as a whole, any list of calls of
+ * first way and next way on one buffer, document 01's demand 3 is proved (crates/trace, crates/listing/proofs/Demand3.antt).
+ * Not covered: each pointer is valid for its length, aligned and not null, also where its length is 0; hops is valid,
+ * aligned and not null; the slot, way, work and the plan do not overlap.
+ */
+uint32_t joftaki_first_way(const uint8_t *plan, size_t plan_length, size_t n, size_t t, size_t s, size_t z,
+                           size_t *hops,
+                           uint16_t *way, size_t way_length,
+                           uint64_t *work, size_t work_length);
+
+/*
+ * Operation 8, next way after the one with which way begins: answered as first way. As many first entries of way are read
+ * as the pair has legs, and none is trusted.
+ *
+ * Lend: as for first way.
+ * Gives 0; JOFTAKI_LAST where way begins with the pair's last way, which leaves the whole way buffer as it was; or the
+ * first of 1, 2, 3, 4, 5, 6, 7, 8, 9, 10. 10: way begins with no least way of the pair, or it has none.
+ * Proved: as for first way.
+ * Not covered: as for first way: each pointer is valid for its length, aligned and not null, also where its length is 0;
+ * hops is valid, aligned and not null; the slot, way, work and the plan do not overlap.
+ */
+uint32_t joftaki_next_way(const uint8_t *plan, size_t plan_length, size_t n, size_t t, size_t s, size_t z,
+                          size_t *hops,
+                          uint16_t *way, size_t way_length,
+                          uint64_t *work, size_t work_length);
+
+#ifdef __cplusplus
+}
+#endif
+
+#endif

@@ -1,0 +1,126 @@
+//! The comparison of one call, and the numbers of comparisons.
+
+use std::collections::BTreeMap;
+use std::fmt::{Debug, Write};
+
+use crate::call::{Call, Lent, Operation, LAST, NONE, OPERATIONS};
+use crate::native::{self, Seen};
+use crate::reference::{Expected, Reference};
+
+/// The text of a difference.
+pub type Difference = String;
+
+/// The comparisons so far: how often each operation answered each number.
+#[derive(Clone, Debug, Default)]
+pub struct Comparison {
+    answers: BTreeMap<(Operation, u32), u64>,
+}
+
+impl Comparison {
+    /// Makes a call and compares all of it with the reference; gives what the library left.
+    pub fn compare(&mut self, call: &Call, reference: &Reference) -> Result<Seen, Difference> {
+        let seen = native::run(call);
+        let expected = reference.run(call);
+        let told = differences(call, &expected, &seen);
+        if !told.is_empty() {
+            let values: Vec<Vec<u64>> = seen.lent.values.iter().map(|value| vec![*value]).collect();
+            let given = answer_text(call.operation, seen.number, &values);
+            let asked = answer_text(call.operation, expected.number, &expected.values);
+            let name = reference.name;
+            return Err(format!("{call}{name}: {asked}\nlibrary: {given}\n{told}"));
+        }
+        let answer = (call.operation, seen.number);
+        *self.answers.entry(answer).or_default() += 1;
+        Ok(seen)
+    }
+
+    /// How often an operation answered a number.
+    fn answered(&self, operation: Operation, number: u32) -> u64 {
+        self.answers.get(&(operation, number)).copied().unwrap_or(0)
+    }
+
+    /// The numbers that an operation knows and never answered.
+    pub fn never_answered(&self) -> Vec<(&'static str, u32)> {
+        let mut never = Vec::new();
+        for operation in OPERATIONS {
+            let numbers = operation.numbers().iter().copied();
+            let unseen = numbers.filter(|number| self.answered(operation, *number) == 0);
+            never.extend(unseen.map(|number| (operation.function(), number)));
+        }
+        never
+    }
+
+    /// A line an operation: its comparisons, and how often each number was answered.
+    pub fn table(&self) -> String {
+        let mut text = String::new();
+        let mut total = 0;
+        for operation in OPERATIONS {
+            let numbers = operation.numbers().iter();
+            let answered = |number: &u32| self.answered(operation, *number);
+            let calls: u64 = numbers.clone().map(answered).sum();
+            total += calls;
+            let _ = write!(text, "{:18} {calls:>8}:", operation.function());
+            for number in numbers {
+                let _ = write!(text, " {} {}", number_name(*number), answered(number));
+            }
+            text.push('\n');
+        }
+        let _ = writeln!(text, "comparisons {total}");
+        text
+    }
+}
+
+/// A number in the table.
+fn number_name(number: u32) -> String {
+    match number {
+        0 => "accepted".to_string(),
+        NONE => "none".to_string(),
+        LAST => "last".to_string(),
+        _ => format!("[{number}]"),
+    }
+}
+
+/// The number, and the values that may stand beside it.
+fn answer_text(operation: Operation, number: u32, values: &[Vec<u64>]) -> String {
+    let values = operation.values().iter().zip(values);
+    let texts = values.map(|(name, any)| format!(", {name} {any:?}"));
+    format!("number {number}{}", texts.collect::<String>())
+}
+
+/// A line for each part that differs, with its first differing entry; empty where nothing does.
+fn differences(call: &Call, expected: &Expected, seen: &Seen) -> String {
+    let mut text = String::new();
+    if expected.number != seen.number {
+        let _ = writeln!(text, "numbers differ");
+    }
+    let Lent {
+        narrow,
+        wide,
+        values,
+    } = &seen.lent;
+    for (place, name) in call.operation.values().iter().enumerate() {
+        let (any, value) = (&expected.values[place], values[place]);
+        if !any.contains(&value) {
+            let _ = writeln!(text, "{name}: one of {any:?}, and the library {value}");
+        }
+    }
+    text += &tables_text("16-bit", &expected.narrow, narrow);
+    text += &tables_text("64-bit", &expected.wide, wide);
+    if !seen.outside_kept {
+        text += "the library wrote outside of what is lent, or to the plan\n";
+    }
+    text
+}
+
+/// A line for each table that differs.
+fn tables_text<N: Debug + PartialEq>(width: &str, expected: &[Vec<N>], seen: &[Vec<N>]) -> String {
+    let mut text = String::new();
+    for (table, (one, other)) in expected.iter().zip(seen).enumerate() {
+        if let Some(entry) = (0..one.len()).find(|entry| one[*entry] != other[*entry]) {
+            let (one, other) = (&one[entry], &other[entry]);
+            let place = format!("{width} table {table}, entry {entry}");
+            let _ = writeln!(text, "{place}: {one:?}, and the library {other:?}");
+        }
+    }
+    text
+}

@@ -1,0 +1,92 @@
+//! What the calls lend: lengths, and arbitrary contents.
+
+use lister::plan::{PlanInput, MOST_SLOTS, MOST_STATIONS};
+use lister::random::Random;
+
+use crate::call::{Call, Lent, Operation};
+
+/// How many entries of a table are lent.
+#[derive(Clone, Copy, Debug, PartialEq, Eq)]
+pub enum Lengths {
+    /// The named ones.
+    Named,
+    /// The named ones, more, or rarely fewer.
+    Any,
+}
+
+/// A size in its limits; a size outside of them names a small table, since the call is refused.
+fn named_size(size: usize, most: usize) -> usize {
+    if size > most {
+        3
+    } else {
+        size
+    }
+}
+
+/// The named lengths of an operation's tables: 16 bits, then 64 bits.
+pub fn named(operation: Operation, input: PlanInput) -> [Vec<usize>; 2] {
+    let stations = named_size(input.stations, MOST_STATIONS);
+    let slots = named_size(input.slots, MOST_SLOTS);
+    [
+        operation.narrow(stations, slots),
+        operation.wide(stations, slots),
+    ]
+}
+
+/// A length for a table with so many named entries.
+fn length(random: &mut Random, lengths: Lengths, named: usize) -> usize {
+    if lengths == Lengths::Named {
+        return named;
+    }
+    match random.below(64) {
+        0 => random.below(named + 1),
+        1 | 2 => named.saturating_sub(1),
+        3..=20 => named,
+        _ => named + random.between(1, 5),
+    }
+}
+
+/// Arbitrary 16-bit entries.
+pub fn narrow(random: &mut Random, length: usize) -> Vec<u16> {
+    (0..length).map(|_| random.number() as u16).collect()
+}
+
+/// Arbitrary 64-bit entries.
+pub fn wide(random: &mut Random, length: usize) -> Vec<u64> {
+    (0..length).map(|_| random.number()).collect()
+}
+
+/// Memory of given lengths for a call, with arbitrary contents.
+pub fn of_lengths(random: &mut Random, operation: Operation, lengths: &[Vec<usize>; 2]) -> Lent {
+    let [narrow_lengths, wide_lengths] = lengths;
+    Lent {
+        narrow: (narrow_lengths.iter())
+            .map(|length| narrow(random, *length))
+            .collect(),
+        wide: (wide_lengths.iter())
+            .map(|length| wide(random, *length))
+            .collect(),
+        values: wide(random, operation.values().len()),
+    }
+}
+
+/// A call on arbitrary contents.
+pub fn call<'a>(
+    random: &mut Random,
+    operation: Operation,
+    input: PlanInput<'a>,
+    stations: [usize; 2],
+    lengths: Lengths,
+) -> Call<'a> {
+    let tables = named(operation, input);
+    let tables = tables.map(|named| {
+        let named = named.into_iter();
+        named.map(|named| length(random, lengths, named)).collect()
+    });
+    Call {
+        operation,
+        input,
+        stations,
+        lent: of_lengths(random, operation, &tables),
+    }
+}

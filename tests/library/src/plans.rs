@@ -1,0 +1,158 @@
+//! Generated plans: small and large, valid and damaged.
+
+use lister::cases::{damage, valid_records, Case};
+use lister::plan::{MOST_CONTACTS, MOST_SLOTS, MOST_STATIONS};
+use lister::plans::{random_plan, Owned};
+use lister::random::Random;
+use lister::reach_cases::Builder;
+
+/// A valid plan of so many stations and slots, with at most so many records.
+fn drawn(random: &mut Random, stations: usize, slots: usize, wanted: usize) -> Owned {
+    let wanted = if stations == 1 { 0 } else { wanted };
+    let records = valid_records(random, stations, slots, wanted);
+    Owned::new(stations, slots, &records)
+}
+
+/// A valid plan with few walks: dense in few slots, a few stations in more slots, or few records.
+pub fn small(random: &mut Random) -> Owned {
+    match random.below(4) {
+        0 | 1 => random_plan(random),
+        2 => {
+            let (stations, slots) = (random.between(2, 4), random.between(2, 9));
+            let wanted = random.between(0, 14);
+            drawn(random, stations, slots, wanted)
+        }
+        _ => {
+            let (stations, slots) = (random.between(1, 6), random.between(1, 12));
+            let wanted = random.between(0, 12);
+            drawn(random, stations, slots, wanted)
+        }
+    }
+}
+
+/// A valid plan of any size with few records.
+pub fn sparse(random: &mut Random) -> Owned {
+    let stations = random.between(1, MOST_STATIONS);
+    let slots = random.between(1, MOST_SLOTS);
+    let wanted = random.between(0, 40);
+    drawn(random, stations, slots, wanted)
+}
+
+/// The plan with one or two damages; it may still be valid.
+pub fn damaged(random: &mut Random, owned: Owned) -> Owned {
+    let mut case = Case {
+        label: String::new(),
+        stations: owned.stations as u16,
+        slots: owned.slots as u16,
+        bytes: owned.bytes,
+        stated: None,
+    };
+    for _ in 0..random.between(1, 2) {
+        damage(random, &mut case);
+    }
+    Owned {
+        bytes: case.bytes,
+        stations: case.stations.into(),
+        slots: case.slots.into(),
+    }
+}
+
+/// A number outside of the limits, or a number that is inside of them only in its low bits.
+pub fn far(random: &mut Random, number: usize) -> usize {
+    match random.below(6) {
+        0 => MOST_STATIONS + 1,
+        1 => number + (1 << 8),
+        2 => number + (1 << 16),
+        3 => number + (1 << 32),
+        4 => usize::from(u16::MAX),
+        _ => usize::MAX,
+    }
+}
+
+/// The plan with another n or T, mostly outside of its limits.
+pub fn resized(random: &mut Random, owned: Owned) -> Owned {
+    let (stations, slots) = (owned.stations, owned.slots);
+    match random.below(4) {
+        0 => Owned {
+            stations: 0,
+            ..owned
+        },
+        1 => Owned { slots: 0, ..owned },
+        2 => Owned {
+            stations: far(random, stations),
+            ..owned
+        },
+        _ => Owned {
+            slots: far(random, slots),
+            ..owned
+        },
+    }
+}
+
+/// The most records, or one more.
+pub fn full(random: &mut Random) -> Owned {
+    let stations = random.between(128, MOST_STATIONS);
+    let slots = random.between(2, MOST_SLOTS);
+    let mut owned = drawn(random, stations, slots, MOST_CONTACTS + 600);
+    let records = MOST_CONTACTS + random.below(2);
+    owned.bytes.truncate(6 * records);
+    owned
+}
+
+/// A valid plan with too many walks to be listed; some have over 2^64−1 shortest ones.
+pub fn large(random: &mut Random) -> Owned {
+    match random.below(4) {
+        0 => {
+            let (stations, slots) = (random.between(8, 64), random.between(4, 63));
+            let wanted = random.between(50, 600);
+            drawn(random, stations, slots, wanted)
+        }
+        1 => {
+            let (stations, slots) = (random.between(2, 10), random.between(20, MOST_SLOTS));
+            let wanted = random.between(100, 1200);
+            drawn(random, stations, slots, wanted)
+        }
+        2 => Owned::built(&layers(random)),
+        _ => Owned::built(&row(random)),
+    }
+}
+
+/// Layers of stations: two of neighbouring layers meet in some of the slots between them, and a few
+/// stations meet in any slot.
+fn layers(random: &mut Random) -> Builder {
+    let mut builder = Builder::start();
+    let (most_width, most_slots) = (random.between(1, 6), random.between(1, 4));
+    let mut before = vec![0];
+    let mut slot = 0;
+    let mut stations = 1;
+    for _ in 0..random.between(8, 40) {
+        let next = builder.layer(random.between(1, most_width));
+        stations += next.len();
+        for _ in 0..random.between(1, most_slots) {
+            slot += 1;
+            for station in &before {
+                for other in &next {
+                    if random.below(8) > 0 {
+                        builder.meet(slot, *station, *other);
+                    }
+                }
+            }
+        }
+        before = next;
+    }
+    for _ in 0..random.below(4) {
+        let end = random.between(1, stations - 1);
+        builder.grow(stations, slot + 1);
+        slot += 1;
+        builder.meet(slot, random.below(end), end);
+    }
+    builder
+}
+
+/// A row of stations with as many slots between two, and around 2^64 paths from end to end.
+fn row(random: &mut Random) -> Builder {
+    let (width, stages) = [(2, 64), (3, 41), (4, 32), (5, 28), (8, 22)][random.below(5)];
+    let mut builder = Builder::start();
+    builder.slot_ladder(stages - random.below(4), width);
+    builder
+}

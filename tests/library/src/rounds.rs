@@ -1,0 +1,227 @@
+//! Generated calls and traces, a round a seed.
+
+use lister::cases::plan_bytes;
+use lister::cursor::{Cursor, Operation as Way, Step};
+use lister::lent::appearances;
+use lister::plan::{check, MOST_SLOTS, MOST_STATIONS, RECORD_BYTES};
+use lister::plans::Owned;
+use lister::random::Random;
+use lister::shortest::COUNT_LIMIT;
+use lister::traces::{contents, random_trace};
+
+use crate::call::{Call, Operation, OPERATIONS};
+use crate::compare::{Comparison, Difference};
+use crate::lend::{self, Lengths};
+use crate::plans;
+use crate::reference::{way_hops, way_number, Reference, COUNTED, LISTED};
+
+/// One round: a plan, calls of every operation on it, and traces.
+pub fn compare(comparison: &mut Comparison, seed: u64) -> Result<(), Difference> {
+    let random = &mut Random::new(seed);
+    match random.below(64) {
+        0 => {
+            let owned = plans::full(random);
+            some_calls(comparison, random, &owned, &COUNTED, 1)
+        }
+        1..=4 => {
+            let owned = plans::large(random);
+            some_calls(comparison, random, &owned, &COUNTED, 3)
+        }
+        5 | 6 => {
+            let owned = plans::sparse(random);
+            let owned = changed(random, owned);
+            some_calls(comparison, random, &owned, &COUNTED, 2)
+        }
+        _ => {
+            let owned = plans::small(random);
+            let owned = changed(random, owned);
+            small_plan(comparison, random, &owned)
+        }
+    }
+}
+
+/// Most plans as they are, some damaged or with other sizes.
+fn changed(random: &mut Random, owned: Owned) -> Owned {
+    match random.below(12) {
+        0..=3 => plans::damaged(random, owned),
+        4 => plans::resized(random, owned),
+        _ => owned,
+    }
+}
+
+/// A small plan: every pair if the plan is accepted, and traces.
+fn small_plan(
+    comparison: &mut Comparison,
+    random: &mut Random,
+    owned: &Owned,
+) -> Result<(), Difference> {
+    let fits = owned.stations <= MOST_STATIONS && owned.slots <= MOST_SLOTS;
+    if fits && appearances(owned.stations, owned.slots) > 2000 {
+        return some_calls(comparison, random, owned, &COUNTED, 2);
+    }
+    some_calls(comparison, random, owned, &LISTED, 2)?;
+    if check(owned.input()).is_err() || !(2..=6).contains(&owned.stations) {
+        return Ok(());
+    }
+    for source in 0..owned.stations {
+        for destination in (0..owned.stations).filter(|station| *station != source) {
+            for operation in [Operation::Pair, Operation::FirstWay, Operation::NextWay] {
+                let stations = [source, destination];
+                one_call(comparison, random, owned, operation, stations, &LISTED)?;
+            }
+        }
+        for operation in [Operation::Reach, Operation::Row, Operation::RowNumber] {
+            one_call(comparison, random, owned, operation, [source, 0], &LISTED)?;
+        }
+    }
+    trace(comparison, random, owned)?;
+    trace(comparison, random, owned)
+}
+
+/// A station that a call names, mostly of the plan, often the first or the last.
+fn station(random: &mut Random, stations: usize) -> usize {
+    let known = random.below(stations.clamp(1, MOST_STATIONS));
+    match random.below(32) {
+        0 => stations,
+        1 => plans::far(random, known),
+        2..=9 => 0,
+        10..=13 => stations.saturating_sub(1),
+        _ => known,
+    }
+}
+
+/// Loads and busiest are rarer on plans with more than so many contacts for all pairs together.
+const EVERY_PAIR: usize = 1_000_000;
+
+/// Whether loads and busiest are drawn for a plan: the more work it is, the rarer.
+pub fn draw_loads(random: &mut Random, owned: &Owned) -> bool {
+    let contacts = owned.bytes.len() / RECORD_BYTES;
+    let work = owned.stations.min(MOST_STATIONS).pow(2) * contacts;
+    random.below(1 + work / EVERY_PAIR) == 0
+}
+
+/// Each operation so many times, with stations drawn; check, loads and busiest once at most.
+pub fn some_calls(
+    comparison: &mut Comparison,
+    random: &mut Random,
+    owned: &Owned,
+    reference: &Reference,
+    times: usize,
+) -> Result<(), Difference> {
+    for operation in OPERATIONS {
+        let times = match operation {
+            Operation::Check => 1,
+            Operation::Loads | Operation::Busiest => draw_loads(random, owned).into(),
+            _ => times,
+        };
+        for _ in 0..times {
+            let stations = [0; 2].map(|_| station(random, owned.stations));
+            one_call(comparison, random, owned, operation, stations, reference)?;
+        }
+    }
+    Ok(())
+}
+
+/// One call on lengths and contents drawn; next way is mostly offered a path.
+fn one_call(
+    comparison: &mut Comparison,
+    random: &mut Random,
+    owned: &Owned,
+    operation: Operation,
+    stations: [usize; 2],
+    reference: &Reference,
+) -> Result<(), Difference> {
+    let mut call = lend::call(random, operation, owned.input(), stations, Lengths::Any);
+    if operation == Operation::NextWay {
+        offer(random, &mut call, reference);
+    }
+    comparison.compare(&call, reference)?;
+    Ok(())
+}
+
+/// Writes a path of the pair to the way buffer, if there is one; sometimes with an entry changed.
+fn offer(random: &mut Random, call: &mut Call, reference: &Reference) {
+    let mut hops = 0;
+    call.operation = Operation::FirstWay;
+    for _ in 0..random.between(1, 4) {
+        let given = reference.run(call);
+        if given.number == 0 {
+            call.lent.narrow = given.narrow;
+            hops = given.values[0][0] as usize;
+        }
+        call.operation = Operation::NextWay;
+    }
+    if hops > 0 && random.below(3) == 0 {
+        let contacts = call.input.bytes.len() / RECORD_BYTES;
+        call.lent.narrow[0][random.below(hops)] = random.below(contacts + 1) as u16;
+    }
+}
+
+/// A line for each step.
+fn trace_text(steps: &[Step]) -> String {
+    let line = |step: &Step| match step {
+        Step::Write(entry, value) => format!("write {value} to entry {entry}\n"),
+        Step::Call(operation, call) => {
+            let input = call.input;
+            let sizes = format!("n {} T {}", input.stations, input.slots);
+            let stations = [call.source, call.destination];
+            let lengths = [input.bytes.len(), call.buffer_length, call.scratch_length];
+            format!(
+                "{operation:?} {sizes}, stations {stations:?}, plan, buffer, scratch {lengths:?}\n"
+            )
+        }
+    };
+    steps.iter().map(line).collect()
+}
+
+/// A trace on a pair of a small accepted plan, whose answers and buffers are also the cursor's.
+fn trace(
+    comparison: &mut Comparison,
+    random: &mut Random,
+    owned: &Owned,
+) -> Result<(), Difference> {
+    let source = random.below(owned.stations);
+    let destination = (source + random.between(1, owned.stations - 1)) % owned.stations;
+    let list = owned.list(source, destination);
+    let hops = list.first().map_or(0, Vec::len);
+    let length = owned.slots + random.below(3);
+    let bad_bytes = plan_bytes(&[(1, 1, 1), (1, 0, 1)]);
+    let mut buffer = contents(random, &list, length);
+    let pair = owned.path_call(source, destination);
+    let steps = random_trace(random, pair, hops, length, &bad_bytes);
+    let mut cursor = Cursor::start(COUNT_LIMIT, list, &buffer);
+    for (at, step) in steps.iter().enumerate() {
+        let (operation, call) = match step {
+            Step::Write(entry, value) => {
+                buffer[*entry] = *value;
+                cursor.write(*entry, *value);
+                continue;
+            }
+            Step::Call(operation, call) => (*operation, call),
+        };
+        let lengths = [vec![call.buffer_length], vec![call.scratch_length]];
+        let function = match operation {
+            Way::First => Operation::FirstWay,
+            Way::Next => Operation::NextWay,
+        };
+        let mut lent = lend::of_lengths(random, function, &lengths);
+        lent.narrow[0].copy_from_slice(&buffer[..call.buffer_length]);
+        let made = Call {
+            operation: function,
+            input: call.input,
+            stations: [call.source, call.destination],
+            lent,
+        };
+        let told = |text: String| format!("{text}trace so far:\n{}", trace_text(&steps[..=at]));
+        let seen = comparison.compare(&made, &LISTED).map_err(told)?;
+        buffer[..call.buffer_length].copy_from_slice(&seen.lent.narrow[0]);
+        let answer = cursor.call(operation, call);
+        let expected = (way_number(&answer), way_hops(&answer), cursor.buffer());
+        let answered = (seen.number, seen.lent.values[0], buffer.as_slice());
+        if expected != answered {
+            let text = format!("{made}cursor: {expected:?}\nlibrary: {answered:?}\n");
+            return Err(told(text));
+        }
+    }
+    Ok(())
+}

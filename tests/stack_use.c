@@ -1,0 +1,102 @@
+/*
+ * The stack that each function of the C interface takes, measured: the function runs on a stack of its own that was filled
+ * with a mark, and the bytes that lost it are counted from the call on. The plan is a line: 256 stations, 255 slots, in slot
+ * i stations i - 1 and i hear each other. Its one way from 0 to 255 has 255 legs, the most there can be.
+ */
+#define _XOPEN_SOURCE 600
+#include <inttypes.h>
+#include <stdio.h>
+#include <string.h>
+#include <ucontext.h>
+
+#include "joftaki.h"
+
+#define N JOFTAKI_MOST_STATIONS
+#define T JOFTAKI_MOST_SLOTS
+#define TABLE JOFTAKI_TABLE_LENGTH(N, T)
+#define WORK JOFTAKI_WORK_LENGTH(N, T)
+#define STACK 262144
+#define MARK 0xa5
+
+static uint8_t plan[T * JOFTAKI_RECORD_BYTES];
+static uint16_t hops_table[TABLE], near_hops[N], way[T];
+static uint64_t counts[TABLE], near_counts[N], through[N], pairs[N], loads[N], work[WORK], hops64, count;
+static size_t offset, length, hops, station;
+
+static uint32_t run_check(void) { return joftaki_check(plan, sizeof plan, N, T); }
+static uint32_t run_reach(void)
+{
+    return joftaki_reach(plan, sizeof plan, N, T, 0, hops_table, TABLE, counts, TABLE, near_hops, N, near_counts, N);
+}
+static uint32_t run_row(void) { return joftaki_row(counts, TABLE, N, T, 255, &offset, &length); }
+static uint32_t run_row_number(void) { return joftaki_row_number(counts, TABLE, N, T, 255); }
+static uint32_t run_pair(void)
+{
+    return joftaki_pair(plan, sizeof plan, N, T, 0, 255, &hops64, &count, through, N, work, WORK);
+}
+static uint32_t run_loads(void) { return joftaki_loads(plan, sizeof plan, N, T, pairs, N, loads, N, work, WORK); }
+static uint32_t run_busiest(void) { return joftaki_busiest(plan, sizeof plan, N, T, &station, work, WORK); }
+static uint32_t run_first_way(void)
+{
+    return joftaki_first_way(plan, sizeof plan, N, T, 0, 255, &hops, way, T, work, WORK);
+}
+static uint32_t run_next_way(void)
+{
+    return joftaki_next_way(plan, sizeof plan, N, T, 0, 255, &hops, way, T, work, WORK);
+}
+
+static const struct {
+    const char *name;
+    uint32_t (*run)(void);
+    uint32_t expected;
+} calls[] = {
+    {"joftaki_check", run_check, 0},         {"joftaki_reach", run_reach, 0},
+    {"joftaki_row", run_row, 0},             {"joftaki_row_number", run_row_number, 0},
+    {"joftaki_pair", run_pair, 0},           {"joftaki_loads", run_loads, 0},
+    {"joftaki_busiest", run_busiest, 0},     {"joftaki_first_way", run_first_way, 0},
+    {"joftaki_next_way", run_next_way, JOFTAKI_LAST},
+};
+
+static unsigned char stack[STACK];
+static ucontext_t here, there;
+static uint32_t (*chosen)(void);
+static uint32_t answer;
+static unsigned char *top;
+
+/* Runs the chosen call, and notes where its caller's stack ends. */
+static void call(void)
+{
+    volatile unsigned char end = 0;
+    top = (unsigned char *)&end;
+    answer = chosen();
+}
+
+int main(void)
+{
+    size_t i;
+    for (i = 0; i < T; i++) {
+        unsigned char *record = plan + i * JOFTAKI_RECORD_BYTES;
+        record[1] = (unsigned char)(i + 1);
+        record[3] = (unsigned char)i;
+        record[5] = (unsigned char)(i + 1);
+    }
+    for (i = 0; i < sizeof calls / sizeof calls[0]; i++) {
+        unsigned char *lowest = stack;
+        memset(stack, MARK, sizeof stack);
+        chosen = calls[i].run;
+        getcontext(&there);
+        there.uc_stack.ss_sp = stack;
+        there.uc_stack.ss_size = sizeof stack;
+        there.uc_link = &here;
+        makecontext(&there, call, 0);
+        swapcontext(&here, &there);
+        while (*lowest == MARK)
+            lowest++;
+        if (answer != calls[i].expected) {
+            printf("%s gives %" PRIu32 "\n", calls[i].name, answer);
+            return 1;
+        }
+        printf("%s %ld\n", calls[i].name, (long)(top - lowest));
+    }
+    return 0;
+}
