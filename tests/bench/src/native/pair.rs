@@ -1,0 +1,55 @@
+//! Operation 4, pair.
+
+use lister::answer::{Answer, CallFault};
+
+use super::pass::{blocks, pass, Area, Task, NO_WALK};
+use super::plan::{check, check_pair, Call, Ends};
+
+/// Stores the through counts of a block of stations to a destination.
+fn store(through: &mut [u64], area: &Area, task: Task, destination: usize) {
+    let through = &mut through[task.low..][..task.block];
+    if area.hops[destination] == NO_WALK {
+        through.fill(0);
+        return;
+    }
+    let count = area.counts[destination];
+    for (through, avoiding) in through.iter_mut().zip(area.row(destination)) {
+        *through = count - avoiding;
+    }
+    if (task.low..task.low + task.block).contains(&destination) {
+        through[destination - task.low] = 0;
+    }
+}
+
+/// The through counts of a pair, and its hops and count. None where a count is over 2^64 - 1.
+fn throughs(
+    through: &mut [u64],
+    work: &mut [u64],
+    call: Call,
+    (source, destination): Ends,
+) -> Option<(u64, u64)> {
+    let n = call.stations;
+    let mut answer = (NO_WALK, 0);
+    for (low, block) in blocks(n, n.min(2 * call.slots)) {
+        let task = Task { source, low, block };
+        let area = pass(work, call, task)?;
+        store(through, &area, task, destination);
+        answer = (area.hops[destination], area.counts[destination]);
+    }
+    Some(answer)
+}
+
+/// Operation 4: hops, count, and in the table how many of the paths have each station inside.
+pub fn pair(call: Call, ends: Ends, through: &mut [u64], work: &mut [u64]) -> Answer<(u64, u64)> {
+    check(call)?;
+    let n = call.stations;
+    check_pair(call, ends, (through.len(), n), work.len())?;
+    let through = &mut through[..n];
+    let work = &mut work[..call.work_length()];
+    let answer = throughs(through, work, call, ends);
+    if answer.is_none() {
+        through.fill(0);
+    }
+    work.fill(0);
+    answer.ok_or(CallFault::TooMany.into())
+}

@@ -1,0 +1,129 @@
+//! The completion table, and the shortest paths of a pair in lexicographic order.
+
+use lister::plan::{Contact, RECORD_BYTES};
+
+use super::pass::NO_WALK;
+use super::plan::{contact, contacts, Call};
+
+/// A pair of stations of an accepted plan, and its hops.
+#[derive(Clone, Copy, Debug)]
+pub struct Pair<'a> {
+    pub call: Call<'a>,
+    pub source: usize,
+    pub destination: usize,
+    pub hops: usize,
+}
+
+/// An appearance: a station, reached in a slot.
+#[derive(Clone, Copy, Debug)]
+struct Spot {
+    station: usize,
+    slot: usize,
+}
+
+impl Spot {
+    /// Where a contact leads from here.
+    fn step(self, contact: Contact) -> Option<Spot> {
+        if contact.slot <= self.slot {
+            return None;
+        }
+        let station = contact.other(self.station)?;
+        Some(Spot {
+            station,
+            slot: contact.slot,
+        })
+    }
+}
+
+/// Lowers an entry to one more than another, where that is less.
+fn lower(table: &mut [u64], at: usize, from: usize) {
+    if table[from] < table[at] {
+        table[at] = table[from] + 1;
+    }
+}
+
+/// Fills the completion table of a destination: one pass back over the slots and the records.
+pub fn complete(table: &mut [u64], call: Call, destination: usize) {
+    let width = call.slots + 1;
+    let table = &mut table[..call.stations * width];
+    table.fill(NO_WALK);
+    table[destination * width + call.slots] = 0;
+    let mut records = contacts(call.plan).rev().peekable();
+    for slot in (0..call.slots).rev() {
+        for row in table.chunks_exact_mut(width) {
+            row[slot] = row[slot + 1];
+        }
+        while let Some(contact) = records.next_if(|contact| contact.slot == slot + 1) {
+            let a = contact.a * width + slot;
+            let b = contact.b * width + slot;
+            lower(table, a, b + 1);
+            lower(table, b, a + 1);
+        }
+    }
+}
+
+/// Where positions lead from the source of a pair. No position is trusted.
+fn end_of(way: &[u16], pair: Pair) -> Option<Spot> {
+    let start = Spot {
+        station: pair.source,
+        slot: 0,
+    };
+    way.iter().try_fold(start, |spot, position| {
+        let at = usize::from(*position) * RECORD_BYTES;
+        let record = pair.call.plan.get(at..at + RECORD_BYTES)?;
+        spot.step(contact(record))
+    })
+}
+
+/// The first position from a given one on that leads home with so many hops left behind it.
+fn find(table: &[u64], pair: Pair, spot: Spot, need: u64, from: usize) -> Option<usize> {
+    let width = pair.call.slots + 1;
+    let serves = |contact: Contact| {
+        let next = spot.step(contact);
+        next.is_some_and(|next| table[next.station * width + next.slot] == need)
+    };
+    let later = contacts(pair.call.plan.get(from * RECORD_BYTES..)?);
+    let found = { later }.position(serves)?;
+    Some(from + found)
+}
+
+/// Puts the first position from a given one on that leads home behind the first k entries. False
+/// where there is none.
+fn place(way: &mut [u16], table: &[u64], pair: Pair, k: usize, from: usize) -> bool {
+    let need = (pair.hops - (k + 1)) as u64;
+    let spot = end_of(&way[..k], pair);
+    let found = spot.and_then(|spot| find(table, pair, spot, need, from));
+    if let Some(position) = found {
+        way[k] = position as u16;
+    }
+    found.is_some()
+}
+
+/// Writes the first shortest path of a pair that has one.
+pub fn first_path(way: &mut [u16], table: &[u64], pair: Pair) {
+    for k in 0..pair.hops {
+        place(way, table, pair, k, 0);
+    }
+}
+
+/// Whether a buffer begins with a shortest path of the pair.
+pub fn offered(way: &[u16], pair: Pair) -> bool {
+    let end = end_of(&way[..pair.hops], pair);
+    end.is_some_and(|end| end.station == pair.destination)
+}
+
+/// Advances the first `leg` entries to the next ones that begin a shortest path. False where there
+/// are none, and the buffer stays.
+fn advance(way: &mut [u16], table: &[u64], pair: Pair, leg: usize) -> bool {
+    let Some(last) = leg.checked_sub(1) else {
+        return false;
+    };
+    let from = usize::from(way[last]) + 1;
+    place(way, table, pair, last, from)
+        || (advance(way, table, pair, last) && place(way, table, pair, last, 0))
+}
+
+/// Moves a buffer that begins with a shortest path on to the next one. False on the last.
+pub fn next_path(way: &mut [u16], table: &[u64], pair: Pair) -> bool {
+    advance(way, table, pair, pair.hops)
+}

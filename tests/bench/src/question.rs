@@ -1,0 +1,132 @@
+//! What is asked of a plan, asked of one side for its time, and of both for equal results.
+
+use crate::native::plan::Ends;
+use crate::plans::Plan;
+use crate::side::{Side, LAST, LIBRARY, RUST};
+
+/// A question about a plan.
+#[derive(Clone, Copy, Debug)]
+pub enum Question {
+    Loads,
+    /// The pair of two stations.
+    Pair(Ends),
+    /// All paths of a pair, by first way and then next way until it answers last.
+    Listing(Ends),
+}
+
+/// Lent memory, of exactly the named lengths.
+#[derive(Clone, Debug, PartialEq, Eq)]
+pub struct Lent {
+    pairs: Vec<u64>,
+    loads: Vec<u64>,
+    through: Vec<u64>,
+    way: Vec<u16>,
+    work: Vec<u64>,
+}
+
+impl Lent {
+    pub fn new(plan: &Plan) -> Lent {
+        let n = plan.stations;
+        Lent {
+            pairs: vec![0; n],
+            loads: vec![0; n],
+            through: vec![0; n],
+            way: vec![0; plan.slots],
+            work: vec![0; plan.call().work_length()],
+        }
+    }
+
+    /// Memory that holds something everywhere.
+    fn marked(plan: &Plan) -> Lent {
+        let mut lent = Lent::new(plan);
+        for table in [&mut lent.pairs, &mut lent.loads, &mut lent.through] {
+            table.fill(4321);
+        }
+        lent.way.fill(4321);
+        lent.work.fill(4321);
+        lent
+    }
+}
+
+/// Asks one side; an answer that is no acceptance stops the program.
+pub fn ask(side: &Side, plan: &Plan, question: Question, lent: &mut Lent) {
+    let call = plan.call();
+    match question {
+        Question::Loads => {
+            let number = (side.loads)(call, &mut lent.pairs, &mut lent.loads, &mut lent.work);
+            assert_eq!(number, 0);
+        }
+        Question::Pair(ends) => {
+            let (number, ..) = (side.pair)(call, ends, &mut lent.through, &mut lent.work);
+            assert_eq!(number, 0);
+        }
+        Question::Listing(ends) => {
+            let (mut number, _) = (side.first_way)(call, ends, &mut lent.way, &mut lent.work);
+            while number == 0 {
+                (number, _) = (side.next_way)(call, ends, &mut lent.way, &mut lent.work);
+            }
+            assert_eq!(number, LAST);
+        }
+    }
+}
+
+/// Both sides, each with lent memory of its own, in step.
+struct Both<'a> {
+    plan: &'a Plan,
+    library: Lent,
+    rust: Lent,
+}
+
+impl Both<'_> {
+    /// Does the same on both sides: equal answers, equal lent memory, and a cleared work area.
+    fn step<V: PartialEq + std::fmt::Debug>(&mut self, run: impl Fn(&Side, &mut Lent) -> V) -> V {
+        let library = run(&LIBRARY, &mut self.library);
+        let rust = run(&RUST, &mut self.rust);
+        let name = &self.plan.name;
+        assert_eq!(library, rust, "{name}: the answers differ");
+        assert!(self.library == self.rust, "{name}: the lent memory differs");
+        let cleared = self.library.work.iter().all(|entry| *entry == 0);
+        assert!(cleared, "{name}: the work area is not cleared");
+        library
+    }
+}
+
+/// Compares all results of both sides on a question, and stops the program where they differ.
+pub fn compare(plan: &Plan, question: Question) {
+    let mut both = Both {
+        plan,
+        library: Lent::marked(plan),
+        rust: Lent::marked(plan),
+    };
+    let call = plan.call();
+    match question {
+        Question::Loads => {
+            let number = both.step(|side, lent| {
+                (side.loads)(call, &mut lent.pairs, &mut lent.loads, &mut lent.work)
+            });
+            assert_eq!(number, 0);
+        }
+        Question::Pair(ends) => {
+            let (number, ..) =
+                both.step(|side, lent| (side.pair)(call, ends, &mut lent.through, &mut lent.work));
+            assert_eq!(number, 0);
+        }
+        Question::Listing(ends) => compare_listing(&mut both, ends),
+    }
+}
+
+/// Compares a whole listing, whose paths are as many as the pair's count says.
+fn compare_listing(both: &mut Both, ends: Ends) {
+    let call = both.plan.call();
+    let (_, _, count) =
+        both.step(|side, lent| (side.pair)(call, ends, &mut lent.through, &mut lent.work));
+    let mut listed = 0;
+    let (mut number, _) =
+        both.step(|side, lent| (side.first_way)(call, ends, &mut lent.way, &mut lent.work));
+    while number == 0 {
+        listed += 1;
+        (number, _) =
+            both.step(|side, lent| (side.next_way)(call, ends, &mut lent.way, &mut lent.work));
+    }
+    assert_eq!((number, listed), (LAST, count));
+}

@@ -1,0 +1,140 @@
+//! The tables of times, in the form in which docs/PERFORMANCE.md has them.
+
+use std::time::Duration;
+
+use crate::measure::{measure, Effort, Times};
+use crate::native::plan::Ends;
+use crate::plans::{by_records, by_slots, by_stations, named, Plan};
+use crate::question::Question;
+
+/// The most paths of a listing.
+const MOST_PATHS: u64 = 1024;
+
+/// The pair that is timed on a plan, with its number of paths.
+pub fn timed_pair(plan: &Plan) -> (Ends, u64) {
+    plan.pair_with_paths(MOST_PATHS)
+}
+
+/// The questions of the named plans.
+fn questions(effort: Effort) {
+    loads(effort, &named());
+    of_pairs("Pair", effort, &named(), Question::Pair);
+    of_pairs("A whole listing", effort, &named(), Question::Listing);
+}
+
+/// All tables.
+pub fn all() {
+    let effort = Effort {
+        runs: 11,
+        time: Duration::from_millis(500),
+    };
+    questions(effort);
+    growth("Loads by records", effort, &by_records());
+    growth("Loads by n", effort, &by_stations());
+    growth("Loads by T", effort, &by_slots());
+}
+
+/// The tables of the named plans, with few runs.
+pub fn quick() {
+    questions(Effort {
+        runs: 3,
+        time: Duration::ZERO,
+    });
+}
+
+/// Prints the title and the head of a table.
+pub fn print_head(title: &str, columns: &[&str]) {
+    println!("### {title}\n");
+    print_row(columns);
+    print_row(&vec!["---"; columns.len()]);
+}
+
+/// Prints a row of a table.
+pub fn print_row(cells: &[impl AsRef<str>]) {
+    let cells: Vec<&str> = cells.iter().map(AsRef::as_ref).collect();
+    println!("| {} |", cells.join(" | "));
+}
+
+/// The cells of a plan: n, T and records.
+fn sizes(plan: &Plan) -> [String; 3] {
+    [plan.stations, plan.slots, plan.records()].map(|size| size.to_string())
+}
+
+/// Milliseconds, with three decimals below 10 and one above.
+fn milliseconds(time: Duration) -> String {
+    let time = 1000.0 * time.as_secs_f64();
+    let decimals = if time < 10.0 { 3 } else { 1 };
+    format!("{time:.decimals$}")
+}
+
+/// The cells of the times: library, Rust and ratio.
+fn timed(times: &Times) -> [String; 3] {
+    let library = milliseconds(times.library);
+    let rust = milliseconds(times.rust);
+    [library, rust, format!("{:.2}", times.ratio())]
+}
+
+/// The loads of named plans.
+fn loads(effort: Effort, plans: &[Plan]) {
+    let columns = [
+        "plan",
+        "n",
+        "T",
+        "records",
+        "library, ms",
+        "Rust, ms",
+        "ratio",
+    ];
+    print_head("Loads", &columns);
+    for plan in plans {
+        let times = measure(plan, Question::Loads, effort);
+        let mut cells = vec![plan.name.clone()];
+        cells.extend(sizes(plan));
+        cells.extend(timed(&times));
+        print_row(&cells);
+    }
+    println!();
+}
+
+/// A question about a pair of each of the named plans.
+fn of_pairs(title: &str, effort: Effort, plans: &[Plan], question: impl Fn(Ends) -> Question) {
+    let columns = ["plan", "pair", "paths", "library, ms", "Rust, ms", "ratio"];
+    print_head(title, &columns);
+    for plan in plans {
+        let (ends, paths) = timed_pair(plan);
+        let times = measure(plan, question(ends), effort);
+        let pair = format!("{} to {}", ends.0, ends.1);
+        let mut cells = vec![plan.name.clone(), pair, paths.to_string()];
+        cells.extend(timed(&times));
+        print_row(&cells);
+    }
+    println!();
+}
+
+/// The loads of plans that grow; the last column is the library's time by that of the row before.
+fn growth(title: &str, effort: Effort, plans: &[Plan]) {
+    let columns = [
+        "n",
+        "T",
+        "records",
+        "library, ms",
+        "Rust, ms",
+        "ratio",
+        "growth",
+    ];
+    print_head(title, &columns);
+    let mut before: Option<Duration> = None;
+    for plan in plans {
+        let times = measure(plan, Question::Loads, effort);
+        let grown = before.map_or(String::new(), |before| {
+            let grown = times.library.as_secs_f64() / before.as_secs_f64();
+            format!("{grown:.2}")
+        });
+        let mut cells = sizes(plan).to_vec();
+        cells.extend(timed(&times));
+        cells.push(grown);
+        print_row(&cells);
+        before = Some(times.library);
+    }
+    println!();
+}
