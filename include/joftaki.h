@@ -20,16 +20,16 @@
  * length said at each prototype; entries past it are never touched, and longer is always fine.
  *
  * Proved. For every call that lends memory as said below, the number, the slots and every lent entry at exit are those of
- * the definitions in crates/temporal/specs, and the function ends. The contracts stand in crates/joftaki_c/src/lib.rt, with
+ * the definitions in crates/temporal/specs (of busiest's station, a property), and the function ends. The contracts stand in crates/joftaki_c/src/lib.rt, with
  * the definitions of the slots and of JOFTAKI_NONE and JOFTAKI_LAST in crates/joftaki_c/specs. No contract asks anything of
  * the numbers or of what the lent memory holds. No refusal has the number of JOFTAKI_NONE or JOFTAKI_LAST
  * (crates/joftaki_c/proofs/Told.antt).
  *
- * Not proved. That these prototypes, written by hand, fit the archive; how long a call takes; how much stack it takes
- * (measured: docs/MEMORY.md).
+ * Not proved. That these prototypes, the numbers behind the names and the macros, written by hand, fit the archive and the
+ * definitions; how long a call takes; how much stack it takes (measured: docs/MEMORY.md). The archive is for x86-64.
  *
- * What no contract can cover at this boundary, and nothing tests; a call that breaks one of these rules is undefined. It is
- * said again at each prototype:
+ * What no contract can cover at this boundary, and nothing tests; a call that breaks one of these rules is undefined. The
+ * first four are said again at each prototype:
  *   - each pointer is valid for as many entries as the length behind it says (a slot: for one), for reading, and where it is
  *     not const for writing;
  *   - it is aligned for its type;

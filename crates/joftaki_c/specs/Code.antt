@@ -26,6 +26,7 @@ pub record WayExit : Type 0 where
   pub way : List ℕ
   pub work : List ℕ
 
+-- what a call gives: its number, its slot and its buffers
 abbrev pub wayGiven : ℕ → ℕ → List ℕ → List ℕ → WayExit
 wayGiven code hops way work = record { code = code; hops = hops; way = way; work = work }
 

@@ -9,8 +9,8 @@ use Rattle.temporal.specs.Outcome.{Outcome, rowNumber, row}
 use Rattle.temporal.specs.OutcomePair.{PairValues, PairBuffers, busiest, BusiestGiven}
 
 -- a number with the lent buffers at exit
-abbrev pub given : {Buffers : Type 0} → ℕ → Buffers → Outcome (Unit {0}) Buffers
-given r b = record { number = r; values = tt; buffers = b }
+abbrev pub answered : {Buffers : Type 0} → ℕ → Buffers → Outcome (Unit {0}) Buffers
+answered r b = record { number = r; values = tt; buffers = b }
 
 -- a number with pair's two slots and its lent buffers at exit
 abbrev pub pairGiven : ℕ → ℕ → ℕ → PairBuffers → Outcome PairValues PairBuffers
@@ -26,5 +26,5 @@ pub record RowGiven (n t v : ℕ) (table : List ℕ) (r offset size : ℕ) : Typ
 -- The number and the work area at exit are those of document 01; the station's slot holds one that is busiest, whichever,
 -- and 0 on refusal.
 pub record BusiestSlot (bs : List ℕ) (n t : ℕ) (work after : List ℕ) (r v : ℕ) : Type 0 where
-  pub outcome : given r after ≡ busiest bs n t work
+  pub outcome : answered r after ≡ busiest bs n t work
   pub station : BusiestGiven bs n t r v

@@ -10,7 +10,7 @@ ghost use Rattle.plan.specs.Fault.{faultNumber};
 ghost use Rattle.reach.specs.Pass.{lentTables};
 ghost use Rattle.joftaki.specs.Answer.{pairBuffers, loadBuffers};
 ghost use Rattle.listing.specs.Answer.{replyOf, question};
-ghost use Rattle.joftaki_c.specs.Slots.{given, pairGiven, RowGiven, BusiestSlot};
+ghost use Rattle.joftaki_c.specs.Slots.{answered, pairGiven, RowGiven, BusiestSlot};
 ghost use Rattle.joftaki_c.specs.Code.{replyCode, replyHops, wayGiven, wayExit};
 use joftaki::BusiestAnswer;
 use joftaki::LoadsAnswer;
@@ -46,7 +46,7 @@ pub extern "C" fn joftaki_reach(
     station_hops: &mut [u16],
     station_counts: &mut [u64],
 ) -> u32
-    ensures { λ r. ⌜ given r (lentTables (now (hops .exit)) (now (counts .exit)) (now («station_hops» .exit)) (now («station_counts» .exit))) ≡ reach (now (plan .entry)) n t s (lentTables (now (hops .entry)) (now (counts .entry)) (now («station_hops» .entry)) (now («station_counts» .entry))) ⌝ }
+    ensures { λ r. ⌜ answered r (lentTables (now (hops .exit)) (now (counts .exit)) (now («station_hops» .exit)) (now («station_counts» .exit))) ≡ reach (now (plan .entry)) n t s (lentTables (now (hops .entry)) (now (counts .entry)) (now («station_hops» .entry)) (now («station_counts» .entry))) ⌝ }
 {
     match reach::reach(plan, n, t, s, hops, counts, station_hops, station_counts) {
         ReachAnswer::Reached => 0,
@@ -124,7 +124,7 @@ pub extern "C" fn joftaki_loads(
     sums: &mut [u64],
     work: &mut [u64],
 ) -> u32
-    ensures { λ r. ⌜ given r (loadBuffers (now (pairs .exit)) (now (sums .exit)) (now (work .exit))) ≡ loads (now (plan .entry)) n t (loadBuffers (now (pairs .entry)) (now (sums .entry)) (now (work .entry))) ⌝ }
+    ensures { λ r. ⌜ answered r (loadBuffers (now (pairs .exit)) (now (sums .exit)) (now (work .exit))) ≡ loads (now (plan .entry)) n t (loadBuffers (now (pairs .entry)) (now (sums .entry)) (now (work .entry))) ⌝ }
 {
     match joftaki::loads(plan, n, t, pairs, sums, work) {
         LoadsAnswer::Loaded => 0,

@@ -1,5 +1,5 @@
-// The load program: plan records on standard input, loads on standard output. It reads until the input ends, but no more than
-// one byte over the largest input, which is enough to refuse.
+// The load program: plan records on standard input, loads on standard output. It reads until the input ends or a read fails, but
+// no more than one byte over the largest input, which is enough to refuse.
 use libc::STDIN_FILENO;
 use libc::STDOUT_FILENO;
 

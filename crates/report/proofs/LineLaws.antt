@@ -8,7 +8,7 @@ use Rattle.temporal.specs.Lists.{from}
 use Rattle.text.specs.Written.{Put}
 use Rattle.text.proofs.PutLaws.{room-first, room-rest, put-none, put-both}
 use Rattle.report.specs.Report.{line}
-use Rattle.report.specs.Work.{linesOf, Listable}
+use Rattle.report.specs.Work.{linesOf, Printable}
 
 -- the lines of station v and of those behind it
 lines-cons :

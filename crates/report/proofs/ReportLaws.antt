@@ -42,7 +42,7 @@ use Rattle.joftaki.proofs.LoadLaws.{loads-works}
 use Rattle.text.specs.Written as text
 use Rattle.text.specs.Decimal.{decimal}
 use Rattle.text.proofs.DecimalLaws.{decimal-short, decimal-most}
-use Rattle.report.specs.Sizes.{stationsOf, slotsOf, wrongInput, overLimits}
+use Rattle.report.specs.Sizes.{inputStations, inputSlots, wrongInput, overLimits}
 use Rattle.report.specs.Report.{
   field,
   heading,
@@ -58,7 +58,7 @@ use Rattle.report.specs.Report.{
   lentAfter,
   Reported,
 }
-use Rattle.report.specs.Work.{linesOf, tableOf, Listable, Within}
+use Rattle.report.specs.Work.{linesOf, tableOf, Printable, Within}
 use Rattle.report.proofs.LengthLaws.{text-length}
 
 -- ---- the text of a refusal
@@ -136,15 +136,15 @@ module _ (bs : List ℕ) where
   unfolding inputCauses
   wrong-length e = first-true 1 (wrongInput bs) _ e
 
-  pub wrong-limits : wrongInput bs ≡ false → overLimits (stationsOf bs) (slotsOf bs) ≡ true → first (inputCauses bs) ≡ 1
+  pub wrong-limits : wrongInput bs ≡ false → overLimits (inputStations bs) (inputSlots bs) ≡ true → first (inputCauses bs) ≡ 1
   unfolding inputCauses
-  wrong-limits a b = first-false 2 (wrongInput bs) _ a ∙ first-true 0 (overLimits (stationsOf bs) (slotsOf bs)) _ b
+  wrong-limits a b = first-false 2 (wrongInput bs) _ a ∙ first-true 0 (overLimits (inputStations bs) (inputSlots bs)) _ b
 
-  no-input-cause : wrongInput bs ≡ false → overLimits (stationsOf bs) (slotsOf bs) ≡ false → first (inputCauses bs) ≡ 0
+  no-input-cause : wrongInput bs ≡ false → overLimits (inputStations bs) (inputSlots bs) ≡ false → first (inputCauses bs) ≡ 0
   unfolding inputCauses first
   no-input-cause a b =
-      first-false 2 (wrongInput bs) (cause 1 (overLimits (stationsOf bs) (slotsOf bs)) ∷ []) a ∙
-      first-false 1 (overLimits (stationsOf bs) (slotsOf bs)) [] b
+      first-false 2 (wrongInput bs) (cause 1 (overLimits (inputStations bs) (inputSlots bs)) ∷ []) a ∙
+      first-false 1 (overLimits (inputStations bs) (inputSlots bs)) [] b
 
 -- ---- an input within the limits
 
@@ -280,9 +280,9 @@ module _ (bs : List ℕ) (n t : ℕ) (out ps ls area : List ℕ) (w : Within bs 
         rw (← w .stations, ← w .slots) refl)
 
     -- the tables have an entry for each station, and the text has room
-    listable : Listable 0 n ps′ ls′ (tableOf ps′ ls′ n t (length bs / 6)) out
+    printable : Printable 0 n ps′ ls′ (tableOf ps′ ls′ n t (length bs / 6)) out
     unfolding planOf
-    listable =
+    printable =
         record {
           pairs-room = made-room (pairs plan) ps ps′ pairs-table;
           loads-room = made-room (load plan) ls ls′ loads-table;
@@ -310,8 +310,8 @@ module _ (bs : List ℕ) (n t : ℕ) (out ps ls area : List ℕ) (w : Within bs 
           (record { number = 0; values = tt; buffers = loadBuffers ps′ ls′ area′ }) (loads bs n t old)
       answer = ap (λ a. loadsOutcome a (loadBuffers ps′ ls′ area′)) (sym told) ∙ e
 
-      pub loads-listable : Listable 0 n ps′ ls′ (tableOf ps′ ls′ n t (length bs / 6)) out
-      loads-listable = listable ps′ ls′ area′ answer
+      pub loads-printable : Printable 0 n ps′ ls′ (tableOf ps′ ls′ n t (length bs / 6)) out
+      loads-printable = printable ps′ ls′ area′ answer
 
       pub printed-loads : tableOf ps′ ls′ n t (length bs / 6) ≡ printed bs
       printed-loads = printed-table ps′ ls′ area′ answer

@@ -15,7 +15,7 @@ use Rattle.temporal.specs.Cause.{cause, first, unless, planCauses, tooManyAnywh
 use Rattle.temporal.specs.Outcome.{over}
 use Rattle.temporal.specs.OutcomePair.{LoadBuffers, loads}
 use Rattle.text.specs.Decimal.{decimal}
-use Rattle.report.specs.Sizes.{stationsOf, slotsOf, wrongInput, overLimits}
+use Rattle.report.specs.Sizes.{inputStations, inputSlots, wrongInput, overLimits}
 
 -- the ASCII codes of a text
 abbrev pub ascii : String → List ℕ
@@ -53,17 +53,17 @@ refusalText k = ascii "refused " ++ field k lineFeed
 
 -- the causes that are looked at before the plan is: 2 before n and T are formed, then the program's limits
 unfoldable pub inputCauses : List ℕ → List ℕ
-inputCauses bs = cause 2 (wrongInput bs) ∷ cause 1 (overLimits (stationsOf bs) (slotsOf bs)) ∷ []
+inputCauses bs = cause 2 (wrongInput bs) ∷ cause 1 (overLimits (inputStations bs) (inputSlots bs)) ∷ []
 
 -- the plan that the input is
 abbrev pub inputPlan : List ℕ → Plan
-inputPlan bs = planOf bs (stationsOf bs) (slotsOf bs)
+inputPlan bs = planOf bs (inputStations bs) (inputSlots bs)
 
 -- the number of the refusal, 0 where the loads are printed: the input's causes, the plan's, then 9
 unfoldable pub refusalOf : List ℕ → ℕ
 refusalOf bs =
     first
-    (inputCauses bs ++ (planCauses bs (stationsOf bs) (slotsOf bs) ++ cause 9 (tooManyAnywhere (inputPlan bs)) ∷ []))
+    (inputCauses bs ++ (planCauses bs (inputStations bs) (inputSlots bs) ++ cause 9 (tooManyAnywhere (inputPlan bs)) ∷ []))
 
 -- The whole text that the load program prints for an input.
 unfoldable pub printed : List ℕ → List ℕ
@@ -73,10 +73,10 @@ printed bs = unless (refusalOf bs) refusalText (loadsText (inputPlan bs))
 -- else as operation 5, loads, leaves them
 unfoldable pub lentAfter : List ℕ → LoadBuffers → LoadBuffers
 lentAfter bs old =
-    unless (first (inputCauses bs)) (λ _. old) (loads bs (stationsOf bs) (slotsOf bs) old .buffers)
+    unless (first (inputCauses bs)) (λ _. old) (loads bs (inputStations bs) (inputSlots bs) old .buffers)
 
--- What the report function promises for every input: the text's length, the text at the beginning of the output buffer, and the
--- lent tables, afterwards.
+-- What the report function promises for every input: the text's length, the text at the beginning of the output buffer, whose
+-- other bytes stay, and the lent tables afterwards.
 pub record Reported (bs out : List ℕ) (old : LoadBuffers) (size : ℕ) (now : List ℕ) (new : LoadBuffers) : Type 0 where
   pub length-is : size ≡ length (printed bs)
   pub text-is : now ≡ over (printed bs) out

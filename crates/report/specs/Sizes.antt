@@ -18,12 +18,12 @@ unfoldable pub topStation : List ℕ → ℕ → ℕ
 topStation bs i = max (contactAt bs i .a) (contactAt bs i .b)
 
 -- n: one more than the largest station number of all records; 1 for an empty input
-unfoldable pub stationsOf : List ℕ → ℕ
-stationsOf bs = largest (map (topStation bs) (below (records bs))) + 1
+unfoldable pub inputStations : List ℕ → ℕ
+inputStations bs = largest (map (topStation bs) (below (records bs))) + 1
 
 -- T: the last record's slot; 1 for an empty input
-unfoldable pub slotsOf : List ℕ → ℕ
-slotsOf bs = cond (eqb (records bs) 0) 1 (contactAt bs (records bs - 1) .slot)
+unfoldable pub inputSlots : List ℕ → ℕ
+inputSlots bs = cond (eqb (records bs) 0) 1 (contactAt bs (records bs - 1) .slot)
 
 -- the program's 2: not a multiple of 6 bytes, or over 512 records
 unfoldable pub wrongInput : List ℕ → Bool

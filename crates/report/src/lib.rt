@@ -4,9 +4,9 @@ ghost use Prim.Native.Nat.{_+_, _*_, _<_, _≤_, max};
 ghost use lib.ListN.{length};
 ghost use Rattle.text.specs.Written.{Put};
 ghost use Rattle.joftaki.specs.Answer.{loadBuffers};
-ghost use Rattle.report.specs.Sizes.{topStation, stationsOf, slotsOf, wrongInput, overLimits};
+ghost use Rattle.report.specs.Sizes.{topStation, inputStations, inputSlots, wrongInput, overLimits};
 ghost use Rattle.report.specs.Report.{field, heading, line, refusalText, Reported};
-ghost use Rattle.report.specs.Work.{linesOf, tableOf, Listable, Within};
+ghost use Rattle.report.specs.Work.{linesOf, tableOf, Printable, Within};
 use joftaki::LoadsAnswer;
 
 // The larger of two numbers.
@@ -30,7 +30,7 @@ fn top_station(input: &[u8], i: usize) -> usize
 
 // The largest station number of all records; 0 where there is no record.
 fn top_of(input: &[u8]) -> usize
-    ensures { λ r. ⌜ r + 1 ≡ stationsOf (now (input .entry)) ⌝ }
+    ensures { λ r. ⌜ r + 1 ≡ inputStations (now (input .entry)) ⌝ }
 {
     let m = input.len() / 6;
     let mut top = 0;
@@ -44,7 +44,7 @@ fn top_of(input: &[u8]) -> usize
 
 // The last record's slot; 1 where there is no record.
 fn slots_of(input: &[u8]) -> usize
-    ensures { λ r. ⌜ r ≡ slotsOf (now (input .entry)) ⌝ }
+    ensures { λ r. ⌜ r ≡ inputSlots (now (input .entry)) ⌝ }
 {
     let m = input.len() / 6;
     if m == 0 {
@@ -115,7 +115,7 @@ fn put_line(out: &mut [u8], at: usize, v: u64, pairs: u64, load: u64) -> usize
 
 // Writes a line for each of the first n stations.
 fn put_lines(out: &mut [u8], at: usize, n: usize, pairs: &[u64], sums: &[u64]) -> usize
-    requires { ⌜ Listable at n (now pairs) (now sums) (linesOf (now pairs) (now sums) 0 n) (now out) ⌝ }
+    requires { ⌜ Printable at n (now pairs) (now sums) (linesOf (now pairs) (now sums) 0 n) (now out) ⌝ }
     ensures { λ r. ⌜ Put at (linesOf (now (pairs .entry)) (now (sums .entry)) 0 n) (now (out .entry)) r (now (out .exit)) ⌝ }
 {
     let mut end = at;
@@ -129,7 +129,7 @@ fn put_lines(out: &mut [u8], at: usize, n: usize, pairs: &[u64], sums: &[u64]) -
 
 // Writes the loads: the first line, then a line for each station.
 fn put_table(out: &mut [u8], n: usize, t: usize, m: usize, pairs: &[u64], sums: &[u64]) -> usize
-    requires { ⌜ Listable 0 n (now pairs) (now sums) (tableOf (now pairs) (now sums) n t m) (now out) ⌝ }
+    requires { ⌜ Printable 0 n (now pairs) (now sums) (tableOf (now pairs) (now sums) n t m) (now out) ⌝ }
     ensures { λ r. ⌜ Put 0 (tableOf (now (pairs .entry)) (now (sums .entry)) n t m) (now (out .entry)) r (now (out .exit)) ⌝ }
 {
     let at = put_heading(out, 0, n as u64, t as u64, m as u64);

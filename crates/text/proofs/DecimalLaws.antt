@@ -21,7 +21,7 @@ use borrow.Author.Tests.{le-leb, lt-leb}
 use lib.Arith.{mod-mul}
 use lib.Dec.{lit<}
 use lib.ListN.{length, getD}
-use Rattle.text.specs.Decimal.{code, codes, powersUpTo, places, decimal, readOn, value}
+use Rattle.text.specs.Decimal.{code, codes, powersUpTo, digitCount, decimal, readOn, value}
 
 -- ---- powers of ten
 
@@ -76,41 +76,41 @@ module _ (x : ℕ) where
       (λ more. absurd (omega (arith, power-rises {i = suc k} {j = suc m} (omega arith)))))
       (λ missed. omega (arith, upto-missed m (omega arith), upto-short m k h))
 
-  pub places-positive : 0 < places x
-  unfolding places
-  places-positive = omega arith
+  pub digits-positive : 0 < digitCount x
+  unfolding digitCount
+  digits-positive = omega arith
 
-  pub places-most : places x ≤ 20
-  unfolding places
-  places-most = omega (arith, upto-most 19)
+  pub digits-most : digitCount x ≤ 20
+  unfolding digitCount
+  digits-most = omega (arith, upto-most 19)
 
   -- a number from 10^k on has more than k digits
-  pub places-long : (k : ℕ) → k < 20 → 10 ^ k ≤ x → k < places x
-  unfolding places
-  places-long k few h = omega (arith, upto-long 19 k (omega arith) h)
+  pub digits-long : (k : ℕ) → k < 20 → 10 ^ k ≤ x → k < digitCount x
+  unfolding digitCount
+  digits-long k few h = omega (arith, upto-long 19 k (omega arith) h)
 
   -- a number below 10^k has at most k digits
-  pub places-short : (k : ℕ) → 1 ≤ k → x < 10 ^ k → places x ≤ k
-  unfolding places
-  places-short zero some h = omega arith
-  places-short (suc k) some h = omega (arith, upto-short 19 k h)
+  pub digits-short : (k : ℕ) → 1 ≤ k → x < 10 ^ k → digitCount x ≤ k
+  unfolding digitCount
+  digits-short zero some h = omega arith
+  digits-short (suc k) some h = omega (arith, upto-short 19 k h)
 
   -- a number below 10^20 is below 10^(its digits)
-  pub below-power : x < 10 ^ 20 → x < 10 ^ places x
+  pub below-power : x < 10 ^ 20 → x < 10 ^ digitCount x
   below-power h =
-      by-cases (decLe (10 ^ places x) x)
+      by-cases (decLe (10 ^ digitCount x) x)
       (λ over.
-      by-cases (decLe 20 (places x)) (λ q. absurd (omega (arith, power-rises {i = 20} {j = places x} q)))
-      (λ few. absurd (omega (arith, places-long (places x) (omega arith) over))))
+      by-cases (decLe 20 (digitCount x)) (λ q. absurd (omega (arith, power-rises {i = 20} {j = digitCount x} q)))
+      (λ few. absurd (omega (arith, digits-long (digitCount x) (omega arith) over))))
       (λ under. omega arith)
 
   -- one digit less does not hold a number of several digits
-  pub power-below : 10 ≤ x → 10 ^ (places x - 1) ≤ x
+  pub power-below : 10 ≤ x → 10 ^ (digitCount x - 1) ≤ x
   power-below h =
-      by-cases (decLe (10 ^ (places x - 1)) x) (λ q. q)
+      by-cases (decLe (10 ^ (digitCount x - 1)) x) (λ q. q)
       (λ over.
-      let several : 1 < places x = places-long 1 (lit< tt) h in
-      absurd (omega (arith, places-short (places x - 1) (omega arith) (omega arith))))
+      let several : 1 < digitCount x = digits-long 1 (lit< tt) h in
+      absurd (omega (arith, digits-short (digitCount x - 1) (omega arith) (omega arith))))
 
 -- ---- the codes
 
@@ -166,38 +166,38 @@ code-leading x k low high =
 -- ---- numbers in decimal
 
 module _ (x : ℕ) where
-  pub length-decimal : length (decimal x) ≡ places x
+  pub length-decimal : length (decimal x) ≡ digitCount x
   unfolding decimal
-  length-decimal = length-codes x (places x)
+  length-decimal = length-codes x (digitCount x)
 
   -- a number below 10^k, k at least 1, has at most k digits
   pub decimal-short : (k : ℕ) → 1 ≤ k → x < 10 ^ k → length (decimal x) ≤ k
-  decimal-short k some h = omega (arith, length-decimal, places-short x k some h)
+  decimal-short k some h = omega (arith, length-decimal, digits-short x k some h)
 
   -- no more than 20 digits, whatever the number
   pub decimal-most : length (decimal x) ≤ 20
-  decimal-most = omega (arith, length-decimal, places-most x)
+  decimal-most = omega (arith, length-decimal, digits-most x)
 
   -- each code is that of a digit
   pub decimal-within :
       (i : ℕ) → i < length (decimal x) → (48 ≤ getD (decimal x) i 0) × (getD (decimal x) i 0 ≤ 57)
   unfolding decimal
-  decimal-within i h = codes-within x (places x) i (omega (arith, length-codes x (places x)))
+  decimal-within i h = codes-within x (digitCount x) i (omega (arith, length-codes x (digitCount x)))
 
   -- the digits read back as the number
   pub value-decimal : x < 10 ^ 20 → value (decimal x) ≡ x
   unfolding decimal value
-  value-decimal h = read-codes x (places x) 0 ∙ omega (arith, mod-eq-of-lt (below-power x h))
+  value-decimal h = read-codes x (digitCount x) 0 ∙ omega (arith, mod-eq-of-lt (below-power x h))
 
   -- a number of several digits does not begin with the digit 0
   pub no-leading-zero : 10 ≤ x → x < 10 ^ 20 → 48 < getD (decimal x) 0 0
   unfolding decimal
   no-leading-zero several h =
-      let e : suc (places x - 1) ≡ places x = omega (arith, places-positive x) in
-      rw (codes-first x (places x) (places-positive x))
-      (code-leading x (places x - 1) (power-below x several) (rw e (below-power x h)))
+      let e : suc (digitCount x - 1) ≡ digitCount x = omega (arith, digits-positive x) in
+      rw (codes-first x (digitCount x) (digits-positive x))
+      (code-leading x (digitCount x - 1) (power-below x several) (rw e (below-power x h)))
 
 -- 0 has one digit
 pub decimal-zero : decimal 0 ≡ 48 ∷ []
-unfolding decimal places powersUpTo codes code
+unfolding decimal digitCount powersUpTo codes code
 decimal-zero = refl

@@ -20,12 +20,12 @@ powersUpTo x zero = 0
 powersUpTo x (suc k) = powersUpTo x k + cond (leb (10 ^ suc k) x) 1 0
 
 -- how many digits a number below 10^20 has; 0 has one
-unfoldable pub places : ℕ → ℕ
-places x = 1 + powersUpTo x 19
+unfoldable pub digitCount : ℕ → ℕ
+digitCount x = 1 + powersUpTo x 19
 
 -- a number below 10^20 in decimal: no leading zero, and one digit for 0
 unfoldable pub decimal : ℕ → List ℕ
-decimal x = codes x (places x)
+decimal x = codes x (digitCount x)
 
 -- the number that begins with the digits of x and goes on with those of a list of codes
 unfoldable pub readOn : ℕ → List ℕ → ℕ

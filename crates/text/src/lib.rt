@@ -3,8 +3,7 @@ ghost use mathlib.Core.Path.{_≡_};
 ghost use Prim.Native.Nat.{_+_, _^_, _<_, _≤_};
 ghost use lib.ListN.{length};
 ghost use Rattle.text.specs.Written.{Put};
-ghost use Rattle.text.specs.Decimal.{decimal, code};
-ghost use Rattle.text.specs.Decimal.{places as Decimal·places};
+ghost use Rattle.text.specs.Decimal.{decimal, code, digitCount};
 
 // The powers of ten that fit 64 bits.
 const POWERS: [u64; 20] = [
@@ -40,7 +39,7 @@ fn power(k: usize) -> u64
 
 // How many digits a number has.
 fn places(x: u64) -> usize
-    ensures { λ r. ⌜ r ≡ Decimal·places x ⌝ }
+    ensures { λ r. ⌜ r ≡ digitCount x ⌝ }
 {
     let mut k = 1;
     while k < 20 {

@@ -65,7 +65,7 @@ fn field(word: &str) -> Result<u16, LineFault> {
     number.map_err(|_| LineFault::TooLarge(word.to_string()))
 }
 
-/// The bytes of a line; none for a blank line and for one whose first character is '#'.
+/// The bytes of a line; none for a blank line and for one whose first character but blanks is '#'.
 fn line_bytes(line: &str) -> Result<Vec<u8>, LineFault> {
     if line.trim_start().starts_with('#') {
         return Ok(Vec::new());

@@ -6,7 +6,7 @@ use Rattle.report.proofs.ReportLaws.{
   lent-within,
   printed-refused,
   printed-loads,
-  loads-listable,
+  loads-printable,
 }
 use borrow.Author.Needs.{needs}
 use Rattle.report.proofs.report_within.Statement.{statement}
@@ -23,7 +23,7 @@ enum-told c = search needs
 
 put-table-requires : tie.Need-put-table-requires
 put-table-requires c κs =
-    loads-listable _ _ _ _ _ _ _ (c .before .before .before .before .before .before .before .before .before .before .before .before .before .before .before .before .before .before .before .before .pre) _ _ _ _ (c .before .before .before .before .before .before .before .before .before .before .before .loads .ensures) (c .before .before .before .enum-told .given .1)
+    loads-printable _ _ _ _ _ _ _ (c .before .before .before .before .before .before .before .before .before .before .before .before .before .before .before .before .before .before .before .before .pre) _ _ _ _ (c .before .before .before .before .before .before .before .before .before .before .before .loads .ensures) (c .before .before .before .enum-told .given .1)
 
 same-length : tie.Need-same-length
 same-length c = search needs

@@ -8,7 +8,7 @@ use mathlib.Core.List.{map}
 use lib.ListN.{length}
 use Rattle.temporal.specs.Lists.{below}
 use Rattle.temporal.specs.Bytes.{records}
-use Rattle.report.specs.Sizes.{largest, topStation, stationsOf}
+use Rattle.report.specs.Sizes.{largest, topStation, inputStations}
 use Rattle.report.proofs.SizeLaws.{largestFrom, largest-begin, largest-next, largest-end}
 use borrow.Author.Needs.{needs}
 use Rattle.report.proofs.top_of.Statement.{statement}
@@ -48,7 +48,7 @@ loop-again c =
     )
 
 returns : tie.Need-returns Inv-loop μ-loop
-unfolding stationsOf records
+unfolding inputStations records
 returns c =
     let f = topStation (c .before .before .before .args .input .now) in
     let m = length (c .before .before .before .args .input .now) / 6 in

@@ -3,19 +3,19 @@
 -- Assumes nothing.
 use Prim.Native.Nat.{_-_, _^_, _<_, _≤_}
 use native.Mathlib.Omega.{arith}
-use Rattle.text.specs.Decimal.{places}
-use Rattle.text.proofs.DecimalLaws.{places-positive, places-most, places-long, places-short}
+use Rattle.text.specs.Decimal.{digitCount}
+use Rattle.text.proofs.DecimalLaws.{digits-positive, digits-most, digits-long, digits-short}
 use Rattle.text.proofs.places.Statement.{statement}
 use Rattle.text.proofs.places.Tie as tie
 
 abbrev Inv-loop : tie.InvT-loop
-Inv-loop x k₀ k = (1 ≤ k) × (k ≤ 20) × (k ≤ places x)
+Inv-loop x k₀ k = (1 ≤ k) × (k ≤ 20) × (k ≤ digitCount x)
 
 abbrev μ-loop : tie.MeasureT-loop
 μ-loop x k₀ k = 20 - k
 
 loop-holds : tie.Need-loop-holds Inv-loop μ-loop
-loop-holds c = omega (arith, places-positive (c .args .x))
+loop-holds c = omega (arith, digits-positive (c .args .x))
 
 power-requires : tie.Need-power-requires Inv-loop μ-loop
 power-requires c κs = omega arith
@@ -24,7 +24,7 @@ returns : tie.Need-returns Inv-loop μ-loop
 returns c =
     let turn = c .before .before .before in
     let short : turn .before .args .x < 10 ^ turn .loop .k = omega (arith, c .before .power .ensures) in
-    omega (arith, places-short _ _ (omega arith) short)
+    omega (arith, digits-short _ _ (omega arith) short)
 
 add-k : tie.Need-add-k Inv-loop μ-loop
 add-k c = omega arith
@@ -36,10 +36,10 @@ loop-again : tie.Need-loop-again Inv-loop μ-loop
 loop-again c =
     let turn = c .before .before .before in
     let long : 10 ^ turn .loop .k ≤ turn .before .args .x = omega (arith, c .before .power .ensures) in
-    omega (arith, places-long _ _ (omega arith) long)
+    omega (arith, digits-long _ _ (omega arith) long)
 
 returns-2 : tie.Need-returns-2 Inv-loop μ-loop
-returns-2 c = omega (arith, places-most (c .before .before .args .x))
+returns-2 c = omega (arith, digits-most (c .before .before .args .x))
 
 pub places-spec : {M : Type 1} → statement M
 places-spec =

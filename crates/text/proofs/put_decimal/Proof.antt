@@ -6,7 +6,7 @@ use native.Mathlib.Omega.{arith}
 use mathlib.Core.Path.{_≡_}
 use Rattle.text.specs.Decimal.{codes, decimal}
 use Rattle.text.proofs.WrittenLaws.{Writing, writing-none, writing-more, writing-all}
-use Rattle.text.proofs.DecimalLaws.{places-most, length-codes, codes-first, codes-none}
+use Rattle.text.proofs.DecimalLaws.{digits-most, length-codes, codes-first, codes-none}
 use Rattle.text.proofs.put_decimal.Statement.{statement}
 use Rattle.text.proofs.put_decimal.Tie as tie
 
@@ -23,7 +23,7 @@ loop-holds : tie.Need-loop-holds Inv-loop μ-loop
 unfolding decimal
 loop-holds c =
     rw (c .places .ensures)
-    (places-most (c .before .before .args .x), writing-none _ _ _)
+    (digits-most (c .before .before .args .x), writing-none _ _ _)
 
 sub-k : tie.Need-sub-k Inv-loop μ-loop
 sub-k c = omega arith
