@@ -24,7 +24,7 @@ use Rattle.temporal.proofs.Adequacy.{bounded-paths}
 use Rattle.temporal.proofs.ListLaws.{select-none, length-zero}
 use Rattle.temporal.proofs.PlanLaws.{slots-within}
 use Rattle.temporal.proofs.ShortestLaws.{hops-bound, hops-empty}
-use Rattle.counts.specs.Passed.{Ready, Counted, Passed}
+use Rattle.pass.specs.Passed.{Ready, Counted, Passed}
 use Rattle.joftaki.specs.Throughs.{throughEntry, Storing, StoredBlock, PairReady, Throughs}
 use Rattle.joftaki.proofs.ThroughLaws.{entry-itself, entry-no-path, entry-rest}
 

@@ -107,7 +107,7 @@ fn throughs(
     let mut low = 0;
     while low < n {
         let block = least(most, n - low);
-        if counts::pass(work, plan, n, t, s, low, block) {
+        if pass::pass(work, plan, n, t, s, low, block) {
             return true;
         }
         store(through, work, n, z, low, block);

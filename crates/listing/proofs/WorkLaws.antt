@@ -39,7 +39,7 @@ use Rattle.temporal.proofs.ListLaws.{mem-getD}
 use Rattle.temporal.proofs.ShortestLaws.{hops-bound}
 use Rattle.temporal.proofs.PlanLaws.{slots-within}
 use Rattle.temporal.proofs.Adequacy.{bounded-paths, in-complete-list}
-use Rattle.counts.specs.Passed.{areaSize, Passed}
+use Rattle.pass.specs.Passed.{areaSize, Passed}
 use Rattle.ways.specs.Home.{Completed}
 use Rattle.ways.specs.Found.{listIn, isOffered, Listable, Startable, Continuable, Stepped}
 use Rattle.ways.specs.declared.Pair.{Pair}

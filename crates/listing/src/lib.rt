@@ -44,7 +44,7 @@ fn first_work(
     requires { ⌜ Ready (question (now plan) n t source destination) (now way) (now work) ⌝ }
     ensures { λ r. ⌜ Worked first-way (question (now (plan .entry)) n t source destination) (now (way .entry)) (now (work .entry)) (replyOf r) (now (way .exit)) (now (work .exit)) ⌝ }
 {
-    if counts::pass(work, plan, n, t, source, 0, 0) {
+    if pass::pass(work, plan, n, t, source, 0, 0) {
         return WayAnswer::Refused(Fault::Call(CallFault::TooMany));
     }
     let h = work[destination] as usize;
@@ -139,7 +139,7 @@ fn next_work(
     requires { ⌜ Ready (question (now plan) n t source destination) (now way) (now work) ⌝ }
     ensures { λ r. ⌜ Worked next-way (question (now (plan .entry)) n t source destination) (now (way .entry)) (now (work .entry)) (replyOf r) (now (way .exit)) (now (work .exit)) ⌝ }
 {
-    if counts::pass(work, plan, n, t, source, 0, 0) {
+    if pass::pass(work, plan, n, t, source, 0, 0) {
         return WayAnswer::Refused(Fault::Call(CallFault::TooMany));
     }
     let h = work[destination] as usize;

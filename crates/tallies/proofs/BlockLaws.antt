@@ -14,7 +14,7 @@ use Rattle.temporal.specs.Plan.{Plan}
 use Rattle.temporal.specs.Bytes.{planOf}
 use Rattle.temporal.specs.Cause.{tooMany}
 use Rattle.temporal.proofs.Accepted.{accepted}
-use Rattle.counts.specs.Passed.{areaSize, Ready, Passed}
+use Rattle.pass.specs.Passed.{areaSize, Ready, Passed}
 use Rattle.tallies.specs.Progress.{pairTerm, loadTerm, Entry, State, Kept, Working, Workable, Advanced}
 use Rattle.tallies.specs.Sources.{BlockReady, BlockDone, SourceReady, SourceDone}
 use Rattle.tallies.proofs.TermLaws.{partly-source}

@@ -16,7 +16,7 @@ use Rattle.temporal.specs.Cause.{tooMany, tooManyAnywhere}
 use Rattle.temporal.specs.Outcome.{workSize}
 use Rattle.temporal.proofs.Accepted.{accepted}
 use Rattle.temporal.proofs.ListLaws.{any-true, any-false, mem-below}
-use Rattle.counts.specs.Passed.{areaSize}
+use Rattle.pass.specs.Passed.{areaSize}
 use Rattle.tallies.specs.Tally.{blockOf, tallyBase, Tallyable, Tallied}
 use Rattle.tallies.specs.Progress.{pairTerm, loadTerm, Entry, Kept}
 use Rattle.tallies.specs.Sources.{Cleared, SourceReady, SourceDone, AllReady}

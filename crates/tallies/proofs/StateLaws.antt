@@ -12,7 +12,7 @@ use lib.ListN.{getD}
 use Rattle.temporal.specs.Plan.{Plan}
 use Rattle.temporal.specs.Bytes.{planOf}
 use Rattle.temporal.specs.Shortest.{shortestPaths, hops}
-use Rattle.counts.specs.Passed.{areaSize, Counted}
+use Rattle.pass.specs.Passed.{areaSize, Counted}
 use Rattle.tallies.specs.Progress.{pairTerm, loadTerm, Entry, Kept, Working, addedAt, Addable}
 use Rattle.tallies.proofs.TermLaws.{Nothing, nothing-self, nothing-through, through-none, partly-at-most}
 use Rattle.tallies.proofs.TermLaws.{pair-at-most, load-at-most-whole}

@@ -12,7 +12,7 @@ use Rattle.temporal.specs.Plan.{Plan}
 use Rattle.temporal.specs.Bytes.{planOf}
 use Rattle.temporal.specs.Cause.{planFault}
 use Rattle.temporal.specs.Load.{Ends, isPairOf, share}
-use Rattle.counts.specs.Passed.{areaSize, Counted}
+use Rattle.pass.specs.Passed.{areaSize, Counted}
 
 -- a source and a destination
 abbrev pub ends : ℕ → ℕ → Ends

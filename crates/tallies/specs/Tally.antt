@@ -10,7 +10,7 @@ use Rattle.temporal.specs.Bytes.{planOf}
 use Rattle.temporal.specs.Cause.{planFault, tooManyAnywhere}
 use Rattle.temporal.specs.Load.{pairs, load}
 use Rattle.temporal.specs.Outcome.{workSize}
-use Rattle.counts.specs.Passed.{areaSize}
+use Rattle.pass.specs.Passed.{areaSize}
 
 -- how many stations one pass has rows for, so that its part of the work area leaves room for the tallies
 unfoldable pub blockOf : ℕ → ℕ → ℕ

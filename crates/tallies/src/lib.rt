@@ -102,7 +102,7 @@ fn tally_block(
     requires { ⌜ BlockReady (now plan) n t base source low block (now work) ⌝ }
     ensures { λ r. ⌜ BlockDone (now (plan .entry)) n t base source low block (now (work .entry)) (now (work .exit)) r ⌝ }
 {
-    if counts::pass(work, plan, n, t, source, low, block) {
+    if pass::pass(work, plan, n, t, source, low, block) {
         return true;
     }
     add_rows(work, n, base, source, low, block);

@@ -1,0 +1,216 @@
+-- The end of the pass: what the settled entries say of the shortest paths, and what large sequences say of cause 9.
+-- Assumes nothing.
+use Prim.Native.Nat.{ℕ, zero, suc, _+_, _*_, _%_, _^_, _<_, _≤_}
+use native.Mathlib.Omega.{arith}
+use native.Mathlib.Nat.{mod-eq-of-lt}
+use mathlib.Core.Path.{_≡_, refl, sym, ap, subst, _∙_}
+use mathlib.Core.Bool.{Bool, true, false, cond}
+use mathlib.Core.List.{List, [], _∷_, List·Memᴰ, List·Memᴰ·head, List·Memᴰ·tail}
+use mathlib.Core.Logic.{_≢_}
+use borrow.Author.Tests.{lt-ltb, le-ltb, ne-eqb}
+use lib.Dec.{ltb}
+use lib.ListN.{getD}
+use Rattle.temporal.specs.Lists.{below, any}
+use Rattle.temporal.specs.Plan.{Plan, start}
+use Rattle.temporal.specs.Walk.{isAt, isAppearance, isWalk}
+use Rattle.temporal.specs.Shortest.{shortestWalks, shortestPaths, hops, count, through}
+use Rattle.temporal.specs.Bytes.{planOf}
+use Rattle.temporal.specs.Cause.{planFault, tooMany}
+use Rattle.temporal.proofs.ListLaws.{any-true, any-false, mem-below}
+use Rattle.temporal.proofs.WalkLaws.{SlotsWithin}
+use Rattle.temporal.proofs.Accepted.{accepted}
+use Rattle.temporal.proofs.PlanLaws.{slots-within}
+use Rattle.temporal.proofs.Adequacy.{bounded-ends, shortest-walks-are-paths}
+use Rattle.counting.proofs.Weights.{total, everywhere, total-zero}
+use Rattle.counting.proofs.Fewest.{Fewest, fewest-ext, fewest-unique, fewest-shortest, count-shortest}
+use Rattle.counting.proofs.Recurrence.{atAppearance, whole-station, start-later}
+use Rattle.counting.proofs.Through.{avoiding, through-avoiding}
+use Rattle.pass.specs.Row.{rowAt}
+use Rattle.pass.specs.Entry.{overflows}
+use Rattle.pass.specs.Passed.{Counted}
+use Rattle.pass.proofs.BestLaws.{Best, stored, stored-small, Large, Small, overflow-large, overflow-small}
+use Rattle.pass.proofs.StateLaws.{State}
+use Rattle.pass.proofs.PlanWalks.{kept, walksAt}
+
+-- tests that agree on a list
+any-ext : (f g : ℕ → Bool) (l : List ℕ) → ((x : ℕ) → List·Memᴰ x l → f x ≡ g x) → any f l ≡ any g l
+unfolding any
+any-ext f g [] h = refl
+any-ext f g (x ∷ l) h = rw (h x (List·Memᴰ·head refl), any-ext f g l (λ y m. h y (List·Memᴰ·tail m)))
+
+-- one may go on from another station
+avoids-other : (s x z : ℕ) → x ≢ z → avoiding s x z ≡ true
+unfolding avoiding
+avoids-other s x z d = rw (ne-eqb z x (λ e. d (sym e)))
+
+-- ---- appearances
+
+module _ (p : Plan) (fits : SlotsWithin p) (few : p .slots < 65535) (s v u : ℕ) where
+  -- the shortest walks to an appearance are as many as its sequence has at its fewest hops
+  appearance-fewest : Fewest (total p everywhere (start s) (atAppearance v u)) (hops (shortestWalks p s v u))
+  unfolding shortestWalks isWalk atAppearance
+  appearance-fewest =
+      fewest-shortest p (start s) (isAppearance v u) (bounded-ends p fits s (isAppearance v u)) few
+
+  appearance-count :
+      count (shortestWalks p s v u) ≡ total p everywhere (start s) (atAppearance v u) (hops (shortestWalks p s v u))
+  unfolding shortestWalks isWalk atAppearance
+  appearance-count = count-shortest p (start s) (isAppearance v u) (bounded-ends p fits s (isAppearance v u))
+
+  -- where that sequence is small, so is the count
+  pub appearance-small : {N : ℕ → ℕ} → ((k : ℕ) → total p everywhere (start s) (atAppearance v u) k ≡ N k) → Small N
+      → count (shortestWalks p s v u) ≤ 18446744073709551615
+  appearance-small e small =
+      let h = hops (shortestWalks p s v u) in
+      omega (arith, appearance-count, e h, small .small h (fewest-ext e appearance-fewest))
+
+  -- where it is large, so is the count
+  pub appearance-large : {N : ℕ → ℕ} → ((k : ℕ) → total p everywhere (start s) (atAppearance v u) k ≡ N k) → Large N
+      → 18446744073709551615 < count (shortestWalks p s v u)
+  appearance-large {N} e large =
+      let h = hops (shortestWalks p s v u) in
+      let same : large .hops ≡ h = fewest-unique (large .fewest) (fewest-ext e appearance-fewest) in
+      omega (arith, appearance-count, e h, subst (λ x. 18446744073709551615 < N x) same (large .large))
+
+-- in slot 0 no appearance has more than one
+pub start-small : (p : Plan) (s v : ℕ) → Small (total p everywhere (start s) (atAppearance v 0))
+unfolding atAppearance
+start-small p s v = record { small = λ h f. go h }
+  where
+    one : (b : Bool) → cond b 1 0 ≤ 18446744073709551615
+    one true = omega arith
+    one false = omega arith
+
+    go : (h : ℕ) → total p everywhere (start s) (atAppearance v 0) h ≤ 18446744073709551615
+    go zero = rw (total-zero p everywhere (start s) (atAppearance v 0)) (one (isAppearance v 0 (start s)))
+    go (suc k) = rw (start-later p s everywhere v k) (omega arith)
+
+-- an accepted plan has few slots
+pub few-slots : (bs : List ℕ) (n t : ℕ) → planFault bs n t ≡ 0 → planOf bs n t .slots < 65535
+unfolding planOf
+few-slots bs n t ok = let a = accepted bs n t ok .slots in omega arith
+
+module _ (bs : List ℕ) (n t : ℕ) (ok : planFault bs n t ≡ 0) (s : ℕ) where
+  -- ---- cause 9
+
+  -- an appearance with too many is a cause of refusal
+  pub too-many-appearance : (v u : ℕ) → v < n → u ≤ t
+      → 18446744073709551615 < count (shortestWalks (planOf bs n t) s v u)
+      → tooMany (planOf bs n t) s ≡ true
+  unfolding tooMany planOf
+  too-many-appearance v u hv hu big =
+      rw (any-true _ (below n) .1 (
+        v,
+        mem-below n .1 hv,
+        any-true (λ t′. ltb 18446744073709551615 (count (shortestWalks (planOf bs n t) s v t′))) (below (t + 1)) .1
+            (u, mem-below (t + 1) .1 (omega arith), lt-ltb 18446744073709551615 _ big),
+      ))
+
+  -- where no appearance has too many, a station with too many is the only cause
+  pub too-many-station : (f : ℕ → Bool)
+      → ((v u : ℕ) → v < n → u ≤ t → count (shortestWalks (planOf bs n t) s v u) ≤ 18446744073709551615)
+      → ((v : ℕ) → v < n → f v ≡ ltb 18446744073709551615 (count (shortestPaths (planOf bs n t) s v)))
+      → any f (below n) ≡ tooMany (planOf bs n t) s
+  unfolding tooMany planOf
+  too-many-station f small e =
+      rw (any-false _ (below n) .1 (λ v m. any-false _ (below (t + 1)) .1 (λ u l. le-ltb 18446744073709551615 _
+      (small v u (mem-below n .0 m) (let h = mem-below (t + 1) .0 l in omega arith)))))
+      (any-ext f (λ v. ltb 18446744073709551615 (count (shortestPaths (planOf bs n t) s v))) (below n)
+      (λ v m. e v (mem-below n .0 m)))
+
+  -- ---- stations
+
+  -- what is settled past the last slot is all that ends at a station
+  station-all : (z k : ℕ)
+      → kept (planOf bs n t) s everywhere z (t + 1) k
+      ≡ total (planOf bs n t) everywhere (start s) (λ y. cond (isAt z y) 1 0) k
+  unfolding kept everywhere planOf
+  station-all z k = sym (whole-station (planOf bs n t) s everywhere (slots-within bs n t ok) z k)
+
+  -- and so are those that avoid another station
+  station-avoiding : (z x k : ℕ) → x ≢ z
+      → kept (planOf bs n t) s (avoiding s x) z (t + 1) k
+      ≡ total (planOf bs n t) (avoiding s x) (start s) (λ y. cond (isAt z y) 1 0) k
+  unfolding kept planOf
+  station-avoiding z x k d =
+      rw (avoids-other s x z d) (sym (whole-station (planOf bs n t) s (avoiding s x) (slots-within bs n t ok) z k))
+
+  -- so its fewest hops and its number there are those of the shortest paths
+  station-fewest : (z : ℕ)
+      → Fewest (kept (planOf bs n t) s everywhere z (t + 1)) (hops (shortestPaths (planOf bs n t) s z))
+  station-fewest z =
+      rw (shortest-walks-are-paths bs n t ok s z)
+      (fewest-ext (λ k. sym (station-all z k))
+      (fewest-shortest (planOf bs n t) (start s) (isAt z)
+      (bounded-ends (planOf bs n t) (slots-within bs n t ok) s (isAt z))
+      (few-slots bs n t ok)))
+
+  station-count : (z : ℕ) → count (shortestPaths (planOf bs n t) s z)
+      ≡ kept (planOf bs n t) s everywhere z (t + 1) (hops (shortestPaths (planOf bs n t) s z))
+  station-count z =
+      rw (shortest-walks-are-paths bs n t ok s z)
+      (count-shortest (planOf bs n t) (start s) (isAt z)
+      (bounded-ends (planOf bs n t) (slots-within bs n t ok) s (isAt z))
+      ∙ sym (station-all z _))
+
+  module _ (low block : ℕ) (old w : List ℕ) (j : ℕ)
+      (state : State n block old (walksAt (planOf bs n t) s low (t + 1) j) w) where
+    entry : (z : ℕ) → z < n → Best block 65535 (kept (planOf bs n t) s everywhere z (t + 1))
+        (λ c. kept (planOf bs n t) s (avoiding s (low + c)) z (t + 1)) (getD w z 0) (getD w (z + n) 0)
+        (λ c. getD w (rowAt n block z + c) 0)
+    unfolding walksAt
+    entry z q = state .settled z q
+
+    -- a station's settled entry overflows just where its count is over 2^64 - 1
+    pub station-overflows : (z : ℕ) → z < n
+        → overflows n w z ≡ ltb 18446744073709551615 (count (shortestPaths (planOf bs n t) s z))
+    unfolding overflows
+    station-overflows z q = go (overflows n w z) refl
+      where
+        go : (b : Bool) → overflows n w z ≡ b → b ≡ ltb 18446744073709551615 (count (shortestPaths (planOf bs n t) s z))
+        go true e =
+            let large = overflow-large (entry z q) e in
+            let same = fewest-unique (large .fewest) (station-fewest z) in
+            let big =
+            subst (λ x. 18446744073709551615 < kept (planOf bs n t) s everywhere z (t + 1) x) same (large .large) in
+            sym (lt-ltb 18446744073709551615 (count (shortestPaths (planOf bs n t) s z))
+            (omega (arith, station-count z)))
+        go false e =
+            let small = overflow-small (entry z q) e .small _ (station-fewest z) in
+            sym (le-ltb 18446744073709551615 (count (shortestPaths (planOf bs n t) s z))
+            (omega (arith, station-count z)))
+
+    -- Where no count is over 2^64 - 1 the settled entries are hops, counts and rows.
+    pub counted : ((z : ℕ) → z < n → count (shortestPaths (planOf bs n t) s z) ≤ 18446744073709551615)
+        → Counted bs n t s low block w
+    counted small =
+        record {
+          station-hops = at-hops;
+          station-counts = λ z q.
+              let place : n + z ≡ z + n = omega arith in
+              rw place (entry z q .count
+              ∙ ap (λ h. stored (kept (planOf bs n t) s everywhere z (t + 1) h)) (at-hops z q)
+              ∙ ap stored (sym (station-count z))
+              ∙ stored-small _ (small z q));
+          rows = at-rows;
+        }
+      where
+        at-hops : (z : ℕ) → z < n → getD w z 0 ≡ hops (shortestPaths (planOf bs n t) s z)
+        at-hops z q = fewest-unique (entry z q .fewest) (station-fewest z)
+
+        at-rows : (z c : ℕ) → z < n → c < block → low + c ≢ z → hops (shortestPaths (planOf bs n t) s z) < 65535
+            → getD w (4 * n + z * block + c) 0 + through (planOf bs n t) s z (low + c)
+            ≡ count (shortestPaths (planOf bs n t) s z)
+        at-rows z c q i d some =
+            let h = hops (shortestPaths (planOf bs n t) s z) in
+            let m = total (planOf bs n t) (avoiding s (low + c)) (start s) (λ y. cond (isAt z y) 1 0) h in
+            let parts : through (planOf bs n t) s z (low + c) + m ≡ count (shortestPaths (planOf bs n t) s z) =
+            through-avoiding bs n t ok s z (low + c) in
+            let here = at-hops z q in
+            let fits : m < 2 ^ 64 = let few = small z q in omega arith in
+            let held : getD w (rowAt n block z + c) 0 ≡ m =
+            entry z q .row c i (omega arith)
+            ∙ ap (λ x. kept (planOf bs n t) s (avoiding s (low + c)) z (t + 1) x % 2 ^ 64) here
+            ∙ ap (λ x. x % 2 ^ 64) (station-avoiding z (low + c) h d)
+            ∙ mod-eq-of-lt fits in
+            omega arith

@@ -1,0 +1,302 @@
+-- The loop of the pass: what holds whenever its test is reached, and what it makes of the work area. Assumes nothing.
+use Prim.Native.Nat.{ℕ, zero, suc, _+_, _-_, _<_, _≤_}
+use native.Mathlib.Omega.{arith}
+use native.Mathlib.Decide.{decLe, ℕ-discrete}
+use native.Mathlib.Numerals.{add-one}
+use mathlib.Core.Path.{_≡_, refl, sym, ap, subst, _∙_}
+use mathlib.Core.Bool.{Bool, true, false, and-eq-true-iff}
+use mathlib.Core.List.{List}
+use mathlib.Core.Logic.{by-cases, _≢_}
+use mathlib.Core.Option.{some as present}
+use borrow.Author.Tests.{ltb-true, ltb-false, eqb-true, lt-ltb, eq-eqb}
+use lib.Dec.{ltb}
+use lib.ListN.{length, getD, drop, getElem?, length-drop}
+use lib.Seq.{ext-getD, getD-drop}
+use Rattle.temporal.specs.Lists.{below, any}
+use Rattle.temporal.specs.Plan.{Contact}
+use Rattle.temporal.specs.Bytes.{contactAt, records, planOf}
+use Rattle.temporal.specs.Cause.{planFault}
+use Rattle.temporal.specs.Shortest.{shortestWalks, shortestPaths, count}
+use Rattle.temporal.proofs.ListLaws.{not-both, any-false, mem-below}
+use Rattle.temporal.proofs.Accepted.{accepted}
+use Rattle.temporal.proofs.CheckLaws.{below-slot}
+use Rattle.temporal.proofs.PlanLaws.{contact-there, contact-inv, contacts-length, slots-within}
+use Rattle.counting.proofs.Weights.{everywhere}
+use Rattle.pass.specs.Entry.{overflows}
+use Rattle.pass.specs.Sweep.{folded, sweep, settledFrom, begun, inSlot, Area, Foldable}
+use Rattle.pass.specs.Passed.{areaSize, Ready, Passed}
+use Rattle.pass.proofs.PlaceLaws.{area-kept}
+use Rattle.pass.proofs.StateLaws.{State}
+use Rattle.pass.proofs.SettleLaws.{SomeLarge, settled-all, settled-over, settled-within}
+use Rattle.pass.proofs.PlanWalks.{walksAt, folded-state, settles-slot, arrived}
+use Rattle.pass.proofs.BeginLaws.{begun-state}
+use Rattle.pass.proofs.EndLaws.{few-slots, appearance-small, appearance-large, start-small}
+use Rattle.pass.proofs.EndLaws.{too-many-appearance, too-many-station, station-overflows, counted}
+
+-- lists that agree from k on
+drop-same : (k : ℕ) (a b : List ℕ) → length a ≡ length b → ((i : ℕ) → k ≤ i → getD a i 0 ≡ getD b i 0)
+    → drop k a ≡ drop k b
+drop-same k a b e h =
+    ext-getD 0 (drop k a) (drop k b) (length-drop k a ∙ ap (λ l. l - k) e ∙ sym (length-drop k b))
+    (λ i q. getD-drop k a i 0 ∙ h (k + i) (omega arith) ∙ sym (getD-drop k b i 0))
+
+-- ---- the records
+
+-- a record of the slot is there
+pub in-slot-inv : (bs : List ℕ) (j u : ℕ) → inSlot bs j u ≡ true → (j < records bs) × (contactAt bs j .slot ≡ u)
+unfolding inSlot
+in-slot-inv bs j u e =
+    let (there, slot) = and-eq-true-iff _ _ .0 e in
+    (ltb-true _ _ there, eqb-true _ _ slot)
+
+-- the record at j is in another slot, if there is one
+in-slot-none : (bs : List ℕ) (j u : ℕ) → inSlot bs j u ≡ false → j < records bs → contactAt bs j .slot ≢ u
+unfolding inSlot
+in-slot-none bs j u e there same =
+    let both : inSlot bs j u ≡ true = rw (lt-ltb j (records bs) there, eq-eqb (contactAt bs j .slot) u same) in
+    not-both both e
+
+-- slots rise with positions
+slots-rise : (bs : List ℕ) (n t : ℕ) → planFault bs n t ≡ 0 → (i k : ℕ) → i ≤ k → k < records bs
+    → contactAt bs i .slot ≤ contactAt bs k .slot
+slots-rise bs n t ok i zero h inside = let same : i ≡ 0 = omega arith in rw same (omega arith)
+slots-rise bs n t ok i (suc k) h inside =
+    by-cases (ℕ-discrete i (suc k)) (λ e. rw e (omega arith)) (λ d.
+    let sooner = slots-rise bs n t ok i k (omega arith) (omega arith) in
+    let above = accepted bs n t ok .rising k inside in
+    by-cases (decLe (contactAt bs k .slot) (contactAt bs (suc k) .slot)) (λ q. omega arith)
+    (λ q. absurd (not-both above (below-slot (contactAt bs k) (contactAt bs (suc k)) (omega arith)))))
+
+-- the records below j are in slots up to u, and those from j on in slots from u on
+record Position (bs : List ℕ) (u j : ℕ) : Type 0 where
+  within : j ≤ records bs
+  done : (i : ℕ) → i < j → contactAt bs i .slot ≤ u
+  ahead : (i : ℕ) → j ≤ i → i < records bs → u ≤ contactAt bs i .slot
+
+-- ---- the loop
+
+-- The pass is in slot u, at position j: the work area holds the walks, and no appearance of a slot before has too many.
+pub record Passing (bs : List ℕ) (n t s low block : ℕ) (old : List ℕ) (u j : ℕ) (w : List ℕ) : Type 0 where
+  from-one : 0 < u
+  pub last : u ≤ t + 1
+  position : Position bs u j
+  state : State n block old (walksAt (planOf bs n t) s low u j) w
+  small : (v x : ℕ) → v < n → x < u → count (shortestWalks (planOf bs n t) s v x) ≤ 18446744073709551615
+
+-- an area that is ready
+pub ready-area : (bs : List ℕ) (n t s low block : ℕ) (w : List ℕ) → Ready bs n t s low block w → Area n block w
+ready-area bs n t s low block w r =
+    record { some = accepted bs n t (r .accepted) .some-station; fits = r .fits }
+
+module _ (bs : List ℕ) (n t s low block : ℕ) (old : List ℕ) (ready : Ready bs n t s low block old) where
+  ok : planFault bs n t ≡ 0
+  ok = ready .accepted
+
+  area : Area n block old
+  area = ready-area bs n t s low block old ready
+
+  -- the work area fits
+  pub passing-area : (u j : ℕ) (w : List ℕ) → Passing bs n t s low block old u j w → Area n block w
+  passing-area u j w x = area-kept area (x .state .same)
+
+  -- its length is kept
+  pub passing-length : (u j : ℕ) (w : List ℕ) → Passing bs n t s low block old u j w → length w ≡ length old
+  passing-length u j w x = x .state .same
+
+  module _ (u j : ℕ) (w : List ℕ) (x : Passing bs n t s low block old u j w) where
+    -- a record of the slot can be folded in
+    pub passing-foldable : inSlot bs j u ≡ true → Foldable bs n block j w
+    passing-foldable e =
+        let (there, slot) = in-slot-inv bs j u e in
+        let whole = accepted bs n t ok .whole in
+        let c = accepted bs n t ok .contact j there in
+        let ends = c .ends in
+        let station = c .station in
+        record { inside = omega arith; a-station = omega arith; b-station = station; area = passing-area u j w x }
+
+    -- and then the pass is one position further
+    pub passing-fold : inSlot bs j u ≡ true
+        → Passing bs n t s low block old u (j + 1) (folded n block w (contactAt bs j))
+    unfolding planOf
+    passing-fold e =
+        let (there, slot) = in-slot-inv bs j u e in
+        let c = accepted bs n t ok .contact j there in
+        let ends = c .ends in
+        let station = c .station in
+        let most = accepted bs n t ok .slots in
+        record {
+          from-one = x .from-one;
+          last = x .last;
+          position = record {
+            within = omega arith;
+            done = λ i q. by-cases (ℕ-discrete i j) (λ same. rw same (omega arith))
+                (λ d. x .position .done i (omega arith));
+            ahead = λ i from q. x .position .ahead i (omega arith) q;
+          };
+          state = folded-state (planOf bs n t) (slots-within bs n t ok) most s low n block old area u j
+              (contactAt bs j) w (contact-there bs n t j there) slot (omega arith) station (omega arith) (x .state);
+          small = x .small;
+        }
+
+    module _ (e : inSlot bs j u ≡ false) where
+      ahead : (i : ℕ) → j ≤ i → i < records bs → u < contactAt bs i .slot
+      ahead i from q =
+          let rise = slots-rise bs n t ok j i from q in
+          let here = x .position .ahead j (omega arith) (omega arith) in
+          let other = in-slot-none bs j u e (omega arith) in
+          omega arith
+
+      past : (i : ℕ) (c : Contact) → j ≤ i → getElem? (planOf bs n t .contacts) i ≡ present c → c .slot ≢ u
+      past i c from there same =
+          let (inside, is) = contact-inv bs n t i c there in
+          let later = ahead i from inside in
+          let slot : contactAt bs i .slot ≡ u = ap (λ d. d .slot) is ∙ same in
+          omega arith
+
+      done : (i : ℕ) (c : Contact) → i < j → getElem? (planOf bs n t .contacts) i ≡ present c → c .slot ≢ suc u
+      done i c below there same =
+          let (inside, is) = contact-inv bs n t i c there in
+          let sooner = x .position .done i below in
+          let slot : contactAt bs i .slot ≡ suc u = ap (λ d. d .slot) is ∙ same in
+          omega arith
+
+      within : j ≤ length (planOf bs n t .contacts)
+      within = let q = x .position .within in let same = contacts-length bs n t in omega arith
+
+      settled : State n block old (walksAt (planOf bs n t) s low (suc u) j)
+          (settledFrom n block s low (sweep false w) 0 n .work)
+      settled =
+          settled-all n block old area s low (walksAt (planOf bs n t) s low u j)
+          (walksAt (planOf bs n t) s low (suc u) j)
+          (settles-slot (planOf bs n t) s low u j (x .from-one) past done within) w (x .state)
+
+      slot-small : settledFrom n block s low (sweep false w) 0 n .over ≡ false → (v : ℕ) → v < n
+          → count (shortestWalks (planOf bs n t) s v u) ≤ 18446744073709551615
+      unfolding walksAt
+      slot-small none v q =
+          appearance-small (planOf bs n t) (slots-within bs n t ok) (few-slots bs n t ok) s v u
+          (arrived (planOf bs n t) s low u j (x .from-one) past done within everywhere v)
+          (settled-within n block old area s low (walksAt (planOf bs n t) s low u j)
+          (walksAt (planOf bs n t) s low (suc u) j)
+          (settles-slot (planOf bs n t) s low u j (x .from-one) past done within) w (x .state) none v q)
+
+      -- a slot with no record left is settled, and the pass is one slot further
+      pub passing-settle : (r : Bool) (w′ : List ℕ) → u ≤ t → r ≡ false
+          → sweep r w′ ≡ settledFrom n block s low (sweep false w) 0 n
+          → Passing bs n t s low block old (u + 1) j w′
+      passing-settle r w′ more none out =
+          record {
+            from-one = omega arith;
+            last = omega arith;
+            position = record {
+              within = x .position .within;
+              done = λ i q. let h = x .position .done i q in omega arith;
+              ahead = λ i from q. let h = ahead i from q in omega arith;
+            };
+            state = rw (add-one, ap (λ z. z .work) out) settled;
+            small = λ v y q below. by-cases (ℕ-discrete y u)
+                (λ same. rw same (slot-small (sym (ap (λ z. z .over) out) ∙ none) v q))
+                (λ d. x .small v y q (omega arith));
+          }
+
+      -- a large pending sequence is a cause of refusal, and nothing past the area is touched
+      pub passed-over : (r : Bool) (w′ : List ℕ) → u ≤ t → r ≡ true
+          → sweep r w′ ≡ settledFrom n block s low (sweep false w) 0 n
+          → Passed bs n t s low block old w′ true
+      unfolding walksAt
+      passed-over r w′ more some out =
+          record {
+            too-many = sym (too-many-appearance bs n t ok s (large .station) u (large .inside) more
+                (appearance-large (planOf bs n t) (slots-within bs n t ok) (few-slots bs n t ok) s (large .station) u
+                (arrived (planOf bs n t) s low u j (x .from-one) past done within everywhere (large .station))
+                (large .large)));
+            counted = λ q. let z : _≡_ {A = ℕ} 0 1 = cc in absurd (omega arith);
+            beyond = drop-same (areaSize n block) w′ old kept (λ i q. rw (ap (λ z. z .work) out) (settled .beyond i q));
+            same-length = kept;
+          }
+        where
+          large : SomeLarge n (walksAt (planOf bs n t) s low u j)
+          large =
+              settled-over n block old area s low (walksAt (planOf bs n t) s low u j)
+              (walksAt (planOf bs n t) s low (suc u) j)
+              (settles-slot (planOf bs n t) s low u j (x .from-one) past done within) w (x .state)
+              (sym (ap (λ z. z .over) out) ∙ some)
+
+          kept : length w′ ≡ length old
+          kept = ap (λ z. length (z .work)) out ∙ settled .same
+
+  -- past the last slot the stations' counts are looked at
+  pub passed-end : (u j : ℕ) (w : List ℕ) (r : Bool) → Passing bs n t s low block old u j w → t < u
+      → r ≡ any (overflows n w) (below n)
+      → Passed bs n t s low block old w r
+  passed-end u j w r x past e =
+      record {
+        too-many = e ∙ too-many-station bs n t ok s (overflows n w) (λ v y q h. x .small v y q (omega arith)) exact;
+        counted = λ q. counted bs n t ok s low block old w j state (λ z h.
+            ltb-false 18446744073709551615 (count (shortestPaths (planOf bs n t) s z))
+            (sym (exact z h) ∙ any-false (overflows n w) (below n) .0 (sym e ∙ q) z (mem-below n .1 h)));
+        beyond = drop-same (areaSize n block) w old (state .same) (state .beyond);
+        same-length = state .same;
+      }
+    where
+      state : State n block old (walksAt (planOf bs n t) s low (t + 1) j) w
+      state =
+          let end : u ≡ t + 1 = let l = x .last in omega arith in
+          subst (λ y. State n block old (walksAt (planOf bs n t) s low y j) w) end (x .state)
+
+      exact : (z : ℕ) → z < n → overflows n w z ≡ ltb 18446744073709551615 (count (shortestPaths (planOf bs n t) s z))
+      exact = station-overflows bs n t ok s low block old w j state
+
+-- ---- the beginning is not the work area at entry
+
+module _ (bs : List ℕ) (n t s low block : ℕ) (old begins : List ℕ) (ready : Ready bs n t s low block old)
+    (is : begins ≡ begun n block old s) where
+  state-begun : State n block old (walksAt (planOf bs n t) s low 1 0) begins
+  state-begun =
+      rw is
+      (begun-state (planOf bs n t) s low n block old (ready-area bs n t s low block old ready) (ready .source))
+
+  -- the work area at the beginning is as ready as at entry
+  pub ready-begun : Ready bs n t s low block begins
+  ready-begun =
+      let fits = ready .fits in
+      record {
+        accepted = ready .accepted;
+        source = ready .source;
+        stations = ready .stations;
+        fits = let same = state-begun .same in omega arith;
+      }
+
+  -- at the beginning the pass is in slot 1, at position 0
+  pub passing-begun : Passing bs n t s low block begins 1 0 begins
+  passing-begun =
+      record {
+        from-one = omega arith;
+        last = omega arith;
+        position = record {
+          within = omega arith;
+          done = λ i q. absurd (omega arith);
+          ahead = λ i from q. accepted bs n t (ready .accepted) .contact i q .from-one;
+        };
+        state = record {
+          same = refl;
+          beyond = λ i q. refl;
+          settled = state-begun .settled;
+          pending = state-begun .pending;
+        };
+        small = λ v x q from.
+            let zero-slot : x ≡ 0 = omega arith in
+            rw zero-slot (appearance-small (planOf bs n t) (slots-within bs n t (ready .accepted))
+            (few-slots bs n t (ready .accepted)) s v 0 (λ k. refl) (start-small (planOf bs n t) s v));
+      }
+
+  -- what is promised from there on is promised from the entry on
+  pub passed-entry : (new : List ℕ) (r : Bool) → Passed bs n t s low block begins new r
+      → Passed bs n t s low block old new r
+  passed-entry new r x =
+      record {
+        too-many = x .too-many;
+        counted = x .counted;
+        beyond = x .beyond ∙ drop-same (areaSize n block) begins old (state-begun .same) (state-begun .beyond);
+        same-length = x .same-length ∙ state-begun .same;
+      }

@@ -1,0 +1,218 @@
+-- The sequences that the pass keeps: walks from a source by their hops, settled before a slot and pending in it, all of
+-- them and those that avoid a station of the block. A contact more and a slot more, by the recurrence.
+-- Assumes nothing.
+use Prim.Native.Nat.{ℕ, suc, _+_, _<_, _≤_}
+use native.Mathlib.Omega.{arith}
+use native.Mathlib.Decide.{ℕ-discrete}
+use native.Mathlib.Numerals.{add-one}
+use mathlib.Core.Path.{_≡_, refl, sym, ap, _∙_}
+use mathlib.Core.Bool.{Bool, true, false, cond, _&&_}
+use mathlib.Core.List.{List}
+use mathlib.Core.Logic.{by-cases, ⊎-elim, _≢_}
+use mathlib.Core.Option.{some}
+use borrow.Author.Tests.{eq-eqb, ne-eqb}
+use lib.Dec.{eqb}
+use lib.ListN.{length, getElem?}
+use Rattle.temporal.specs.Plan.{Contact, Plan, Appearance, start, mayFollow}
+use Rattle.temporal.specs.Walk.{isAt, endsIn}
+use Rattle.temporal.specs.Shortest.{ofHops, count}
+use Rattle.temporal.proofs.ListLaws.{empty-or-member}
+use Rattle.temporal.proofs.WalkLaws.{SlotsWithin}
+use Rattle.temporal.proofs.ShortestLaws.{mem-ofHops}
+use Rattle.temporal.proofs.Adequacy.{bounded-ends}
+use Rattle.counting.proofs.Weights.{total, everywhere, cond-less, total-less, counts}
+use Rattle.counting.proofs.Fewest.{Fewest, plus, delayed}
+use Rattle.counting.proofs.Recurrence.{before, atAppearance, arrivals, arrivals-suc, inflow-to-a, inflow-to-b}
+use Rattle.counting.proofs.Recurrence.{inflow-other-station, arrivals-same, arrivals-zero, arrivals-all, settle}
+use Rattle.counting.proofs.Recurrence.{arrivals-less}
+use Rattle.counting.proofs.Through.{avoiding}
+use Rattle.pass.specs.Sweep.{sent, folded, Area}
+use Rattle.pass.proofs.StateLaws.{Walks, Sound, State, sent-state, delayed-less}
+use Rattle.pass.proofs.SettleLaws.{Settles}
+
+-- the walks to v that a contact in slot u may follow, by hops, where the permission g lets them go on from v
+unfoldable pub kept : Plan → ℕ → (ℕ → Bool) → ℕ → ℕ → ℕ → ℕ
+kept p s g v u k = cond (g v) (total p g (start s) (before p v u) k) 0
+
+-- before slot u, with the contacts below position j folded in
+unfoldable pub walksAt : Plan → ℕ → ℕ → ℕ → ℕ → Walks
+walksAt p s low u j =
+    record {
+      settled = λ v. kept p s everywhere v u;
+      settled-avoiding = λ v c. kept p s (avoiding s (low + c)) v u;
+      pending = λ v. arrivals p s everywhere j v u;
+      pending-avoiding = λ v c. arrivals p s (avoiding s (low + c)) j v u;
+    }
+
+-- ---- a contact's first half
+
+-- what contact c brings from its a to its b is added
+unfoldable half : Plan → ℕ → (ℕ → Bool) → ℕ → Contact → ℕ → ℕ → ℕ → ℕ
+half p s g j c u v k =
+    cond (eqb v (c .b)) (plus (arrivals p s g j v u) (delayed (kept p s g (c .a) u)) k) (arrivals p s g j v u k)
+
+unfoldable walksHalf : Plan → ℕ → ℕ → ℕ → ℕ → Contact → Walks
+walksHalf p s low u j c =
+    record {
+      settled = λ v. kept p s everywhere v u;
+      settled-avoiding = λ v x. kept p s (avoiding s (low + x)) v u;
+      pending = half p s everywhere j c u;
+      pending-avoiding = λ v x. half p s (avoiding s (low + x)) j c u v;
+    }
+
+module _ (p : Plan) (s : ℕ) (g : ℕ → Bool) (j : ℕ) (c : Contact) (u : ℕ) where
+  half-b : (k : ℕ) → plus (arrivals p s g j (c .b) u) (delayed (kept p s g (c .a) u)) k ≡ half p s g j c u (c .b) k
+  unfolding half
+  half-b k = rw (eq-eqb (c .b) (c .b) refl)
+
+  half-other : (v k : ℕ) → v ≢ c .b → arrivals p s g j v u k ≡ half p s g j c u v k
+  unfolding half
+  half-other v k d = rw (ne-eqb v (c .b) d)
+
+  module _ (there : getElem? (p .contacts) j ≡ some c) (slot : c .slot ≡ u) (apart : c .a ≢ c .b) where
+    -- the second half makes it whole
+    whole-a : (k : ℕ)
+        → plus (half p s g j c u (c .a)) (delayed (kept p s g (c .b) u)) k ≡ arrivals p s g (j + 1) (c .a) u k
+    unfolding plus kept
+    whole-a k =
+        rw (add-one, arrivals-suc p s g j there (c .a) u k, inflow-to-a p s g c u k slot, half-other (c .a) k apart)
+
+    whole-other : (v k : ℕ) → v ≢ c .a → half p s g j c u v k ≡ arrivals p s g (j + 1) v u k
+    unfolding plus kept
+    whole-other v k d =
+        by-cases (ℕ-discrete v (c .b))
+        (λ e. rw (e, add-one, arrivals-suc p s g j there (c .b) u k, inflow-to-b p s g c u k slot) (sym (half-b k)))
+        (λ o. sym (half-other v k o)
+        ∙ rw (add-one, arrivals-suc p s g j there v u k, inflow-other-station p s g c v u k d o) (omega arith))
+
+-- ---- those that avoid a station are no more
+
+wider : (g : ℕ → Bool) (v : ℕ) → g v ≡ true → everywhere v ≡ true
+unfolding everywhere
+wider g v e = refl
+
+kept-less : (p : Plan) (s : ℕ) (g : ℕ → Bool) (v u k : ℕ) → kept p s g v u k ≤ kept p s everywhere v u k
+unfolding kept
+kept-less p s g v u k =
+    cond-less (g v) (everywhere v) (wider g v) (total-less p g everywhere (wider g) (start s) (before p v u) k)
+
+half-less : (p : Plan) (s : ℕ) (g : ℕ → Bool) (j : ℕ) (c : Contact) (u v k : ℕ)
+    → half p s g j c u v k ≤ half p s everywhere j c u v k
+unfolding half plus
+half-less p s g j c u v k =
+    go (eqb v (c .b)) (arrivals-less p s g everywhere (wider g) j v u k)
+    (delayed-less (kept-less p s g (c .a) u) k)
+  where
+    go : (b : Bool) {x y x′ y′ : ℕ} → x ≤ y → x′ ≤ y′ → cond b (x + x′) x ≤ cond b (y + y′) y
+    go true h l = omega arith
+    go false h l = h
+
+sound-at : (p : Plan) (s low u j : ℕ) → Sound (walksAt p s low u j)
+unfolding walksAt
+sound-at p s low u j =
+    record {
+      settled = λ v c k. kept-less p s (avoiding s (low + c)) v u k;
+      pending = λ v c k. arrivals-less p s (avoiding s (low + c)) everywhere (wider (avoiding s (low + c))) j v u k;
+    }
+
+sound-half : (p : Plan) (s low u j : ℕ) (c : Contact) → Sound (walksHalf p s low u j c)
+unfolding walksHalf
+sound-half p s low u j c =
+    record {
+      settled = λ v x k. kept-less p s (avoiding s (low + x)) v u k;
+      pending = λ v x k. half-less p s (avoiding s (low + x)) j c u v k;
+    }
+
+-- ---- a slot is settled
+
+-- nothing is kept where it may not go on
+kept-closed : (p : Plan) (s : ℕ) (g : ℕ → Bool) (v u k : ℕ) → g v ≡ false → kept p s g v u k ≡ 0
+unfolding kept
+kept-closed p s g v u k e = rw e
+
+module _ (p : Plan) (s low u j : ℕ) (later : 0 < u)
+    (past : (i : ℕ) (c : Contact) → j ≤ i → getElem? (p .contacts) i ≡ some c → c .slot ≢ u)
+    (done : (i : ℕ) (c : Contact) → i < j → getElem? (p .contacts) i ≡ some c → c .slot ≢ suc u)
+    (within : j ≤ length (p .contacts)) where
+  -- all that arrives in slot u has arrived
+  pub arrived : (g : ℕ → Bool) (v k : ℕ) → total p g (start s) (atAppearance v u) k ≡ arrivals p s g j v u k
+  arrived g v k =
+      arrivals-all p s g v u k later
+      ∙ sym (arrivals-same p s g v u k j (length (p .contacts)) within (λ i c from q there. past i c from there))
+
+  kept-settled : (g : ℕ → Bool) (v k : ℕ)
+      → cond (g v) (plus (kept p s g v u) (arrivals p s g j v u) k) 0 ≡ kept p s g v (suc u) k
+  unfolding kept plus
+  kept-settled g v k = go (g v) _ _ _ _ (settle p s g v u k) (arrived g v k)
+    where
+      go : (b : Bool) (x y z a : ℕ) → x ≡ y + z → z ≡ a → cond b (cond b y 0 + a) 0 ≡ cond b x 0
+      go true x y z a e f = omega arith
+      go false x y z a e f = refl
+
+  -- settling slot u makes of the walks before it those before the next
+  pub settles-slot : Settles s low (walksAt p s low u j) (walksAt p s low (suc u) j)
+  unfolding walksAt everywhere
+  settles-slot =
+      record {
+        sound = sound-at p s low u j;
+        sound-after = sound-at p s low (suc u) j;
+        closed = λ v c k e. kept-closed p s (avoiding s (low + c)) v u k e;
+        settled = λ v k. kept-settled everywhere v k;
+        avoids = λ v c k. kept-settled (avoiding s (low + c)) v k;
+        cleared = λ v k. sym (arrivals-same p s everywhere v (suc u) k 0 j (omega arith)
+            (λ i c from before there. done i c before there))
+            ∙ arrivals-zero p s everywhere v (suc u) k;
+      }
+
+-- ---- a walk's hops
+
+-- the fewest hops of settled walks are no more than the slots
+few-hops : (p : Plan) → SlotsWithin p → (s v u h : ℕ) → Fewest (kept p s everywhere v u) h → h < 65535
+    → h ≤ p .slots
+unfolding kept everywhere before
+few-hops p fits s v u h f q =
+    ⊎-elim (λ empty. absurd (omega (arith, f .some q, many, ap length empty)))
+    (λ m. let (long, _, ends) = mem-ofHops p test h .0 (m .1) in
+    let most = bounded-ends p fits s at-v .within (m .0) ends .0 in omega arith)
+    (empty-or-member (ofHops p test h))
+  where
+    at-v : Appearance → Bool
+    at-v y = isAt v y && mayFollow p (y .slot) u
+
+    test : List ℕ → Bool
+    test = endsIn p (start s) at-v
+
+    many : count (ofHops p test h) ≡ total p everywhere (start s) (λ y. cond (at-v y) 1 0) h
+    many = counts p at-v (start s) h
+
+-- ---- a record is folded in
+
+module _ (p : Plan) (fits : SlotsWithin p) (few : p .slots ≤ 255) (s low n block : ℕ) (old : List ℕ)
+    (area : Area n block old) where
+  -- settled walks can take one hop more
+  one-more : {h : ℕ} (v u : ℕ) → Fewest (kept p s everywhere v u) h → h < 65535 → h + 1 < 65535
+  one-more {h} v u f q = let most = few-hops p fits s v u h f q in omega arith
+
+  -- Folding the contact at position j, in slot u: its walks have arrived too.
+  pub folded-state : (u j : ℕ) (c : Contact) (w : List ℕ) → getElem? (p .contacts) j ≡ some c → c .slot ≡ u
+      → c .a < n → c .b < n → c .a ≢ c .b
+      → State n block old (walksAt p s low u j) w
+      → State n block old (walksAt p s low u (j + 1)) (folded n block w c)
+  unfolding folded walksAt walksHalf
+  folded-state u j c w there slot ha hb apart state =
+      sent-state n block old area (walksHalf p s low u j c) (walksAt p s low u (j + 1)) (sent n block w (c .a) (c .b))
+      (c .b) (c .a) hb ha (sound-half p s low u j c) first (one-more (c .b) u (first .settled (c .b) hb .fewest))
+      (λ v k. refl) (λ v x k. refl)
+      (whole-a p s everywhere j c u there slot apart)
+      (λ x. whole-a p s (avoiding s (low + x)) j c u there slot apart)
+      (λ v k. whole-other p s everywhere j c u there slot apart v k)
+      (λ v x k. whole-other p s (avoiding s (low + x)) j c u there slot apart v k)
+    where
+      first : State n block old (walksHalf p s low u j c) (sent n block w (c .a) (c .b))
+      first =
+          sent-state n block old area (walksAt p s low u j) (walksHalf p s low u j c) w (c .a) (c .b) ha hb
+          (sound-at p s low u j) state (one-more (c .a) u (state .settled (c .a) ha .fewest))
+          (λ v k. refl) (λ v x k. refl)
+          (half-b p s everywhere j c u) (λ x. half-b p s (avoiding s (low + x)) j c u)
+          (λ v k. half-other p s everywhere j c u v k)
+          (λ v x k. half-other p s (avoiding s (low + x)) j c u v k)

@@ -1,0 +1,222 @@
+-- What stands in every place of the work area after an entry and its row took walks in, after a mask, and after a
+-- station is settled. Assumes nothing.
+use Prim.Native.Nat.{ℕ, _+_, _-_, _*_, _<_, _≤_, min}
+use native.Mathlib.Omega.{arith}
+use native.Mathlib.Decide.{decLe, ℕ-discrete}
+use mathlib.Core.Path.{_≡_, refl, sym, ap, _∙_}
+use mathlib.Core.Bool.{Bool, true, false, cond, not, or-true, or-false}
+use mathlib.Core.List.{List}
+use mathlib.Core.Logic.{_⊎_, inl, ⊎-elim, by-cases, _≢_}
+use borrow.Author.Tests.{ltb-true, lt-ltb, eq-eqb, ne-eqb}
+use lib.Dec.{ltb, eqb}
+use lib.ListN.{length, getD, set, length-set}
+use lib.Seq.{getD-set-same, getD-set-other, lt-length-set}
+use Rattle.counting.proofs.Through.{avoiding}
+use Rattle.pass.specs.Row.{combined, mergedRow, rowAt}
+use Rattle.pass.specs.Entry.{mergedCount, merged, absorbed, Absorbable}
+use Rattle.pass.specs.Sweep.{masked, settledOne, Area}
+use Rattle.pass.proofs.RowLaws.{combined-length, combined-other, combined-at}
+use Rattle.pass.proofs.EntryLaws.{merged-length}
+use Rattle.pass.proofs.PlaceLaws.{masked-source, masked-below, masked-above, masked-own, row-before}
+use Rattle.pass.proofs.PlaceLaws.{absorbable, row-settled, set-twice-length}
+
+-- the entry at a place has new hops, a new count and a new row, and every other place is as it was
+pub record Took (n block at row : ℕ) (old new : List ℕ) (h c : ℕ) (r : ℕ → ℕ) : Type 0 where
+  pub hops : getD new at 0 ≡ h
+  pub count : getD new (at + n) 0 ≡ c
+  pub entries : (j : ℕ) → j < block → getD new (row + j) 0 ≡ r j
+  pub other : (i : ℕ) → i ≢ at → i ≢ at + n → (i < row) ⊎ (row + block ≤ i) → getD new i 0 ≡ getD old i 0
+  pub same : length new ≡ length old
+
+module _ (n : ℕ) (w : List ℕ) (at l d : ℕ) (some : 0 < n) (fits : at + n < length w) where
+  merged-hops : getD (merged n w at l d) at 0 ≡ min (getD w at 0) l
+  unfolding merged
+  merged-hops =
+      getD-set-other (set w at (min (getD w at 0) l)) (at + n) at _ 0 (omega arith)
+      ∙ getD-set-same w at (min (getD w at 0) l) 0 (omega arith)
+
+  merged-count : getD (merged n w at l d) (at + n) 0 ≡ mergedCount (getD w at 0) (getD w (at + n) 0) l d
+  unfolding merged
+  merged-count =
+      getD-set-same (set w at (min (getD w at 0) l)) (at + n) _ 0
+      (lt-length-set w at (min (getD w at 0) l) fits)
+
+  merged-other : (i : ℕ) → i ≢ at → i ≢ at + n → getD (merged n w at l d) i 0 ≡ getD w i 0
+  unfolding merged
+  merged-other i a b =
+      getD-set-other (set w at (min (getD w at 0) l)) (at + n) i _ 0 b
+      ∙ getD-set-other w at i (min (getD w at 0) l) 0 a
+
+-- hops and count alone are taken in
+pub merged-took : (n block : ℕ) (w : List ℕ) (at row l d : ℕ) → 0 < n → at + n < 4 * n → 4 * n ≤ row
+    → 4 * n ≤ length w
+    → Took n block at row w (merged n w at l d) (min (getD w at 0) l)
+    (mergedCount (getD w at 0) (getD w (at + n) 0) l d) (λ j. getD w (row + j) 0)
+merged-took n block w at row l d some before behind fits =
+    let inside : at + n < length w = omega arith in
+    record {
+      hops = merged-hops n w at l d some inside;
+      count = merged-count n w at l d some inside;
+      entries = λ j q. merged-other n w at l d some inside (row + j) (omega arith) (omega arith);
+      other = λ i a b out. merged-other n w at l d some inside i a b;
+      same = merged-length n w at l d;
+    }
+
+-- hops, count and row are taken in
+pub absorbed-took : (n block : ℕ) (w : List ℕ) (at row from l d : ℕ) → Absorbable n block w at row from
+    → (row ≤ from) ⊎ (from + block ≤ row)
+    → Took n block at row w (absorbed n block w at row from l d) (min (getD w at 0) l)
+    (mergedCount (getD w at 0) (getD w (at + n) 0) l d)
+    (λ j. mergedRow (getD w at 0) l (getD w (row + j) 0) (getD w (from + j) 0))
+unfolding absorbed
+absorbed-took n block w at row from l d a apart =
+    let before = a .before in
+    let behind = a .row-from in
+    let one = combined (mergedRow (getD w at 0) l) w row from block in
+    let kept : length one ≡ length w = combined-length (mergedRow (getD w at 0) l) w row from block in
+    let at-hops : getD one at 0 ≡ getD w at 0 =
+    combined-other (mergedRow (getD w at 0) l) w row from block at (inl (omega arith)) in
+    let at-count : getD one (at + n) 0 ≡ getD w (at + n) 0 =
+    combined-other (mergedRow (getD w at 0) l) w row from block (at + n) (inl (omega arith)) in
+    let took = merged-took n block one at row l d (a .some) before behind (let q = a .length-fits in omega arith) in
+    record {
+      hops = took .hops ∙ ap (λ x. min x l) at-hops;
+      count = took .count ∙ rw (at-hops, at-count);
+      entries = λ j q. took .entries j q
+          ∙ combined-at (mergedRow (getD w at 0) l) w row from block j q (a .row-fits) apart;
+      other = λ i x y out. took .other i x y out ∙ combined-other (mergedRow (getD w at 0) l) w row from block i out;
+      same = took .same ∙ kept;
+    }
+
+-- ---- a mask
+
+module _ (n block s low : ℕ) (w : List ℕ) (v : ℕ) where
+  masked-length : length (masked n block s low w v) ≡ length w
+  unfolding masked
+  masked-length = go (eqb v s) (ltb v low) (ltb (v - low) block)
+    where
+      go : (a b c : Bool) →
+          length (cond a w (cond b w (cond c (set w (rowAt n block v + (v - low)) 0) w))) ≡ length w
+      go true b c = refl
+      go false true c = refl
+      go false false true = length-set w (rowAt n block v + (v - low)) 0
+      go false false false = refl
+
+  -- a place outside of the row stays
+  masked-other : (i : ℕ) → (i < rowAt n block v) ⊎ (rowAt n block v + block ≤ i)
+      → getD (masked n block s low w v) i 0 ≡ getD w i 0
+  unfolding masked
+  masked-other i out = go (eqb v s) (ltb v low) (ltb (v - low) block) refl
+    where
+      go : (a b c : Bool) → ltb (v - low) block ≡ c →
+          getD (cond a w (cond b w (cond c (set w (rowAt n block v + (v - low)) 0) w))) i 0 ≡ getD w i 0
+      go true b c e = refl
+      go false true c e = refl
+      go false false true e =
+          let inside = ltb-true (v - low) block e in
+          getD-set-other w (rowAt n block v + (v - low)) i 0 0
+          (⊎-elim (λ (h : i < rowAt n block v). omega arith) (λ (h : rowAt n block v + block ≤ i). omega arith) out)
+      go false false false e = refl
+
+  -- the column of a station from which v may not go on becomes 0
+  masked-at : (j : ℕ) → j < block → rowAt n block v + block ≤ length w
+      → getD (masked n block s low w v) (rowAt n block v + j) 0
+      ≡ cond (avoiding s (low + j) v) (getD w (rowAt n block v + j) 0) 0
+  unfolding avoiding
+  masked-at j q fits =
+      by-cases (ℕ-discrete v s)
+      (λ e. rw (masked-source n block s low w v e, eq-eqb v s e, or-true (not (eqb v (low + j)))))
+      (λ d. rw (ne-eqb v s d, or-false (not (eqb v (low + j))))
+      (by-cases (ℕ-discrete v (low + j))
+      (λ own. let here : v - low ≡ j = omega arith in
+      rw (eq-eqb v (low + j) own)
+      (sym (ap (λ l. getD l (rowAt n block v + j) 0)
+      (masked-own n block s low w v (rowAt n block v) refl d (omega arith) (omega arith)))
+      ∙ rw here (getD-set-same w (rowAt n block v + j) 0 0 (omega arith))))
+      (λ other. rw (ne-eqb v (low + j) other) (elsewhere d other))))
+    where
+      elsewhere : v ≢ s → v ≢ low + j
+          → getD (masked n block s low w v) (rowAt n block v + j) 0 ≡ getD w (rowAt n block v + j) 0
+      elsewhere d other =
+          by-cases (decLe low v)
+          (λ from. by-cases (decLe block (v - low))
+          (λ past. rw (masked-above n block s low w v d from past))
+          (λ inside.
+          sym (ap (λ l. getD l (rowAt n block v + j) 0)
+          (masked-own n block s low w v (rowAt n block v) refl d from (omega arith)))
+          ∙ getD-set-other w (rowAt n block v + (v - low)) (rowAt n block v + j) 0 0 (omega arith)))
+          (λ below. rw (masked-below n block s low w v d (omega arith)))
+
+-- ---- a station settled
+
+-- its entry took in what was pending, with its own column 0; nothing is pending; every other place is as it was
+pub record Settled (n block s low v : ℕ) (old new : List ℕ) : Type 0 where
+  pub hops : getD new v 0 ≡ min (getD old v 0) (getD old (2 * n + v) 0)
+  pub count : getD new (v + n) 0
+      ≡ mergedCount (getD old v 0) (getD old (v + n) 0) (getD old (2 * n + v) 0) (getD old (2 * n + v + n) 0)
+  pub entries : (j : ℕ) → j < block → getD new (rowAt n block v + j) 0
+      ≡ cond (avoiding s (low + j) v)
+      (mergedRow (getD old v 0) (getD old (2 * n + v) 0) (getD old (rowAt n block v + j) 0)
+      (getD old (rowAt n block (n + v) + j) 0)) 0
+  pub no-hops : getD new (2 * n + v) 0 ≡ 65535
+  pub no-count : getD new (2 * n + v + n) 0 ≡ 0
+  pub other : (i : ℕ) → i ≢ v → i ≢ v + n → i ≢ 2 * n + v → i ≢ 2 * n + v + n
+      → (i < rowAt n block v) ⊎ (rowAt n block v + block ≤ i)
+      → getD new i 0 ≡ getD old i 0
+  pub same : length new ≡ length old
+
+-- settling a station with something pending leaves that
+pub settled-took : (n block s low : ℕ) (w : List ℕ) (v : ℕ) → Area n block w → v < n → getD w (2 * n + v) 0 < 65535
+    → Settled n block s low v w (settledOne n block s low w v)
+unfolding settledOne
+settled-took n block s low w v area inside some =
+    rw (lt-ltb (getD w (2 * n + v) 0) 65535 some)
+    record {
+      hops = outer v (omega arith) (omega arith)
+          ∙ masked-other n block s low one v v (inl (omega arith)) ∙ took .hops;
+      count = outer (v + n) (omega arith) (omega arith)
+          ∙ masked-other n block s low one v (v + n) (inl (omega arith)) ∙ took .count;
+      entries = λ j q. outer (rowAt n block v + j) (omega arith) (omega arith)
+          ∙ masked-at n block s low one v j q (let k = took .same in let f = row-settled inside area in omega arith)
+          ∙ ap (λ x. cond (avoiding s (low + j) v) x 0) (took .entries j q);
+      no-hops = getD-set-other (set two (2 * n + v) 65535) (2 * n + v + n) (2 * n + v) 0 0 (omega arith)
+          ∙ getD-set-same two (2 * n + v) 65535 0 (omega (arith, two-length));
+      no-count = getD-set-same (set two (2 * n + v) 65535) (2 * n + v + n) 0 0
+          (lt-length-set two (2 * n + v) 65535 (omega (arith, two-length)));
+      other = λ i a b c d out. outer i c d ∙ masked-other n block s low one v i out ∙ took .other i a b out;
+      same = set-twice-length two (2 * n + v) (2 * n + v + n) 65535 0 ∙ two-length;
+    }
+  where
+    positive : 0 < n
+    positive = area .some
+
+    fits : 4 * n ≤ length w
+    fits = let f = area .fits in omega arith
+
+    one : List ℕ
+    one =
+        absorbed n block w v (rowAt n block v) (rowAt n block (n + v)) (getD w (2 * n + v) 0)
+        (getD w (2 * n + v + n) 0)
+
+    took : Took n block v (rowAt n block v) w one (min (getD w v 0) (getD w (2 * n + v) 0))
+        (mergedCount (getD w v 0) (getD w (v + n) 0) (getD w (2 * n + v) 0) (getD w (2 * n + v + n) 0))
+        (λ j. mergedRow (getD w v 0) (getD w (2 * n + v) 0) (getD w (rowAt n block v + j) 0)
+        (getD w (rowAt n block (n + v) + j) 0))
+    took =
+        absorbed-took n block w v (rowAt n block v) (rowAt n block (n + v)) (getD w (2 * n + v) 0)
+        (getD w (2 * n + v + n) 0)
+        (absorbable n block w v (rowAt n block v) (rowAt n block (n + v)) v (n + v) area (omega arith) (omega arith)
+        (omega arith) refl refl)
+        (inl (let r = row-before block v (n + v) (omega arith) in omega arith))
+
+    two : List ℕ
+    two = masked n block s low one v
+
+    two-length : length two ≡ length w
+    two-length = masked-length n block s low one v ∙ took .same
+
+    outer : (i : ℕ) → i ≢ 2 * n + v → i ≢ 2 * n + v + n
+        → getD (set (set two (2 * n + v) 65535) (2 * n + v + n) 0) i 0 ≡ getD two i 0
+    outer i c d =
+        getD-set-other (set two (2 * n + v) 65535) (2 * n + v + n) i 0 0 d
+        ∙ getD-set-other two (2 * n + v) i 65535 0 c

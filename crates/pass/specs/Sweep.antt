@@ -1,0 +1,87 @@
+-- The pass over a plan's records: what folding a record, settling a slot and the beginning leave in the work area.
+-- Station v has its settled entry at v with row v, and what is pending for it at 2 n + v with row n + v.
+-- Definitions only.
+-- Assumes nothing.
+use Prim.Native.Nat.{ℕ, zero, suc, _+_, _-_, _*_, _<_, _≤_}
+use mathlib.Core.Bool.{Bool, cond, _&&_, _||_}
+use mathlib.Core.List.{List}
+use lib.Dec.{ltb, eqb}
+use lib.ListN.{length, getD, set}
+use Rattle.temporal.specs.Plan.{Contact}
+use Rattle.temporal.specs.Bytes.{contactAt, records}
+use Rattle.pass.specs.Row.{filled, rowAt}
+use Rattle.pass.specs.Entry.{merged, absorbed, overflows}
+
+-- What is settled for v goes on over one hop more, to what is pending for x. The row stays where the settled entry of x
+-- has fewer hops: it is not looked at.
+unfoldable pub sent : ℕ → ℕ → List ℕ → ℕ → ℕ → List ℕ
+sent n block w v x =
+    cond (ltb (getD w v 0) 65535)
+    (cond (ltb (getD w v 0) (getD w x 0))
+    (absorbed n block w (2 * n + x) (rowAt n block (n + x)) (rowAt n block v) (getD w v 0 + 1) (getD w (v + n) 0))
+    (merged n w (2 * n + x) (getD w v 0 + 1) (getD w (v + n) 0)))
+    w
+
+-- both ways over a contact
+unfoldable pub folded : ℕ → ℕ → List ℕ → Contact → List ℕ
+folded n block w c = sent n block (sent n block w (c .a) (c .b)) (c .b) (c .a)
+
+-- the column of v in its own row becomes 0, where the block has it and v is not the source
+unfoldable pub masked : ℕ → ℕ → ℕ → ℕ → List ℕ → ℕ → List ℕ
+masked n block s low w v =
+    cond (eqb v s) w
+    (cond (ltb v low) w (cond (ltb (v - low) block) (set w (rowAt n block v + (v - low)) 0) w))
+
+-- what is pending for v is taken into its settled entry, and nothing is pending any more
+unfoldable pub settledOne : ℕ → ℕ → ℕ → ℕ → List ℕ → ℕ → List ℕ
+settledOne n block s low w v =
+    cond (ltb (getD w (2 * n + v) 0) 65535)
+    (set
+    (set
+    (masked n block s low
+    (absorbed n block w v (rowAt n block v) (rowAt n block (n + v)) (getD w (2 * n + v) 0) (getD w (2 * n + v + n) 0))
+    v)
+    (2 * n + v) 65535)
+    (2 * n + v + n) 0)
+    w
+
+-- a work area, and whether a count over 2^64 - 1 was met
+pub record Sweep : Type 0 where
+  pub over : Bool
+  pub work : List ℕ
+
+abbrev pub sweep : Bool → List ℕ → Sweep
+sweep b w = record { over = b; work = w }
+
+-- station v is settled
+unfoldable pub settledNext : ℕ → ℕ → ℕ → ℕ → Sweep → ℕ → Sweep
+settledNext n block s low x v =
+    sweep (x .over || overflows n (x .work) (2 * n + v)) (settledOne n block s low (x .work) v)
+
+-- k stations from v on are settled
+unfoldable pub settledFrom : ℕ → ℕ → ℕ → ℕ → Sweep → ℕ → ℕ → Sweep
+settledFrom n block s low x v zero = x
+settledFrom n block s low x v (suc k) = settledFrom n block s low (settledNext n block s low x v) (v + 1) k
+
+-- no walks but the empty one, settled for the source, with a row of ones; nothing is pending
+unfoldable pub begun : ℕ → ℕ → List ℕ → ℕ → List ℕ
+begun n block w s =
+    filled
+    (set (set (filled (filled (filled (filled w 0 n 65535) n n 0) (2 * n) n 65535) (3 * n) n 0) s 0) (s + n) 1)
+    (rowAt n block s) block 1
+
+-- whether there is a record at j and it lies in slot u
+unfoldable pub inSlot : List ℕ → ℕ → ℕ → Bool
+inSlot bs j u = ltb j (records bs) && eqb (contactAt bs j .slot) u
+
+-- a work area for n stations and a block fits its list
+pub record Area (n block : ℕ) (w : List ℕ) : Type 0 where
+  pub some : 0 < n
+  pub fits : 4 * n + 2 * n * block ≤ length w
+
+-- the record at j can be folded in: it is there, and its stations lie within the plan
+pub record Foldable (bs : List ℕ) (n block j : ℕ) (w : List ℕ) : Type 0 where
+  pub inside : j * 6 + 5 < length bs
+  pub a-station : contactAt bs j .a < n
+  pub b-station : contactAt bs j .b < n
+  pub area : Area n block w

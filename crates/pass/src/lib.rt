@@ -1,0 +1,309 @@
+// The forward pass: hops and counts from a source to every station, and for each of a block of stations how many shortest
+// paths do not have it inside. Everything lives in a lent work area.
+ghost use mathlib.Core.Path.{_≡_};
+ghost use mathlib.Core.Bool.{false};
+ghost use Prim.Native.Nat.{_+_, _*_, _<_, _≤_};
+ghost use lib.ListN.{length, getD};
+ghost use Rattle.temporal.specs.Lists.{any, below};
+ghost use Rattle.temporal.specs.Bytes.{contactAt};
+ghost use Rattle.pass.specs.Row.{combined, second, wrapped, mergedRow, filled, rowAt, Rows};
+ghost use Rattle.pass.specs.Entry.{addCounts, merged, absorbed, overflows, Absorbable};
+ghost use Rattle.pass.specs.Sweep.{
+  sent,
+  folded,
+  masked,
+  settledNext,
+  sweep,
+  settledFrom,
+  begun,
+  inSlot,
+  Area,
+  Foldable,
+};
+ghost use Rattle.pass.specs.Passed.{Ready, Passed};
+
+// Copies a row to another.
+fn copy_row(work: &mut [u64], to: usize, from: usize, size: usize)
+    requires { ⌜ Rows (now work) to from size ⌝ }
+    ensures { λ _. ⌜ now (work .exit) ≡ combined second (now (work .entry)) to from size ⌝ }
+{
+    let mut j = 0;
+    while j < size {
+        work[to + j] = work[from + j];
+        j += 1;
+    }
+}
+
+// Adds a row to another, modulo 2^64.
+fn add_row(work: &mut [u64], to: usize, from: usize, size: usize)
+    requires { ⌜ Rows (now work) to from size ⌝ }
+    ensures { λ _. ⌜ now (work .exit) ≡ combined wrapped (now (work .entry)) to from size ⌝ }
+{
+    let mut j = 0;
+    while j < size {
+        work[to + j] = std::num::wrapping_add_u64(work[to + j], work[from + j]);
+        j += 1;
+    }
+}
+
+// Takes a row beside l hops into a row beside h hops.
+fn merge_row(work: &mut [u64], to: usize, from: usize, size: usize, h: u64, l: u64)
+    requires { ⌜ Rows (now work) to from size ⌝ }
+    ensures { λ _. ⌜ now (work .exit) ≡ combined (mergedRow h l) (now (work .entry)) to from size ⌝ }
+{
+    if l < h {
+        copy_row(work, to, from, size);
+        return;
+    }
+    if l == h {
+        add_row(work, to, from, size);
+    }
+}
+
+// Writes one number to neighbouring entries.
+fn fill(work: &mut [u64], to: usize, size: usize, x: u64)
+    requires { ⌜ to + size ≤ length (now work) ⌝ }
+    ensures { λ _. ⌜ now (work .exit) ≡ filled (now (work .entry)) to size x ⌝ }
+{
+    let mut j = 0;
+    while j < size {
+        work[to + j] = x;
+        j += 1;
+    }
+}
+
+// The sum of two counts. 0 stands for a count over 2^64 - 1 and stays.
+fn add_counts(a: u64, b: u64) -> u64
+    ensures { λ r. ⌜ r ≡ addCounts a b ⌝ }
+{
+    if a == 0 {
+        return 0;
+    }
+    if b == 0 {
+        return 0;
+    }
+    if 18446744073709551615 - a < b {
+        return 0;
+    }
+    a + b
+}
+
+// Takes d walks of l hops into the entry at a place.
+fn merge(work: &mut [u64], n: usize, at: usize, l: u64, d: u64)
+    requires { ⌜ at + n < length (now work) ⌝ }
+    ensures { λ _. ⌜ now (work .exit) ≡ merged n (now (work .entry)) at l d ⌝ }
+{
+    let old = work[at];
+    let counted = at + n;
+    if l < old {
+        work[at] = l;
+        work[counted] = d;
+        return;
+    }
+    if l == old {
+        work[counted] = add_counts(work[counted], d);
+    }
+}
+
+// Takes d walks of l hops, with their row, into the entry at a place and its row.
+fn absorb(
+    work: &mut [u64],
+    n: usize,
+    block: usize,
+    at: usize,
+    row: usize,
+    from: usize,
+    l: u64,
+    d: u64,
+)
+    requires { ⌜ Absorbable n block (now work) at row from ⌝ }
+    ensures { λ _. ⌜ now (work .exit) ≡ absorbed n block (now (work .entry)) at row from l d ⌝ }
+{
+    let h = work[at];
+    merge_row(work, row, from, block, h, l);
+    merge(work, n, at, l, d);
+}
+
+// Where row e begins.
+fn row_at(n: usize, block: usize, e: usize) -> usize
+    requires { ⌜ rowAt n block e < 18446744073709551616 ⌝ }
+    ensures { λ r. ⌜ r ≡ rowAt n block e ⌝ }
+{
+    4 * n + e * block
+}
+
+// Sends what is settled for v on over one hop more, to what is pending for x.
+fn send(work: &mut [u64], n: usize, block: usize, v: usize, x: usize)
+    requires { ⌜ Area n block (now work) × (v < n) × (x < n) ⌝ }
+    ensures { λ _. ⌜ now (work .exit) ≡ sent n block (now (work .entry)) v x ⌝ }
+{
+    let h = work[v];
+    if h < 65535 {
+        let at = 2 * n + x;
+        let d = work[v + n];
+        if h < work[x] {
+            let row = row_at(n, block, n + x);
+            let from = row_at(n, block, v);
+            absorb(work, n, block, at, row, from, h + 1, d);
+            return;
+        }
+        merge(work, n, at, h + 1, d);
+    }
+}
+
+// Folds the record at j in, both ways.
+fn fold_record(work: &mut [u64], plan: &[u8], n: usize, block: usize, j: usize)
+    requires { ⌜ Foldable (now plan) n block j (now work) ⌝ }
+    ensures { λ _. ⌜ now (work .exit) ≡ folded n block (now (work .entry)) (contactAt (now (plan .entry)) j) ⌝ }
+{
+    let c = plan::contact_at(plan, j);
+    send(work, n, block, c.a, c.b);
+    send(work, n, block, c.b, c.a);
+}
+
+// Writes 0 to the column of v in its own row, where the block has it and v is not the source.
+fn mask(work: &mut [u64], n: usize, block: usize, source: usize, low: usize, v: usize)
+    requires { ⌜ Area n block (now work) × (v < n) ⌝ }
+    ensures { λ _. ⌜ now (work .exit) ≡ masked n block source low (now (work .entry)) v ⌝ }
+{
+    if v == source {
+        return;
+    }
+    if v < low {
+        return;
+    }
+    let j = v - low;
+    if j < block {
+        let row = row_at(n, block, v);
+        work[row + j] = 0;
+    }
+}
+
+// Settles what is pending for v. True where the flag was, or where its count is over 2^64 - 1.
+fn settle_one(
+    work: &mut [u64],
+    n: usize,
+    block: usize,
+    source: usize,
+    low: usize,
+    v: usize,
+    over: bool,
+) -> bool
+    requires { ⌜ Area n block (now work) × (v < n) ⌝ }
+    ensures { λ r. ⌜ sweep r (now (work .exit)) ≡ settledNext n block source low (sweep over (now (work .entry))) v ⌝ }
+{
+    let at = 2 * n + v;
+    let h = work[at];
+    if h < 65535 {
+        let counted = at + n;
+        let d = work[counted];
+        let row = row_at(n, block, v);
+        let from = row_at(n, block, n + v);
+        absorb(work, n, block, v, row, from, h, d);
+        mask(work, n, block, source, low, v);
+        work[at] = 65535;
+        work[counted] = 0;
+        if d == 0 {
+            return true;
+        }
+    }
+    over
+}
+
+// Settles a slot for every station. True where a count is over 2^64 - 1.
+fn settle(work: &mut [u64], n: usize, block: usize, source: usize, low: usize) -> bool
+    requires { ⌜ Area n block (now work) ⌝ }
+    ensures { λ r. ⌜ sweep r (now (work .exit)) ≡ settledFrom n block source low (sweep false (now (work .entry))) 0 n ⌝ }
+{
+    let mut over = false;
+    let mut v = 0;
+    while v < n {
+        over = settle_one(work, n, block, source, low, v, over);
+        v += 1;
+    }
+    over
+}
+
+// Whether there is a record at position j and it lies in slot u.
+fn in_slot(plan: &[u8], j: usize, u: usize) -> bool
+    ensures { λ r. ⌜ r ≡ inSlot (now (plan .entry)) j u ⌝ }
+{
+    if j < plan.len() / 6 {
+        let c = plan::contact_at(plan, j);
+        c.slot == u
+    } else {
+        false
+    }
+}
+
+// Clears the work area and settles the empty walk of the source.
+fn begin(work: &mut [u64], n: usize, block: usize, source: usize)
+    requires { ⌜ Area n block (now work) × (source < n) ⌝ }
+    ensures { λ _. ⌜ now (work .exit) ≡ begun n block (now (work .entry)) source ⌝ }
+{
+    fill(work, 0, n, 65535);
+    fill(work, n, n, 0);
+    fill(work, 2 * n, n, 65535);
+    fill(work, 3 * n, n, 0);
+    work[source] = 0;
+    work[source + n] = 1;
+    let row = row_at(n, block, source);
+    fill(work, row, block, 1);
+}
+
+// Whether the entry at a place has a count over 2^64 - 1.
+fn entry_overflows(work: &[u64], n: usize, at: usize) -> bool
+    requires { ⌜ at + n < length (now work) ⌝ }
+    ensures { λ r. ⌜ r ≡ overflows n (now (work .entry)) at ⌝ }
+{
+    if work[at] < 65535 {
+        return work[at + n] == 0;
+    }
+    false
+}
+
+// Whether the settled entry of some station has a count over 2^64 - 1.
+fn any_overflows(work: &[u64], n: usize) -> bool
+    requires { ⌜ 2 * n ≤ length (now work) ⌝ }
+    ensures { λ r. ⌜ r ≡ any (overflows n (now (work .entry))) (below n) ⌝ }
+{
+    let mut v = 0;
+    while v < n {
+        if entry_overflows(work, n, v) {
+            return true;
+        }
+        v += 1;
+    }
+    false
+}
+
+// The pass: the records slot by slot, a slot's records folded in and then settled. True where an appearance or a station has
+// a count over 2^64 - 1.
+pub fn pass(
+    work: &mut [u64],
+    plan: &[u8],
+    n: usize,
+    t: usize,
+    source: usize,
+    low: usize,
+    block: usize,
+) -> bool
+    requires { ⌜ Ready (now plan) n t source low block (now work) ⌝ }
+    ensures { λ r. ⌜ Passed (now (plan .entry)) n t source low block (now (work .entry)) (now (work .exit)) r ⌝ }
+{
+    begin(work, n, block, source);
+    let mut u = 1;
+    let mut j = 0;
+    while u <= t {
+        if in_slot(plan, j, u) {
+            fold_record(work, plan, n, block, j);
+            j += 1;
+            continue;
+        }
+        if settle(work, n, block, source, low) {
+            return true;
+        }
+        u += 1;
+    }
+    any_overflows(work, n)
+}
