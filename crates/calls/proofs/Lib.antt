@@ -1,4 +1,3 @@
--- how a call that names a pair begins, a fill of entries, and the places within the limits
+-- how a call that names a pair begins, and the places within the limits
 pub mod CallLaws
-mod LoopLaws
 pub mod PlaceLaws

@@ -1,8 +1,6 @@
-// What the operations on a pair share: 6, 7 and 8 of a call, and clearing what is lent.
+// What the operations on a pair share: 6, 7 and 8 of a call.
 ghost use mathlib.Core.Path.{_≡_};
 ghost use Prim.Native.Nat.{_≤_};
-ghost use lib.ListN.{length, replicate};
-ghost use Rattle.temporal.specs.Outcome.{over};
 ghost use Rattle.calls.specs.Call.{pairCallFault, callCheckNumber};
 use plan::CallFault;
 
@@ -41,16 +39,4 @@ pub fn pair_call(
         return CallCheck::Refused(CallFault::Short);
     }
     CallCheck::Free
-}
-
-// Writes 0 to the first k entries.
-pub fn clear(table: &mut [u64], k: usize)
-    requires { ⌜ k ≤ length (now table) ⌝ }
-    ensures { λ _. ⌜ now (table .exit) ≡ over (replicate k 0) (now (table .entry)) ⌝ }
-{
-    let mut i = 0;
-    while i < k {
-        table[i] = 0;
-        i += 1;
-    }
 }

@@ -9,9 +9,9 @@
 // pair: hops, count, the through table; loads: the table of pairs and the table of loads; busiest: the load of the station
 // that it gives, by operation 5, 0 where it refuses; each then the work area. A run of one value is written " i: x" or
 // " i .. j: x"; entries of 0 are left out.
-use joftaki::BusiestAnswer;
-use joftaki::LoadsAnswer;
-use joftaki::PairAnswer;
+use loads::BusiestAnswer;
+use loads::LoadsAnswer;
+use pair::PairAnswer;
 
 // Writes the number of pair's answer, the hops and the count; zeros beside a refusal.
 fn write_pair(answer: PairAnswer) {
@@ -72,7 +72,7 @@ fn run_pair(head: &[u8], plan: &[u8], through: &mut [u64], work: &mut [u64]) {
     let t = cases::word(head, 4);
     let s = cases::word(head, 6);
     let z = cases::word(head, 8);
-    write_pair(joftaki::pair(plan, n, t, s, z, through, work));
+    write_pair(pair::pair(plan, n, t, s, z, through, work));
     cases::write64(through);
     cases::write64(work);
 }
@@ -89,7 +89,7 @@ fn loads_of(
     mark(head, loads);
     let n = cases::word(head, 2);
     let t = cases::word(head, 4);
-    loads_number(joftaki::loads(plan, n, t, pairs, loads, work))
+    loads_number(loads::loads(plan, n, t, pairs, loads, work))
 }
 
 // Calls loads on the lent parts, and writes its answer.
@@ -106,7 +106,7 @@ fn run_busiest(head: &[u8], plan: &[u8], loads: &[u64], work: &mut [u64]) {
     mark(head, work);
     let n = cases::word(head, 2);
     let t = cases::word(head, 4);
-    write_busiest(joftaki::busiest(plan, n, t, work), loads);
+    write_busiest(loads::busiest(plan, n, t, work), loads);
     cases::write64(work);
 }
 

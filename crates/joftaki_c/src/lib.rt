@@ -8,14 +8,15 @@ ghost use Rattle.temporal.specs.Cursor.{first-way, next-way};
 ghost use Rattle.temporal.specs.FirstNext.{wayAnswer};
 ghost use Rattle.plan.specs.Fault.{faultNumber};
 ghost use Rattle.reach.specs.Pass.{lentTables};
-ghost use Rattle.joftaki.specs.Answer.{pairBuffers, loadBuffers};
+ghost use Rattle.pair.specs.Answer.{pairBuffers};
+ghost use Rattle.loads.specs.Answer.{loadBuffers};
 ghost use Rattle.listing.specs.Answer.{replyOf, question};
 ghost use Rattle.joftaki_c.specs.Slots.{answered, pairGiven, RowGiven, BusiestSlot};
 ghost use Rattle.joftaki_c.specs.Code.{replyCode, replyHops, wayGiven, wayExit};
-use joftaki::BusiestAnswer;
-use joftaki::LoadsAnswer;
-use joftaki::PairAnswer;
 use listing::WayAnswer;
+use loads::BusiestAnswer;
+use loads::LoadsAnswer;
+use pair::PairAnswer;
 use plan::Fault;
 use reach::ReachAnswer;
 
@@ -100,7 +101,7 @@ pub extern "C" fn joftaki_pair(
 ) -> u32
     ensures { λ r. ⌜ pairGiven r (now (hops .exit)) (now (count .exit)) (pairBuffers (now (through .exit)) (now (work .exit))) ≡ pair (now (plan .entry)) n t s z (pairBuffers (now (through .entry)) (now (work .entry))) ⌝ }
 {
-    match joftaki::pair(plan, n, t, s, z, through, work) {
+    match pair::pair(plan, n, t, s, z, through, work) {
         PairAnswer::Counted(h, c) => {
             *hops = h;
             *count = c;
@@ -126,7 +127,7 @@ pub extern "C" fn joftaki_loads(
 ) -> u32
     ensures { λ r. ⌜ answered r (loadBuffers (now (pairs .exit)) (now (sums .exit)) (now (work .exit))) ≡ loads (now (plan .entry)) n t (loadBuffers (now (pairs .entry)) (now (sums .entry)) (now (work .entry))) ⌝ }
 {
-    match joftaki::loads(plan, n, t, pairs, sums, work) {
+    match loads::loads(plan, n, t, pairs, sums, work) {
         LoadsAnswer::Loaded => 0,
         LoadsAnswer::Refused(fault) => fault_code(fault),
     }
@@ -143,7 +144,7 @@ pub extern "C" fn joftaki_busiest(
 ) -> u32
     ensures { λ r. ⌜ BusiestSlot (now (plan .entry)) n t (now (work .entry)) (now (work .exit)) r (now (station .exit)) ⌝ }
 {
-    match joftaki::busiest(plan, n, t, work) {
+    match loads::busiest(plan, n, t, work) {
         BusiestAnswer::Station(v) => {
             *station = v;
             0

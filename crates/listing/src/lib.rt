@@ -28,7 +28,7 @@ fn clear_area(work: &mut [u64], n: usize, t: usize)
     requires { ⌜ (workSize n t ≤ length (now work)) × (t ≤ 255) ⌝ }
     ensures { λ _. ⌜ now (work .exit) ≡ over (replicate (workSize n t) 0) (now (work .entry)) ⌝ }
 {
-    calls::clear(work, 4 * (n * (t + 1)));
+    memory::clear(work, 4 * (n * (t + 1)));
 }
 
 // First way once 1 to 8 are excluded: the first path of the list, or none where it is empty.

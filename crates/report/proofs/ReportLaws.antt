@@ -35,10 +35,10 @@ use Rattle.plan.specs.declared.CallFault.the-variants as call-fault
 use Rattle.plan.specs.declared.Fault.{Fault}
 use Rattle.plan.specs.declared.Fault.the-variants as fault
 use Rattle.plan.proofs.Answers.{number-positive}
-use Rattle.joftaki.specs.Answer.{loadBuffers, loadsNumber, loadsOutcome}
-use Rattle.joftaki.specs.declared.LoadsAnswer.{LoadsAnswer}
-use Rattle.joftaki.specs.declared.LoadsAnswer.the-variants as loads-answer
-use Rattle.joftaki.proofs.LoadLaws.{loads-works}
+use Rattle.loads.specs.Answer.{loadBuffers, loadsNumber, loadsOutcome}
+use Rattle.loads.specs.declared.LoadsAnswer.{LoadsAnswer}
+use Rattle.loads.specs.declared.LoadsAnswer.the-variants as loads-answer
+use Rattle.loads.proofs.LoadLaws.{loads-works}
 use Rattle.text.specs.Written as text
 use Rattle.text.specs.Decimal.{decimal}
 use Rattle.text.proofs.DecimalLaws.{decimal-short, decimal-most}

@@ -3,11 +3,11 @@ ghost use mathlib.Core.Path.{_≡_};
 ghost use Prim.Native.Nat.{_+_, _*_, _<_, _≤_, max};
 ghost use lib.ListN.{length};
 ghost use Rattle.text.specs.Written.{Put};
-ghost use Rattle.joftaki.specs.Answer.{loadBuffers};
+ghost use Rattle.loads.specs.Answer.{loadBuffers};
 ghost use Rattle.report.specs.Sizes.{topStation, inputStations, inputSlots, wrongInput, overLimits};
 ghost use Rattle.report.specs.Report.{field, heading, line, refusalText, Reported};
 ghost use Rattle.report.specs.Work.{linesOf, tableOf, Printable, Within};
-use joftaki::LoadsAnswer;
+use loads::LoadsAnswer;
 
 // The larger of two numbers.
 fn larger(a: usize, b: usize) -> usize
@@ -149,7 +149,7 @@ fn report_within(
     requires { ⌜ Within (now input) n t (now out) (now pairs) (now sums) (now work) ⌝ }
     ensures { λ r. ⌜ Reported (now (input .entry)) (now (out .entry)) (loadBuffers (now (pairs .entry)) (now (sums .entry)) (now (work .entry))) r (now (out .exit)) (loadBuffers (now (pairs .exit)) (now (sums .exit)) (now (work .exit))) ⌝ }
 {
-    let LoadsAnswer::Refused(fault) = joftaki::loads(input, n, t, pairs, sums, work) else {
+    let LoadsAnswer::Refused(fault) = loads::loads(input, n, t, pairs, sums, work) else {
         return put_table(out, n, t, input.len() / 6, pairs, sums);
     };
     put_refusal(out, 0, plan::fault_number(fault) as u64)

@@ -8,53 +8,23 @@ use mathlib.Core.Logic.{by-cases}
 use native.Mathlib.Omega.{arith}
 use native.Mathlib.Decide.{ℕ-discrete}
 use native.Mathlib.Nat.{mul-le-mul}
-use lib.ListN.{length, getD, drop, set, length-set}
-use lib.Seq.{getD-set-same, getD-set-other, drop-set-lt}
+use lib.ListN.{length, getD, drop}
 use Rattle.temporal.specs.Lists.{below}
 use Rattle.temporal.specs.Bytes.{planOf}
 use Rattle.temporal.specs.Cause.{tooMany, tooManyAnywhere}
 use Rattle.temporal.specs.Outcome.{workSize}
 use Rattle.temporal.proofs.Accepted.{accepted}
 use Rattle.temporal.proofs.ListLaws.{any-true, any-false, mem-below}
+use Rattle.memory.specs.Fill.{filled}
+use Rattle.memory.proofs.FillLaws.{filled-length, filled-at, filled-beyond}
 use Rattle.pass.specs.Passed.{areaSize}
 use Rattle.tallies.specs.Tally.{blockOf, tallyBase, Tallyable, Tallied}
 use Rattle.tallies.specs.Progress.{pairTerm, loadTerm, Entry, Kept}
-use Rattle.tallies.specs.Sources.{Cleared, SourceReady, SourceDone, AllReady}
+use Rattle.tallies.specs.Sources.{SourceReady, SourceDone, AllReady}
 use Rattle.tallies.proofs.TermLaws.{partly-none, pairs-partly, load-partly}
 use Rattle.tallies.proofs.StateLaws.{kept-over, kept-same}
 use Rattle.tallies.proofs.BlockLaws.{later-drop}
 use Rattle.tallies.proofs.Sizes.{base-fits}
-
--- ---- clearing
-
--- the first i of size entries from base on are 0
-pub record Clearing (base size : ℕ) (old : List ℕ) (i : ℕ) (w : List ℕ) : Type 0 where
-  pub within : i ≤ size
-  pub zeros : (k : ℕ) → k < i → getD w (base + k) 0 ≡ 0
-  pub beyond : drop (base + size) w ≡ drop (base + size) old
-  pub same-length : length w ≡ length old
-
-pub clearing-none : (base size : ℕ) (old : List ℕ) → Clearing base size old 0 old
-clearing-none base size old =
-    record { within = omega arith; zeros = λ k h. absurd (omega arith); beyond = refl; same-length = refl }
-
-module _ (base size : ℕ) (old : List ℕ) (i : ℕ) (w : List ℕ) (f : Clearing base size old i w) where
-  pub clearing-more : base + size ≤ length old → i < size → Clearing base size old (i + 1) (set w (base + i) 0)
-  clearing-more fits h =
-      let l = f .same-length in
-      record {
-        within = omega arith;
-        zeros = λ k g.
-            by-cases (ℕ-discrete k i)
-            (λ e. rw e (getD-set-same w (base + i) 0 0 (omega arith)))
-            (λ d. getD-set-other w (base + i) (base + k) 0 0 (omega arith) ∙ f .zeros k (omega arith));
-        beyond = drop-set-lt (base + size) w (base + i) 0 (omega arith) ∙ f .beyond;
-        same-length = length-set w (base + i) 0 ∙ l;
-      }
-
-  pub clearing-all : size ≤ i → Cleared base size old w
-  clearing-all h =
-      record { zeros = λ k g. f .zeros k (omega arith); beyond = f .beyond; same-length = f .same-length }
 
 -- ---- the sizes
 
@@ -66,11 +36,11 @@ rows-few n k block h e =
     omega (arith, mul-le-mul twice most)
 
 -- the block and the base that are computed are those that are named
-pub all-ready : (bs : List ℕ) (n t block : ℕ) (w : List ℕ) → Tallyable bs n t w → block ≡ min n (2 * t - 1)
-    → AllReady bs n t (4 * n + 2 * n * block) block w
-unfolding blockOf tallyBase
-all-ready bs n t block w asked e =
-    record { asked = asked; block-there = e; base-there = ap (areaSize n) e }
+pub all-ready : (bs : List ℕ) (n t base block : ℕ) (w : List ℕ) → Tallyable bs n t w → block ≡ min n (2 * t - 1)
+    → base ≡ tallyBase n t
+    → AllReady bs n t base block w
+unfolding blockOf
+all-ready bs n t base block w asked e f = record { asked = asked; block-there = e; base-there = f }
 
 -- ---- the loop over sources
 
@@ -81,23 +51,6 @@ pub record Summing (bs : List ℕ) (n t base : ℕ) (old : List ℕ) (s : ℕ) (
   pub summed : (v : ℕ) → v < n → Entry (planOf bs n t) n base s v 0 w
   pub kept : Kept n base old w
 
--- cleared tallies hold the sums over no source
-pub summing-none : (bs : List ℕ) (n t base : ℕ) (old w : List ℕ) → Cleared base (2 * n) old w → Summing bs n t base w 0 w
-summing-none bs n t base old w c =
-    let p = planOf bs n t in
-    record {
-      within = omega arith;
-      few = λ a h. absurd (omega arith);
-      summed = λ v h.
-          record {
-            pairs-there = c .zeros v (omega arith) ∙ sym (partly-none (pairTerm p v) n);
-            load-there =
-                let place : base + n + v ≡ base + (n + v) = omega arith in
-                rw place (c .zeros (n + v) (omega arith)) ∙ sym (partly-none (loadTerm p v) n);
-          };
-      kept = kept-same n base w;
-    }
-
 module _ (bs : List ℕ) (n t base block : ℕ) (old : List ℕ) (pre : AllReady bs n t base block old) where
   pub all-room : base + 2 * n ≤ length old
   all-room =
@@ -106,17 +59,37 @@ module _ (bs : List ℕ) (n t base block : ℕ) (old : List ℕ) (pre : AllReady
       let f = pre .asked .fits in
       omega (arith, base-fits n t (a .some-slot))
 
-  pub all-cleared : (w : List ℕ) → Cleared base (2 * n) old w → AllReady bs n t base block w
-  all-cleared w c =
+  pub all-cleared : (w : List ℕ) → w ≡ filled old base (2 * n) 0 → AllReady bs n t base block w
+  all-cleared w e =
       record {
         asked =
             record {
               accepted = pre .asked .accepted;
-              fits = let f = pre .asked .fits in let l = c .same-length in omega arith;
+              fits = let f = pre .asked .fits in omega (arith, ap length e, filled-length old base (2 * n) 0);
             };
         block-there = pre .block-there;
         base-there = pre .base-there;
       }
+
+  -- cleared tallies hold the sums over no source
+  pub summing-none : (w : List ℕ) → w ≡ filled old base (2 * n) 0 → Summing bs n t base w 0 w
+  summing-none w e =
+      let p = planOf bs n t in
+      record {
+        within = omega arith;
+        few = λ a h. absurd (omega arith);
+        summed = λ v h.
+            record {
+              pairs-there = zero-at v (omega arith) ∙ sym (partly-none (pairTerm p v) n);
+              load-there =
+                  let place : base + n + v ≡ base + (n + v) = omega arith in
+                  rw place (zero-at (n + v) (omega arith)) ∙ sym (partly-none (loadTerm p v) n);
+            };
+        kept = kept-same n base w;
+      }
+    where
+      zero-at : (i : ℕ) → i < 2 * n → getD w (base + i) 0 ≡ 0
+      zero-at i h = ap (λ l. getD l (base + i) 0) e ∙ filled-at old base (2 * n) 0 i h all-room
 
   kept-work : (w : List ℕ) → Kept n base old w → drop (workSize n t) w ≡ drop (workSize n t) old
   kept-work w k =
@@ -183,13 +156,21 @@ module _ (bs : List ℕ) (n t base block : ℕ) (old : List ℕ) (pre : AllReady
         }
 
   -- what is promised of the cleared list is promised of the list before
-  pub tallied-cleared : (w x : List ℕ) (r : Bool) → Cleared base (2 * n) old w → Tallied bs n t w x r
-      → Tallied bs n t old x r
-  tallied-cleared w x r c d =
+  pub tallied-cleared :
+      (w x : List ℕ) (r : Bool) → w ≡ filled old base (2 * n) 0 → Tallied bs n t w x r → Tallied bs n t old x r
+  tallied-cleared w x r e d =
+      let same = ap length e ∙ filled-length old base (2 * n) 0 in
       record {
         too-many = d .too-many;
         station-pairs = d .station-pairs;
         station-loads = d .station-loads;
-        beyond = d .beyond ∙ kept-work w (record { beyond = c .beyond; same-length = c .same-length });
-        same-length = d .same-length ∙ c .same-length;
+        beyond =
+            d .beyond ∙
+            kept-work w
+            (record {
+              beyond =
+                  ap (drop (base + 2 * n)) e ∙ filled-beyond old base (2 * n) 0 (base + 2 * n) (omega arith);
+              same-length = same;
+            });
+        same-length = d .same-length ∙ same;
       }

@@ -5,17 +5,10 @@ use Prim.Native.Nat.{ℕ, _+_, _<_, _≤_}
 use mathlib.Core.Path.{_≡_}
 use mathlib.Core.Bool.{Bool, false}
 use mathlib.Core.List.{List}
-use lib.ListN.{length, getD, drop}
 use Rattle.temporal.specs.Bytes.{planOf}
 use Rattle.temporal.specs.Cause.{planFault, tooMany}
 use Rattle.tallies.specs.Tally.{blockOf, tallyBase, Tallyable}
 use Rattle.tallies.specs.Progress.{Entry, State, Room, Kept}
-
--- as many entries as size says, from base on, are 0, and the entries behind them are as they were
-pub record Cleared (base size : ℕ) (old new : List ℕ) : Type 0 where
-  pub zeros : (i : ℕ) → i < size → getD new (base + i) 0 ≡ 0
-  pub beyond : drop (base + size) new ≡ drop (base + size) old
-  pub same-length : length new ≡ length old
 
 -- what a block asks: an accepted plan, a source and a block in it, and the stations before the block done
 pub record BlockReady (bs : List ℕ) (n t base s low block : ℕ) (work : List ℕ) : Type 0 where

@@ -3,9 +3,9 @@
 ghost use mathlib.Core.Path.{_≡_};
 ghost use Prim.Native.Nat.{_+_, _*_, _<_, _≤_, min};
 ghost use lib.ListN.{length};
-ghost use Rattle.tallies.specs.Tally.{Tallyable, Tallied};
+ghost use Rattle.tallies.specs.Tally.{tallyBase, Tallyable, Tallied};
 ghost use Rattle.tallies.specs.Progress.{addedAt, Addable, Workable, Advanced};
-ghost use Rattle.tallies.specs.Sources.{Cleared, BlockReady, BlockDone, SourceReady, SourceDone, AllReady};
+ghost use Rattle.tallies.specs.Sources.{BlockReady, BlockDone, SourceReady, SourceDone, AllReady};
 
 // The smaller of two numbers.
 fn smaller(a: usize, b: usize) -> usize
@@ -15,18 +15,6 @@ fn smaller(a: usize, b: usize) -> usize
         return a;
     }
     b
-}
-
-// Clears neighbouring entries.
-fn clear(work: &mut [u64], base: usize, size: usize)
-    requires { ⌜ base + size ≤ length (now work) ⌝ }
-    ensures { λ _. ⌜ Cleared base size (now (work .entry)) (now (work .exit)) ⌝ }
-{
-    let mut i = 0;
-    while i < size {
-        work[base + i] = 0;
-        i += 1;
-    }
 }
 
 // Adds the pair of the source worked on and z to station low + j, with its share, where some of its paths have it inside.
@@ -145,7 +133,7 @@ fn tally_sources(
     requires { ⌜ AllReady (now plan) n t base block (now work) ⌝ }
     ensures { λ r. ⌜ Tallied (now (plan .entry)) n t (now (work .entry)) (now (work .exit)) r ⌝ }
 {
-    clear(work, base, 2 * n);
+    memory::fill_part(work, base, 2 * n, 0);
     let mut source = 0;
     while source < n {
         if tally_source(work, plan, n, t, base, block, source) {
@@ -156,12 +144,21 @@ fn tally_sources(
     false
 }
 
+// Where the tallies begin in the work area.
+pub fn base_of(n: usize, t: usize) -> usize
+    requires { ⌜ (n ≤ 256) × (0 < t) × (t ≤ 255) ⌝ }
+    ensures { λ r. ⌜ r ≡ tallyBase n t ⌝ }
+{
+    let block = smaller(n, 2 * t - 1);
+    4 * n + 2 * n * block
+}
+
 // Adds up the pairs and the load of every station over all sources. True where a count is over 2^64 - 1.
 pub fn tally(work: &mut [u64], plan: &[u8], n: usize, t: usize) -> bool
     requires { ⌜ Tallyable (now plan) n t (now work) ⌝ }
     ensures { λ r. ⌜ Tallied (now (plan .entry)) n t (now (work .entry)) (now (work .exit)) r ⌝ }
 {
     let block = smaller(n, 2 * t - 1);
-    let base = 4 * n + 2 * n * block;
+    let base = base_of(n, t);
     tally_sources(work, plan, n, t, base, block)
 }

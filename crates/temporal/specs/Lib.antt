@@ -13,5 +13,3 @@ pub mod Cursor
 pub mod FirstNext
 pub mod Trace
 pub mod TraceGiven
-pub mod Examples
-pub mod ExamplesTable

@@ -5,7 +5,6 @@ mod FewestLaws
 mod AheadLaws
 mod ColumnLaws
 mod PassLaws
-mod LoopLaws
 -- the order of lists, searches, buffers, and what the code's tests decide
 mod OrderLaws
 mod SearchLaws

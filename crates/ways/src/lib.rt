@@ -3,7 +3,7 @@
 ghost use mathlib.Core.Path.{_≡_};
 ghost use mathlib.Core.List.{[]};
 ghost use Prim.Native.Nat.{ℕ, _+_, _-_, _*_, _<_, _≤_};
-ghost use lib.ListN.{length, getD, set, take, replicate};
+ghost use lib.ListN.{length, getD, set, take};
 ghost use Rattle.temporal.specs.Plan.{start};
 ghost use Rattle.temporal.specs.Walk.{step};
 ghost use Rattle.temporal.specs.Bytes.{contactAt, records, planOf};
@@ -112,24 +112,12 @@ fn copy_column(work: &mut [u64], n: usize, width: usize, u: usize)
     }
 }
 
-// Writes one number to the first k entries.
-fn fill(table: &mut [u64], k: usize, x: u64)
-    requires { ⌜ k ≤ length (now table) ⌝ }
-    ensures { λ _. ⌜ now (table .exit) ≡ over (replicate k x) (now (table .entry)) ⌝ }
-{
-    let mut i = 0;
-    while i < k {
-        table[i] = x;
-        i += 1;
-    }
-}
-
 // Clears the table, and puts the empty walk of the destination into the last slot.
 fn begin_back(work: &mut [u64], n: usize, width: usize, t: usize, z: usize)
     requires { ⌜ (n * width ≤ length (now work)) × (t < width) × (z < n) ⌝ }
     ensures { λ _. ⌜ now (work .exit) ≡ begunBack n width t z (now (work .entry)) ⌝ }
 {
-    fill(work, n * width, 65535);
+    memory::fill64(work, n * width, 65535);
     let home = z * width + t;
     work[home] = 0;
 }

@@ -2,7 +2,7 @@
 -- Assumes nothing.
 use native.Mathlib.Omega.{arith}
 use Rattle.temporal.proofs.Accepted.{accepted}
-use Rattle.tallies.proofs.SourceLaws.{rows-few, all-ready}
+use Rattle.tallies.proofs.SourceLaws.{all-ready}
 use borrow.Author.Needs.{needs}
 use Rattle.tallies.proofs.tally.Statement.{statement}
 use Rattle.tallies.proofs.tally.Tie as tie
@@ -16,24 +16,12 @@ sub-smaller c = let a = accepted _ _ _ (c .before .before .pre .accepted) in ome
 smaller-requires : tie.Need-smaller-requires
 smaller-requires c κs = search needs
 
-mul-base : tie.Need-mul-base
-mul-base c = search needs
-
-mul-base-2 : tie.Need-mul-base-2
-mul-base-2 c = search needs
-
-mul-base-3 : tie.Need-mul-base-3
-mul-base-3 c =
-    let a = accepted _ _ _ (c .before .before .before .pre .accepted) in
-    omega (arith, rows-few _ _ _ (a .stations) (c .smaller .ensures))
-
-add-base : tie.Need-add-base
-add-base c =
-    let a = accepted _ _ _ (c .before .before .before .pre .accepted) in
-    omega (arith, rows-few _ _ _ (a .stations) (c .smaller .ensures))
+base-of-requires : tie.Need-base-of-requires
+base-of-requires c κs = let a = accepted _ _ _ (c .before .before .before .pre .accepted) in search needs
 
 tally-sources-requires : tie.Need-tally-sources-requires
-tally-sources-requires c κs = all-ready _ _ _ _ _ (c .before .before .before .before .pre) (c .before .smaller .ensures)
+tally-sources-requires c κs =
+    all-ready _ _ _ _ _ _ (c .before .before .before .before .before .pre) (c .before .before .smaller .ensures) (c .before .base-of .ensures)
 
 same-length : tie.Need-same-length
 same-length c = search needs
@@ -48,10 +36,7 @@ tally-spec =
     mul-smaller
     sub-smaller
     smaller-requires
-    mul-base
-    mul-base-2
-    mul-base-3
-    add-base
+    base-of-requires
     tally-sources-requires
     same-length
     returns)

@@ -16,27 +16,27 @@ Inv-loop work₀ plan n t base block source₀ work source = Summing plan n t ba
 abbrev μ-loop : tie.MeasureT-loop
 μ-loop work₀ plan n t base block source₀ work source = n - source
 
-mul-clear : tie.Need-mul-clear Inv-loop μ-loop
-mul-clear c = omega (arith, accepted _ _ _ (c .before .before .before .pre .asked .accepted) .stations)
+mul-fill-part : tie.Need-mul-fill-part Inv-loop μ-loop
+mul-fill-part c = omega (arith, accepted _ _ _ (c .before .before .before .pre .asked .accepted) .stations)
 
-clear-requires : tie.Need-clear-requires Inv-loop μ-loop
-clear-requires c κs = all-room _ _ _ _ _ _ (c .before .before .before .pre)
+fill-part-requires : tie.Need-fill-part-requires Inv-loop μ-loop
+fill-part-requires c κs = all-room _ _ _ _ _ _ (c .before .before .before .pre)
 
 loop-holds : tie.Need-loop-holds Inv-loop μ-loop
-loop-holds c = summing-none _ _ _ _ _ _ (c .before .before .clear .ensures)
+loop-holds c = summing-none _ _ _ _ _ _ (c .before .before .before .before .before .before .pre) _ (c .before .before .fill-part .ensures)
 
 tally-source-requires : tie.Need-tally-source-requires Inv-loop μ-loop
 tally-source-requires c κs =
-    let pre = all-cleared _ _ _ _ _ _ (c .before .before .before .before .before .before .before .before .before .pre) _ (c .before .before .before .before .before .clear .ensures) in
+    let pre = all-cleared _ _ _ _ _ _ (c .before .before .before .before .before .before .before .before .before .pre) _ (c .before .before .before .before .before .fill-part .ensures) in
     summing-ready _ _ _ _ _ _ pre _ _ (c .before .before .loop .inv) (c .before .loop-test .taken)
 
 same-length : tie.Need-same-length Inv-loop μ-loop
-same-length c = c .before .before .before .tally-source .kept .0 ∙ c .before .before .before .before .before .before .loop .inv .kept .same-length ∙ c .before .before .before .before .before .before .before .before .before .clear .kept .0
+same-length c = c .before .before .before .tally-source .kept .0 ∙ c .before .before .before .before .before .before .loop .inv .kept .same-length ∙ c .before .before .before .before .before .before .before .before .before .fill-part .kept .0
 
 returns : tie.Need-returns Inv-loop μ-loop
 returns c =
-    let pre = all-cleared _ _ _ _ _ _ (c .before .before .before .before .before .before .before .before .before .before .before .before .before .pre) _ (c .before .before .before .before .before .before .before .before .before .clear .ensures) in
-    tallied-cleared _ _ _ _ _ _ (c .before .before .before .before .before .before .before .before .before .before .before .before .before .pre) _ _ _ (c .before .before .before .before .before .before .before .before .before .clear .ensures)
+    let pre = all-cleared _ _ _ _ _ _ (c .before .before .before .before .before .before .before .before .before .before .before .before .before .pre) _ (c .before .before .before .before .before .before .before .before .before .fill-part .ensures) in
+    tallied-cleared _ _ _ _ _ _ (c .before .before .before .before .before .before .before .before .before .before .before .before .before .pre) _ _ _ (c .before .before .before .before .before .before .before .before .before .fill-part .ensures)
     (summing-over _ _ _ _ _ _ pre _ _ (c .before .before .before .before .before .before .loop .inv) (c .before .before .before .before .before .loop-test .taken) _
     (rw (c .if1 .taken) at (c .before .before .before .tally-source .ensures)))
 
@@ -48,17 +48,17 @@ loop-less c = omega arith
 
 loop-again : tie.Need-loop-again Inv-loop μ-loop
 loop-again c =
-    let pre = all-cleared _ _ _ _ _ _ (c .before .before .before .before .before .before .before .before .before .before .before .before .before .pre) _ (c .before .before .before .before .before .before .before .before .before .clear .ensures) in
+    let pre = all-cleared _ _ _ _ _ _ (c .before .before .before .before .before .before .before .before .before .before .before .before .before .pre) _ (c .before .before .before .before .before .before .before .before .before .fill-part .ensures) in
     summing-more _ _ _ _ _ _ pre _ _ (c .before .before .before .before .before .before .loop .inv) (c .before .before .before .before .before .loop-test .taken) _
     (rw (c .if1 .left) at (c .before .before .before .tally-source .ensures))
 
 same-length-2 : tie.Need-same-length-2 Inv-loop μ-loop
-same-length-2 c = c .before .loop .inv .kept .same-length ∙ c .before .before .before .before .clear .kept .0
+same-length-2 c = c .before .loop .inv .kept .same-length ∙ c .before .before .before .before .fill-part .kept .0
 
 returns-2 : tie.Need-returns-2 Inv-loop μ-loop
 returns-2 c =
-    let pre = all-cleared _ _ _ _ _ _ (c .before .before .before .before .before .before .before .before .pre) _ (c .before .before .before .before .clear .ensures) in
-    tallied-cleared _ _ _ _ _ _ (c .before .before .before .before .before .before .before .before .pre) _ _ _ (c .before .before .before .before .clear .ensures)
+    let pre = all-cleared _ _ _ _ _ _ (c .before .before .before .before .before .before .before .before .pre) _ (c .before .before .before .before .fill-part .ensures) in
+    tallied-cleared _ _ _ _ _ _ (c .before .before .before .before .before .before .before .before .pre) _ _ _ (c .before .before .before .before .fill-part .ensures)
     (summing-all _ _ _ _ _ _ pre _ _ (c .before .loop .inv) (omega arith))
 
 pub tally-sources-spec : {M : Type 1} → statement M
@@ -67,8 +67,8 @@ tally-sources-spec =
     (tie.spec
     Inv-loop
     μ-loop
-    mul-clear
-    clear-requires
+    mul-fill-part
+    fill-part-requires
     loop-holds
     tally-source-requires
     same-length

@@ -1,0 +1,37 @@
+-- `loads::busiest_accepted` meets its contract: the test of the length decides 8.
+-- Assumes nothing.
+use native.Mathlib.Omega.{arith}
+use lib.Dec.{lit<}
+use Rattle.temporal.proofs.Accepted.{accepted}
+use Rattle.calls.proofs.PlaceLaws.{few-places}
+use Rattle.loads.proofs.LoadLaws.{busiest-short, given-refused}
+use borrow.Author.Needs.{needs}
+use Rattle.loads.proofs.busiest_accepted.Statement.{statement}
+use Rattle.loads.proofs.busiest_accepted.Tie as tie
+
+add-if1 : tie.Need-add-if1
+add-if1 c = omega (arith, accepted _ _ _ (c .before .before .pre) .slots)
+
+mul-if1 : tie.Need-mul-if1
+mul-if1 c = let a = accepted _ _ _ (c .before .before .pre) in omega (arith, few-places _ _ (a .stations) (a .slots))
+
+mul-if1-2 : tie.Need-mul-if1-2
+mul-if1-2 c = let a = accepted _ _ _ (c .before .before .pre) in omega (arith, few-places _ _ (a .stations) (a .slots))
+
+returns : tie.Need-returns
+returns c =
+    record { outcome = busiest-short _ _ _ _ (c .before .before .before .pre) (omega arith); station = given-refused _ _ _ 8 (lit< tt) }
+
+busiest-work-requires : tie.Need-busiest-work-requires
+busiest-work-requires c κs = search needs
+
+same-length : tie.Need-same-length
+same-length c = search needs
+
+returns-2 : tie.Need-returns-2
+returns-2 c = search needs
+
+pub busiest-accepted-spec : {M : Type 1} → statement M
+busiest-accepted-spec =
+    tie.close
+    (tie.spec add-if1 mul-if1 mul-if1-2 returns busiest-work-requires same-length returns-2)

@@ -1,0 +1,31 @@
+-- The place of the largest of some entries, and what loads and busiest ask once 1 to 8 are excluded. Definitions only.
+-- Assumes nothing.
+use Prim.Native.Nat.{ℕ, _+_, _<_, _≤_}
+use mathlib.Core.Path.{_≡_}
+use mathlib.Core.Bool.{cond}
+use mathlib.Core.List.{List}
+use lib.Dec.{ltb}
+use lib.ListN.{length, getD}
+use Rattle.temporal.specs.Cause.{planFault}
+use Rattle.temporal.specs.Outcome.{workSize}
+
+-- of two places from a place on, the second where it holds the larger number
+unfoldable pub betterOf : List ℕ → ℕ → ℕ → ℕ → ℕ
+betterOf l from best u = cond (ltb (getD l (from + best) 0) (getD l (from + u) 0)) u best
+
+-- r is one of the k places from a place on, and no other holds a larger number
+pub record Largest (l : List ℕ) (from k r : ℕ) : Type 0 where
+  pub within : r < k
+  pub largest : (u : ℕ) → u < k → getD l (from + u) 0 ≤ getD l (from + r) 0
+
+-- what loads asks once 1 to 8 are excluded
+pub record LoadsReady (bs : List ℕ) (n t : ℕ) (pairTable loadTable work : List ℕ) : Type 0 where
+  pub accepted : planFault bs n t ≡ 0
+  pub pairs-room : n ≤ length pairTable
+  pub loads-room : n ≤ length loadTable
+  pub area : workSize n t ≤ length work
+
+-- what busiest asks once 1 to 8 are excluded
+pub record BusiestReady (bs : List ℕ) (n t : ℕ) (work : List ℕ) : Type 0 where
+  pub accepted : planFault bs n t ≡ 0
+  pub area : workSize n t ≤ length work

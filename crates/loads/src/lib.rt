@@ -1,0 +1,153 @@
+// Operations 5 and 6, loads and busiest, over the tallies.
+ghost use mathlib.Core.Path.{_≡_};
+ghost use Prim.Native.Nat.{_+_, _<_, _≤_};
+ghost use lib.ListN.{length};
+ghost use Rattle.temporal.specs.Bytes.{planOf};
+ghost use Rattle.temporal.specs.Cause.{planFault};
+ghost use Rattle.temporal.specs.OutcomePair.{loaded, loads};
+ghost use Rattle.loads.specs.Answer.{loadsOutcome, loadBuffers, BusiestIs};
+ghost use Rattle.loads.specs.Largest.{betterOf, Largest, LoadsReady, BusiestReady};
+use plan::CallFault;
+use plan::CheckAnswer;
+use plan::Fault;
+
+// What loads answers.
+pub enum LoadsAnswer {
+    Loaded,
+    Refused(Fault),
+}
+
+// What busiest answers.
+pub enum BusiestAnswer {
+    Station(usize),
+    Refused(Fault),
+}
+
+// Of two places from a place on, the second where it holds the larger number, else the first.
+fn better(list: &[u64], from: usize, best: usize, u: usize) -> usize
+    requires { ⌜ (from + best < length (now list)) × (from + u < length (now list)) ⌝ }
+    ensures { λ r. ⌜ r ≡ betterOf (now (list .entry)) from best u ⌝ }
+{
+    let top = from + best;
+    let at = from + u;
+    if list[top] < list[at] {
+        return u;
+    }
+    best
+}
+
+// The lowest of the k places, from a place on, that hold the largest number.
+fn largest(list: &[u64], from: usize, k: usize) -> usize
+    requires { ⌜ (0 < k) × (from + k ≤ length (now list)) ⌝ }
+    ensures { λ r. ⌜ Largest (now (list .entry)) from k r ⌝ }
+{
+    let mut best = 0;
+    let mut u = 1;
+    while u < k {
+        best = better(list, from, best, u);
+        u += 1;
+    }
+    best
+}
+
+// Loads once 1 to 8 are excluded.
+fn loads_work(
+    pairs: &mut [u64],
+    sums: &mut [u64],
+    work: &mut [u64],
+    plan: &[u8],
+    n: usize,
+    t: usize,
+) -> LoadsAnswer
+    requires { ⌜ LoadsReady (now plan) n t (now pairs) (now sums) (now work) ⌝ }
+    ensures { λ r. ⌜ loadsOutcome r (loadBuffers (now (pairs .exit)) (now (sums .exit)) (now (work .exit))) ≡ loaded (planOf (now (plan .entry)) n t) (loadBuffers (now (pairs .entry)) (now (sums .entry)) (now (work .entry))) ⌝ }
+{
+    if tallies::tally(work, plan, n, t) {
+        memory::clear(pairs, n);
+        memory::clear(sums, n);
+        memory::clear(work, 4 * (n * (t + 1)));
+        return LoadsAnswer::Refused(Fault::Call(CallFault::TooMany));
+    }
+    let base = tallies::base_of(n, t);
+    memory::copy(pairs, work, base, n);
+    memory::copy(sums, work, base + n, n);
+    memory::clear(work, 4 * (n * (t + 1)));
+    LoadsAnswer::Loaded
+}
+
+// Loads on an accepted plan: 8, then the work.
+fn loads_accepted(
+    pairs: &mut [u64],
+    sums: &mut [u64],
+    work: &mut [u64],
+    plan: &[u8],
+    n: usize,
+    t: usize,
+) -> LoadsAnswer
+    requires { ⌜ planFault (now plan) n t ≡ 0 ⌝ }
+    ensures { λ r. ⌜ loadsOutcome r (loadBuffers (now (pairs .exit)) (now (sums .exit)) (now (work .exit))) ≡ loads (now (plan .entry)) n t (loadBuffers (now (pairs .entry)) (now (sums .entry)) (now (work .entry))) ⌝ }
+{
+    if pairs.len() < n {
+        return LoadsAnswer::Refused(Fault::Call(CallFault::Short));
+    }
+    if sums.len() < n {
+        return LoadsAnswer::Refused(Fault::Call(CallFault::Short));
+    }
+    if work.len() < 4 * (n * (t + 1)) {
+        return LoadsAnswer::Refused(Fault::Call(CallFault::Short));
+    }
+    loads_work(pairs, sums, work, plan, n, t)
+}
+
+// Operation 5, loads: for each station its pairs and its load, in units of 1 / 2^32.
+pub fn loads(
+    plan: &[u8],
+    n: usize,
+    t: usize,
+    pairs: &mut [u64],
+    sums: &mut [u64],
+    work: &mut [u64],
+) -> LoadsAnswer
+    ensures { λ r. ⌜ loadsOutcome r (loadBuffers (now (pairs .exit)) (now (sums .exit)) (now (work .exit))) ≡ loads (now (plan .entry)) n t (loadBuffers (now (pairs .entry)) (now (sums .entry)) (now (work .entry))) ⌝ }
+{
+    let CheckAnswer::Refused(fault) = plan::check(plan, n, t) else {
+        return loads_accepted(pairs, sums, work, plan, n, t);
+    };
+    LoadsAnswer::Refused(Fault::Plan(fault))
+}
+
+// Busiest once 1 to 8 are excluded.
+fn busiest_work(work: &mut [u64], plan: &[u8], n: usize, t: usize) -> BusiestAnswer
+    requires { ⌜ BusiestReady (now plan) n t (now work) ⌝ }
+    ensures { λ r. ⌜ BusiestIs (now (plan .entry)) n t (now (work .entry)) (now (work .exit)) r ⌝ }
+{
+    if tallies::tally(work, plan, n, t) {
+        memory::clear(work, 4 * (n * (t + 1)));
+        return BusiestAnswer::Refused(Fault::Call(CallFault::TooMany));
+    }
+    let base = tallies::base_of(n, t);
+    let v = largest(work, base + n, n);
+    memory::clear(work, 4 * (n * (t + 1)));
+    BusiestAnswer::Station(v)
+}
+
+// Busiest on an accepted plan: 8, then the work.
+fn busiest_accepted(work: &mut [u64], plan: &[u8], n: usize, t: usize) -> BusiestAnswer
+    requires { ⌜ planFault (now plan) n t ≡ 0 ⌝ }
+    ensures { λ r. ⌜ BusiestIs (now (plan .entry)) n t (now (work .entry)) (now (work .exit)) r ⌝ }
+{
+    if work.len() < 4 * (n * (t + 1)) {
+        return BusiestAnswer::Refused(Fault::Call(CallFault::Short));
+    }
+    busiest_work(work, plan, n, t)
+}
+
+// Operation 6, busiest: a station whose load no other exceeds.
+pub fn busiest(plan: &[u8], n: usize, t: usize, work: &mut [u64]) -> BusiestAnswer
+    ensures { λ r. ⌜ BusiestIs (now (plan .entry)) n t (now (work .entry)) (now (work .exit)) r ⌝ }
+{
+    let CheckAnswer::Refused(fault) = plan::check(plan, n, t) else {
+        return busiest_accepted(work, plan, n, t);
+    };
+    BusiestAnswer::Refused(Fault::Plan(fault))
+}

@@ -1,0 +1,152 @@
+// Operation 4, pair, over the pass.
+ghost use mathlib.Core.Path.{_≡_};
+ghost use Prim.Native.Nat.{min};
+ghost use Rattle.temporal.specs.Bytes.{planOf};
+ghost use Rattle.temporal.specs.Cause.{planFault};
+ghost use Rattle.temporal.specs.OutcomePair.{paired, pair};
+ghost use Rattle.pair.specs.Answer.{pairOutcome, pairBuffers};
+ghost use Rattle.pair.specs.Throughs.{
+  throughEntry,
+  Storable,
+  Storing,
+  StoredBlock,
+  PairReady,
+  Throughs,
+};
+use calls::CallCheck;
+use plan::CallFault;
+use plan::CheckAnswer;
+use plan::Fault;
+
+// What pair answers.
+pub enum PairAnswer {
+    Counted(u64, u64),
+    Refused(Fault),
+}
+
+// The lesser of two numbers.
+fn least(a: usize, b: usize) -> usize
+    ensures { λ r. ⌜ r ≡ min a b ⌝ }
+{
+    if a < b {
+        return a;
+    }
+    b
+}
+
+// The through count of the station at j of a block, to the destination z.
+fn through_at(work: &[u64], n: usize, z: usize, low: usize, block: usize, j: usize) -> u64
+    requires { ⌜ Storable n z low block j (now work) ⌝ }
+    ensures { λ r. ⌜ r ≡ throughEntry (now (work .entry)) n z low block j ⌝ }
+{
+    if low + j == z {
+        return 0;
+    }
+    if work[z] == 65535 {
+        return 0;
+    }
+    let at = 4 * n + z * block + j;
+    work[n + z] - work[at]
+}
+
+// Stores the through counts of a block of stations.
+fn store(through: &mut [u64], work: &[u64], n: usize, z: usize, low: usize, block: usize)
+    requires { ⌜ Storing n z low block (now through) (now work) ⌝ }
+    ensures { λ _. ⌜ StoredBlock n z low block block (now (work .entry)) (now (through .entry)) (now (through .exit)) ⌝ }
+{
+    let mut j = 0;
+    while j < block {
+        let v = low + j;
+        through[v] = through_at(work, n, z, low, block, j);
+        j += 1;
+    }
+}
+
+// The through counts of a pair, block by block. True where a count is over 2^64 - 1.
+fn throughs(
+    through: &mut [u64],
+    work: &mut [u64],
+    plan: &[u8],
+    n: usize,
+    t: usize,
+    s: usize,
+    z: usize,
+) -> bool
+    requires { ⌜ PairReady (now plan) n t s z (now through) (now work) ⌝ }
+    ensures { λ r. ⌜ Throughs (now (plan .entry)) n t s z (now (through .entry)) (now (work .entry)) (now (through .exit)) (now (work .exit)) r ⌝ }
+{
+    let most = least(n, 2 * t);
+    let mut low = 0;
+    while low < n {
+        let block = least(most, n - low);
+        if pass::pass(work, plan, n, t, s, low, block) {
+            return true;
+        }
+        store(through, work, n, z, low, block);
+        low += block;
+    }
+    false
+}
+
+// Pair once 1 to 8 are excluded.
+fn pair_work(
+    through: &mut [u64],
+    work: &mut [u64],
+    plan: &[u8],
+    n: usize,
+    t: usize,
+    s: usize,
+    z: usize,
+) -> PairAnswer
+    requires { ⌜ PairReady (now plan) n t s z (now through) (now work) ⌝ }
+    ensures { λ r. ⌜ pairOutcome r (pairBuffers (now (through .exit)) (now (work .exit))) ≡ paired (planOf (now (plan .entry)) n t) s z (pairBuffers (now (through .entry)) (now (work .entry))) ⌝ }
+{
+    if throughs(through, work, plan, n, t, s, z) {
+        memory::clear(through, n);
+        memory::clear(work, 4 * (n * (t + 1)));
+        return PairAnswer::Refused(Fault::Call(CallFault::TooMany));
+    }
+    let hops = work[z];
+    let count = work[n + z];
+    memory::clear(work, 4 * (n * (t + 1)));
+    PairAnswer::Counted(hops, count)
+}
+
+// Pair on an accepted plan: 6, 7 and 8, then the work.
+fn pair_accepted(
+    through: &mut [u64],
+    work: &mut [u64],
+    plan: &[u8],
+    n: usize,
+    t: usize,
+    s: usize,
+    z: usize,
+) -> PairAnswer
+    requires { ⌜ planFault (now plan) n t ≡ 0 ⌝ }
+    ensures { λ r. ⌜ pairOutcome r (pairBuffers (now (through .exit)) (now (work .exit))) ≡ pair (now (plan .entry)) n t s z (pairBuffers (now (through .entry)) (now (work .entry))) ⌝ }
+{
+    let CallCheck::Refused(fault) = calls::pair_call(n, t, s, z, through.len(), n, work.len())
+    else {
+        return pair_work(through, work, plan, n, t, s, z);
+    };
+    PairAnswer::Refused(Fault::Call(fault))
+}
+
+// Operation 4, pair: the hops and the count of the shortest paths from s to z, and in the table how many of them have each
+// station inside. 65535, 0 and all 0 where there is no path.
+pub fn pair(
+    plan: &[u8],
+    n: usize,
+    t: usize,
+    s: usize,
+    z: usize,
+    through: &mut [u64],
+    work: &mut [u64],
+) -> PairAnswer
+    ensures { λ r. ⌜ pairOutcome r (pairBuffers (now (through .exit)) (now (work .exit))) ≡ pair (now (plan .entry)) n t s z (pairBuffers (now (through .entry)) (now (work .entry))) ⌝ }
+{
+    let CheckAnswer::Refused(fault) = plan::check(plan, n, t) else {
+        return pair_accepted(through, work, plan, n, t, s, z);
+    };
+    PairAnswer::Refused(Fault::Plan(fault))
+}
