@@ -1,0 +1,176 @@
+-- Demand 1 holds: of each operation's contract, for every call. Assumes nothing.
+use Prim.Native.Nat.{ℕ, zero, suc, _+_, _*_}
+use native.Mathlib.Omega.{arith}
+use native.Mathlib.Nat.{pos-of-ne-zero}
+use mathlib.Core.Path.{_≡_, refl, sym, ap, subst, _∙_}
+use mathlib.Core.Bool.{Bool, true, false}
+use mathlib.Core.List.{List, [], _∷_, append-assoc}
+use mathlib.Core.Logic.{_↔_, _≢_}
+use lib.ListN.{length, take, drop, length-take, length-drop}
+use Rattle.temporal.specs.Bytes.{planOf}
+use Rattle.temporal.specs.Cause.{cause, first, planFault, planCauses, tooMany, tooManyAnywhere}
+use Rattle.temporal.specs.Outcome.{cleared, workSize, ReachTables, reached, reach, rowNumber, row}
+use Rattle.temporal.specs.OutcomePair.{PairBuffers, paired, pair, LoadBuffers, loaded, loads, busiest, BusiestGiven}
+use Rattle.plan.specs.Fault.{checkNumber}
+use Rattle.plan.specs.declared.CheckAnswer.{CheckAnswer}
+use Rattle.plan.specs.declared.CheckAnswer.the-variants as check-answer
+use Rattle.plan.proofs.Answers.{number-positive}
+use Rattle.reach.proofs.CallLaws.{row-refused, row-part, row-within}
+use Rattle.reach.proofs.PlaceLaws.{row-end}
+use Rattle.loads.specs.Answer.{BusiestIs, busiestNumber, busiestStation}
+use Rattle.loads.specs.declared.BusiestAnswer.{BusiestAnswer}
+use Rattle.listing.specs.Answer.{question}
+use Rattle.demands.specs.Causes.{
+  reachCauses,
+  reachEmptied,
+  rowCauses,
+  pairAllCauses,
+  pairEmptied,
+  loadsCauses,
+  loadsEmptied,
+  busiestCauses,
+  firstWayCauses,
+  nextWayCauses,
+  wayEmptied,
+}
+use Rattle.demands.specs.Demand1.{Judged, CheckJudged, RowJudged, busiestResult, Demand1}
+use Rattle.demands.proofs.LimitLaws.{within-limits}
+use Rattle.demands.proofs.JudgedLaws.{
+  numbered,
+  plain-station,
+  plain-pair,
+  plain-short,
+  judged-entered,
+  judged-accepted,
+  judged-too-many,
+  judged-work,
+}
+use Rattle.demands.proofs.WayJudged.{outcomeOf, first-way-judged, next-way-judged}
+
+-- ---- check
+
+-- the number is 0 where the answer is acceptance, and nowhere else
+number-accepted : (r : CheckAnswer) → (r ≡ check-answer.Accepted) ↔ (checkNumber r ≡ 0)
+number-accepted check-answer.Accepted = (λ e. refl, λ e. refl)
+number-accepted (check-answer.Refused f) =
+    (λ e. ap checkNumber e, λ e. absurd (let some = number-positive f in omega arith))
+
+check-judged : (bs : List ℕ) (n t : ℕ) (r : CheckAnswer) → checkNumber r ≡ planFault bs n t → CheckJudged bs n t r
+unfolding planFault
+check-judged bs n t r e =
+    record {
+      accepts = (
+        λ a. within-limits bs n t .0 (sym e ∙ number-accepted r .0 a),
+        λ w. number-accepted r .1 (e ∙ within-limits bs n t .1 w),
+      );
+      numbered = numbered (planCauses bs n t) (checkNumber r) e;
+    }
+
+-- ---- reach and row
+
+reach-judged : (bs : List ℕ) (n t s : ℕ) (old : ReachTables)
+    → Judged (reachCauses bs n t s old) tt old (reachEmptied n t old) (reach bs n t s old)
+unfolding reach reached reachCauses reachEmptied planOf
+reach-judged bs n t s old =
+    judged-entered tt old (reachEmptied n t old) _ _ _ (plain-station bs n t _ s)
+    (judged-work tt old (reachEmptied n t old) (tooMany (planOf bs n t) s) _ refl)
+
+row-judged : (n t v : ℕ) (table part : List ℕ) (k : ℕ) → k ≡ rowNumber n t v table → part ≡ row n t v table
+    → RowJudged n t v table k part
+unfolding rowNumber rowCauses
+row-judged n t v table part k number is-row =
+    record {
+      numbered = numbered (rowCauses n t v table) k number;
+      empty = (
+        λ e none. full (sym number ∙ none) e,
+        λ some. let positive = pos-of-ne-zero some in is-row ∙ row-refused n t v table (omega arith),
+      );
+    }
+  where
+    -- an accepted row has t + 1 entries
+    full : rowNumber n t v table ≡ 0 → part ≡ [] → ⊥
+    full none e =
+        let inside = row-within n t v table none in
+        let fits = row-end v n (t + 1) (length table) (inside .0) (inside .2) in
+        let entries : part ≡ take (t + 1) (drop (v * (t + 1)) table) = is-row ∙ row-part n t v table none in
+        let size : length part ≡ t + 1 = ap length entries ∙ simp (length-take, length-drop) (omega arith) in
+        let nothing : length part ≡ 0 = ap length e in
+        omega arith
+
+-- ---- pair, loads and busiest
+
+pair-judged : (bs : List ℕ) (n t s z : ℕ) (old : PairBuffers)
+    → Judged (pairAllCauses bs n t s z old) (record { hops = 0; count = 0 }) old (pairEmptied n t old) (pair bs n t s z old)
+unfolding pair paired pairAllCauses pairEmptied planOf
+pair-judged bs n t s z old =
+    judged-entered (record { hops = 0; count = 0 }) old (pairEmptied n t old) _ _ _ (plain-pair bs n t _ s z)
+    (judged-work (record { hops = 0; count = 0 }) old (pairEmptied n t old) (tooMany (planOf bs n t) s) _ refl)
+
+loads-judged : (bs : List ℕ) (n t : ℕ) (old : LoadBuffers)
+    → Judged (loadsCauses bs n t old) tt old (loadsEmptied n t old) (loads bs n t old)
+unfolding loads loaded loadsCauses loadsEmptied planOf
+loads-judged bs n t old =
+    subst (λ l. Judged l tt old (loadsEmptied n t old) (loads bs n t old))
+    (append-assoc (planCauses bs n t) (_ ∷ []) (_ ∷ []))
+    (judged-entered tt old (loadsEmptied n t old) _ _ _ (plain-short bs n t _)
+    (judged-work tt old (loadsEmptied n t old) (tooManyAnywhere (planOf bs n t)) _ refl))
+
+-- busiest's work: the buffer is emptied in either case
+busiest-work : (many : Bool) (old emptied : List ℕ)
+    → Judged {Values = Unit {0}} (cause 9 many ∷ []) tt old emptied
+    (record { number = cause 9 many; values = tt; buffers = emptied })
+unfolding cause first
+busiest-work true old emptied = judged-too-many tt old emptied (9 ∷ []) refl
+busiest-work false old emptied = judged-accepted tt old emptied (0 ∷ []) _ refl refl
+
+busiest-judged : (bs : List ℕ) (n t : ℕ) (old : List ℕ)
+    → Judged (busiestCauses bs n t old) tt old (cleared (workSize n t) old) (busiest bs n t old)
+unfolding busiest busiestCauses
+busiest-judged bs n t old =
+    subst (λ l. Judged l tt old (cleared (workSize n t) old) (busiest bs n t old))
+    (append-assoc (planCauses bs n t) (_ ∷ []) (_ ∷ []))
+    (judged-entered tt old (cleared (workSize n t) old) _ _ _ (plain-short bs n t _)
+    (busiest-work (tooManyAnywhere (planOf bs n t)) old (cleared (workSize n t) old)))
+
+-- beside a refusal the station is 0
+station-zero : (bs : List ℕ) (n t k v : ℕ) → BusiestGiven bs n t k v → k ≢ 0 → v ≡ 0
+unfolding BusiestGiven
+station-zero bs n t zero v given h = absurd (h refl)
+station-zero bs n t (suc k) v given h = given
+
+busiest-given : (bs : List ℕ) (n t : ℕ) (old x : List ℕ) (r : BusiestAnswer) → BusiestIs bs n t old x r
+    → Judged (busiestCauses bs n t old) 0 old (cleared (workSize n t) old) (busiestResult r x)
+busiest-given bs n t old x r is =
+    let j = subst (Judged (busiestCauses bs n t old) tt old (cleared (workSize n t) old)) (sym (is .outcome))
+    (busiest-judged bs n t old) in
+    record {
+      numbered = j .numbered;
+      beside = station-zero bs n t (busiestNumber r) (busiestStation r) (is .station);
+      untouched = j .untouched;
+      too-many = j .too-many;
+      unoffered = j .unoffered;
+    }
+
+-- ---- the theorem
+
+pub demand1 : Demand1
+demand1 =
+    record {
+      limits = within-limits;
+      of-check = check-judged;
+      of-reach = λ bs n t s old x r e.
+          subst (Judged (reachCauses bs n t s old) tt old (reachEmptied n t old)) (sym e) (reach-judged bs n t s old);
+      of-row = row-judged;
+      of-pair = λ bs n t s z old x r e.
+          subst (Judged (pairAllCauses bs n t s z old) (record { hops = 0; count = 0 }) old (pairEmptied n t old)) (sym e)
+          (pair-judged bs n t s z old);
+      of-loads = λ bs n t old x r e.
+          subst (Judged (loadsCauses bs n t old) tt old (loadsEmptied n t old)) (sym e) (loads-judged bs n t old);
+      of-busiest = busiest-given;
+      of-first-way = λ bs n t s z old x r e.
+          subst (Judged (firstWayCauses (question bs n t s z) old) 0 old (wayEmptied n t old)) (sym (ap outcomeOf e))
+          (first-way-judged (question bs n t s z) old);
+      of-next-way = λ bs n t s z old x r e.
+          subst (Judged (nextWayCauses (question bs n t s z) old) 0 old (wayEmptied n t old)) (sym (ap outcomeOf e))
+          (next-way-judged (question bs n t s z) old);
+    }

@@ -1,0 +1,96 @@
+-- For each operation the one list of all its causes of refusal, in document 01's order; a cause that does not hold stands in
+-- it as 0. (Check's list is planCauses.) Beside it, what 9 and 10 leave in the lent buffers. Definitions only.
+-- Assumes nothing.
+use Prim.Native.Nat.{ℕ}
+use mathlib.Core.Bool.{Bool, not, _||_}
+use mathlib.Core.List.{List, [], _∷_, _++_}
+use lib.ListN.{length, take}
+use Rattle.temporal.specs.Lists.{any}
+use Rattle.temporal.specs.Bytes.{planOf}
+use Rattle.temporal.specs.Cause.{cause, outside, planCauses, pairCauses, stationCauses, tooMany, tooManyAnywhere}
+use Rattle.temporal.specs.Outcome.{cleared, short, places, workSize, ReachTables}
+use Rattle.temporal.specs.OutcomePair.{PairBuffers, LoadBuffers}
+use Rattle.temporal.specs.Cursor.{sameNumbers}
+use Rattle.temporal.specs.FirstNext.{Question, listOf, wayCauses, overflow}
+
+-- ---- Operation 2, reach: 1 to 6, 8, 9
+
+unfoldable pub reachCauses : List ℕ → ℕ → ℕ → ℕ → ReachTables → List ℕ
+reachCauses bs n t s old =
+    planCauses bs n t ++
+    stationCauses n s
+    (short (places n t) (old .hopsTable) || short (places n t) (old .countTable) ||
+    (short n (old .stationHops) || short n (old .stationCounts))) ++
+    cause 9 (tooMany (planOf bs n t) s) ∷ []
+
+-- the named parts of all four tables become 0
+unfoldable pub reachEmptied : ℕ → ℕ → ReachTables → ReachTables
+reachEmptied n t old =
+    record {
+      hopsTable = cleared (places n t) (old .hopsTable);
+      countTable = cleared (places n t) (old .countTable);
+      stationHops = cleared n (old .stationHops);
+      stationCounts = cleared n (old .stationCounts);
+    }
+
+-- ---- Operation 3, row: 1, 6, 8
+
+unfoldable pub rowCauses : ℕ → ℕ → ℕ → List ℕ → List ℕ
+rowCauses n t v table = cause 1 (outside n t) ∷ stationCauses n v (short (places n t) table)
+
+-- ---- Operation 4, pair: 1 to 9
+
+unfoldable pub pairAllCauses : List ℕ → ℕ → ℕ → ℕ → ℕ → PairBuffers → List ℕ
+pairAllCauses bs n t s z old =
+    planCauses bs n t ++
+    pairCauses n s z (short n (old .throughTable) || short (workSize n t) (old .work)) ++
+    cause 9 (tooMany (planOf bs n t) s) ∷ []
+
+-- the named parts of the through table and of the work area become 0
+unfoldable pub pairEmptied : ℕ → ℕ → PairBuffers → PairBuffers
+pairEmptied n t old =
+    record { throughTable = cleared n (old .throughTable); work = cleared (workSize n t) (old .work) }
+
+-- ---- Operation 5, loads, and operation 6, busiest: 1 to 5, 8, 9; they work on every source
+
+unfoldable pub loadsCauses : List ℕ → ℕ → ℕ → LoadBuffers → List ℕ
+loadsCauses bs n t old =
+    planCauses bs n t ++
+    cause 8 (short n (old .pairsTable) || (short n (old .loadTable) || short (workSize n t) (old .work))) ∷
+    cause 9 (tooManyAnywhere (planOf bs n t)) ∷ []
+
+-- the named parts of both tables and of the work area become 0
+unfoldable pub loadsEmptied : ℕ → ℕ → LoadBuffers → LoadBuffers
+loadsEmptied n t old =
+    record {
+      pairsTable = cleared n (old .pairsTable);
+      loadTable = cleared n (old .loadTable);
+      work = cleared (workSize n t) (old .work);
+    }
+
+unfoldable pub busiestCauses : List ℕ → ℕ → ℕ → List ℕ → List ℕ
+busiestCauses bs n t work =
+    planCauses bs n t ++ cause 8 (short (workSize n t) work) ∷ cause 9 (tooManyAnywhere (planOf bs n t)) ∷ []
+
+-- ---- Operation 7, first way: 1 to 9; operation 8, next way: 1 to 10
+
+-- the two lent buffers of first way and next way
+pub record WayBuffers : Type 0 where
+  pub way : List ℕ
+  pub work : List ℕ
+
+unfoldable pub firstWayCauses : Question → WayBuffers → List ℕ
+firstWayCauses q old = wayCauses q (length (old .way)) (length (old .work)) ++ overflow q ∷ []
+
+-- 10: the offered positions are no shortest path of the pair, as many being read as such a path has hops; or it has none
+unfoldable pub offersNone : Question → List ℕ → Bool
+offersNone q way = not (any (λ w. sameNumbers w (take (length w) way)) (listOf q))
+
+-- the causes of first way, then 10
+unfoldable pub nextWayCauses : Question → WayBuffers → List ℕ
+nextWayCauses q old =
+    wayCauses q (length (old .way)) (length (old .work)) ++ overflow q ∷ cause 10 (offersNone q (old .way)) ∷ []
+
+-- the way buffer stays, the named part of the work area becomes 0: with 9 and with 10
+unfoldable pub wayEmptied : ℕ → ℕ → WayBuffers → WayBuffers
+wayEmptied n t old = record { way = old .way; work = cleared (workSize n t) (old .work) }

@@ -1,0 +1,116 @@
+-- Demand 1: check accepts exactly the plans within the limits; each operation gives the number of the first of its causes, and
+-- 0 exactly where none holds; a refusal leaves what document 01's table says. It is about the operations' contracts: all
+-- answers and buffers for which the proposition in the operation's `ensures` holds. Definitions only.
+-- Assumes nothing.
+use Prim.Native.Nat.{ℕ}
+use mathlib.Core.Path.{_≡_}
+use mathlib.Core.Logic.{_↔_, _≢_}
+use mathlib.Core.List.{List, [], _∷_}
+use Rattle.temporal.specs.Cause.{first, planCauses, planFault}
+use Rattle.temporal.specs.Outcome.{Outcome, cleared, workSize, ReachTables, reach, rowNumber, row}
+use Rattle.temporal.specs.OutcomePair.{PairBuffers, pair, LoadBuffers, loads}
+use Rattle.temporal.specs.Cursor.{Reply, path, no-path, last-path, refused, first-way, next-way}
+use Rattle.temporal.specs.FirstNext.{WayContract}
+use Rattle.plan.specs.Fault.{checkNumber}
+use Rattle.plan.specs.declared.CheckAnswer.{CheckAnswer}
+use Rattle.plan.specs.declared.CheckAnswer.the-variants as check-answer
+use Rattle.reach.specs.Answer.{reachOutcome}
+use Rattle.reach.specs.declared.ReachAnswer.{ReachAnswer}
+use Rattle.pair.specs.Answer.{pairOutcome}
+use Rattle.loads.specs.Answer.{loadsOutcome, busiestNumber, busiestStation, BusiestIs}
+use Rattle.pair.specs.declared.PairAnswer.{PairAnswer}
+use Rattle.loads.specs.declared.LoadsAnswer.{LoadsAnswer}
+use Rattle.loads.specs.declared.BusiestAnswer.{BusiestAnswer}
+use Rattle.listing.specs.Answer.{replyOf, question}
+use Rattle.listing.specs.declared.WayAnswer.{WayAnswer}
+use Rattle.demands.specs.Limits.{WithinLimits}
+use Rattle.demands.specs.Causes.{
+  reachCauses,
+  reachEmptied,
+  rowCauses,
+  pairAllCauses,
+  pairEmptied,
+  loadsCauses,
+  loadsEmptied,
+  busiestCauses,
+  WayBuffers,
+  firstWayCauses,
+  nextWayCauses,
+  wayEmptied,
+}
+
+-- no cause of a list holds
+unfoldable pub NoneHolds : List ℕ → Type 0
+NoneHolds [] = Unit {0}
+NoneHolds (k ∷ l) = (k ≡ 0) × NoneHolds l
+
+-- "Each number is given if its cause holds and no earlier one does, and in no other case."
+pub record Numbered (causes : List ℕ) (k : ℕ) : Type 0 where
+  pub the-first : k ≡ first causes
+  pub accepted : (k ≡ 0) ↔ NoneHolds causes
+
+-- Document 01's table, for one call: its causes, the zeros of its values, the lent buffers as they were and as 9 and 10 leave
+-- them; and what came out.
+pub record Judged {Values Buffers : Type 0} (causes : List ℕ) (zeros : Values) (old emptied : Buffers)
+    (o : Outcome Values Buffers) : Type 0 where
+  pub numbered : Numbered causes (o .number)
+  -- zeros stand beside every refusal
+  pub beside : o .number ≢ 0 → o .values ≡ zeros
+  -- 1 to 8, and numbers added later, leave all lent memory as it was
+  pub untouched : o .number ≢ 0 → o .number ≢ 9 → o .number ≢ 10 → o .buffers ≡ old
+  -- an appearance or a station has too many shortest walks; and next way was offered no shortest path of the pair
+  pub too-many : o .number ≡ 9 → o .buffers ≡ emptied
+  pub unoffered : o .number ≡ 10 → o .buffers ≡ emptied
+
+-- Check accepts exactly the plans within the limits. It is lent nothing to write to.
+pub record CheckJudged (bs : List ℕ) (n t : ℕ) (r : CheckAnswer) : Type 0 where
+  pub accepts : (r ≡ check-answer.Accepted) ↔ WithinLimits bs n t
+  pub numbered : Numbered (planCauses bs n t) (checkNumber r)
+
+-- The sister's number k, and row's part: the empty part exactly on refusal. They are lent nothing to write to.
+pub record RowJudged (n t v : ℕ) (table : List ℕ) (k : ℕ) (part : List ℕ) : Type 0 where
+  pub numbered : Numbered (rowCauses n t v table) k
+  pub empty : (part ≡ []) ↔ (k ≢ 0)
+
+-- the number of a reply: "none" and "last" are acceptances
+unfoldable pub replyNumber : Reply → ℕ
+replyNumber (path h) = 0
+replyNumber no-path = 0
+replyNumber last-path = 0
+replyNumber (refused k) = k
+
+-- the hops beside it: 0 unless a way is given
+unfoldable pub replyHops : Reply → ℕ
+replyHops (path h) = h
+replyHops no-path = 0
+replyHops last-path = 0
+replyHops (refused k) = 0
+
+-- what first way and next way answer, with their two buffers at exit
+abbrev pub wayResult : WayAnswer → WayBuffers → Outcome ℕ WayBuffers
+wayResult r b = record { number = replyNumber (replyOf r); values = replyHops (replyOf r); buffers = b }
+
+-- what busiest answers, with the work area at exit
+abbrev pub busiestResult : BusiestAnswer → List ℕ → Outcome ℕ (List ℕ)
+busiestResult r work = record { number = busiestNumber r; values = busiestStation r; buffers = work }
+
+-- Demand 1, operation by operation, of every call: r the answer, old and x the lent buffers at entry and at exit.
+pub record Demand1 : Type 0 where
+  pub limits : (bs : List ℕ) (n t : ℕ) → (planFault bs n t ≡ 0) ↔ WithinLimits bs n t
+  pub of-check : (bs : List ℕ) (n t : ℕ) (r : CheckAnswer) → checkNumber r ≡ planFault bs n t → CheckJudged bs n t r
+  pub of-reach : (bs : List ℕ) (n t s : ℕ) (old x : ReachTables) (r : ReachAnswer) → reachOutcome r x ≡ reach bs n t s old
+      → Judged (reachCauses bs n t s old) tt old (reachEmptied n t old) (reachOutcome r x)
+  pub of-row : (n t v : ℕ) (table part : List ℕ) (k : ℕ) → k ≡ rowNumber n t v table → part ≡ row n t v table
+      → RowJudged n t v table k part
+  pub of-pair : (bs : List ℕ) (n t s z : ℕ) (old x : PairBuffers) (r : PairAnswer) → pairOutcome r x ≡ pair bs n t s z old
+      → Judged (pairAllCauses bs n t s z old) (record { hops = 0; count = 0 }) old (pairEmptied n t old) (pairOutcome r x)
+  pub of-loads : (bs : List ℕ) (n t : ℕ) (old x : LoadBuffers) (r : LoadsAnswer) → loadsOutcome r x ≡ loads bs n t old
+      → Judged (loadsCauses bs n t old) tt old (loadsEmptied n t old) (loadsOutcome r x)
+  pub of-busiest : (bs : List ℕ) (n t : ℕ) (old x : List ℕ) (r : BusiestAnswer) → BusiestIs bs n t old x r
+      → Judged (busiestCauses bs n t old) 0 old (cleared (workSize n t) old) (busiestResult r x)
+  pub of-first-way : (bs : List ℕ) (n t s z : ℕ) (old x : WayBuffers) (r : WayAnswer)
+      → WayContract first-way (question bs n t s z) (old .way) (old .work) (replyOf r) (x .way) (x .work)
+      → Judged (firstWayCauses (question bs n t s z) old) 0 old (wayEmptied n t old) (wayResult r x)
+  pub of-next-way : (bs : List ℕ) (n t s z : ℕ) (old x : WayBuffers) (r : WayAnswer)
+      → WayContract next-way (question bs n t s z) (old .way) (old .work) (replyOf r) (x .way) (x .work)
+      → Judged (nextWayCauses (question bs n t s z) old) 0 old (wayEmptied n t old) (wayResult r x)

@@ -1,0 +1,5 @@
+-- What the demands say, each a record with a field for each part. Definitions only.
+-- demand 1: the plans within the limits, the causes of each operation, and what is judged by them
+pub mod Limits
+pub mod Causes
+pub mod Demand1

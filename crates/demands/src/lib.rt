@@ -1,0 +1,1 @@
+// Laws alone: the demands on the operations, a theorem each.
