@@ -1,7 +1,8 @@
 //! Runs a built load program on the lister's cases and on inputs that are much too long, and compares
 //! all that it prints with what the lister prints. Each input comes from a file, and then through a
-//! pipe that delivers a few bytes at a time.
+//! pipe that delivers a few bytes at a time. Then it runs the program where a read or a write fails.
 
+mod failures;
 mod run;
 
 use std::env;
@@ -9,7 +10,7 @@ use std::process::ExitCode;
 
 use lister::load_cases::{all_cases, Case};
 use lister::load_program::load_text;
-use run::{printed, Delivery, InputFile};
+use run::{written, Delivery, InputFile, Written};
 
 fn main() -> ExitCode {
     let words: Vec<String> = env::args().skip(1).collect();
@@ -17,10 +18,13 @@ fn main() -> ExitCode {
         eprintln!("usage: load_program PROGRAM");
         return ExitCode::from(2);
     };
-    match compare(program) {
-        Ok(cases) => {
+    match compare(program).and_then(|cases| Ok((cases, failures::all(program)?))) {
+        Ok((cases, failures)) => {
             let deliveries = "from a file and through a pipe";
             println!("{program}: {cases} cases {deliveries}, as the lister answers them");
+            println!(
+                "{program}: {failures} failures of reading and writing, as they are to be told"
+            );
             ExitCode::SUCCESS
         }
         Err(message) => {
@@ -51,28 +55,12 @@ fn compare(program: &str) -> Result<usize, String> {
     cases.extend(long_cases());
     let file = InputFile::new();
     for case in &cases {
-        let expected = load_text(&case.bytes);
+        let expected = Written::output(&load_text(&case.bytes));
         for delivery in [Delivery::File, Delivery::Pipe] {
             let told = |what: String| format!("{}, from a {delivery}: {what}", case.label);
-            let got = printed(program, &case.bytes, delivery, &file).map_err(told)?;
-            if got != expected.as_bytes() {
-                let texts = [
-                    told_text("expected", expected.as_bytes()),
-                    told_text("got", &got),
-                ];
-                return Err(told(format!("another text\n{}", texts.concat())));
-            }
+            let got = written(program, &case.bytes, delivery, &file).map_err(told)?;
+            got.expect(&expected).map_err(told)?;
         }
     }
     Ok(cases.len())
-}
-
-/// A text for a message: its length, and its lines with their ends made visible.
-fn told_text(name: &str, text: &[u8]) -> String {
-    let line = |line: &[u8]| format!("    {}\n", line.escape_ascii());
-    let lines: String = text
-        .split_inclusive(|byte| *byte == b'\n')
-        .map(line)
-        .collect();
-    format!("  {name}, {} bytes:\n{lines}", text.len())
 }

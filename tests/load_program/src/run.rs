@@ -1,10 +1,10 @@
-//! One run of the program on one input.
+//! One run of the program.
 
 use std::fs::{self, File};
-use std::io::{Read, Write};
+use std::io::{self, Read, Write};
 use std::path::PathBuf;
 use std::process::{Child, ChildStdin, Command, Stdio};
-use std::sync::mpsc;
+use std::sync::mpsc::{self, Receiver};
 use std::time::Duration;
 use std::{env, fmt, process, thread};
 
@@ -52,7 +52,7 @@ impl InputFile {
     }
 
     /// The file with an input in it, opened at its beginning.
-    fn holding(&self, input: &[u8]) -> Result<File, String> {
+    pub fn holding(&self, input: &[u8]) -> Result<File, String> {
         let opened = fs::write(&self.path, input).and_then(|()| File::open(&self.path));
         opened.map_err(|error| format!("{}: {error}", self.path.display()))
     }
@@ -64,44 +64,115 @@ impl Drop for InputFile {
     }
 }
 
-/// All that the program prints for an input; an error if it does not end, or ends with another exit
-/// status than 0.
-pub fn printed(
+/// All that a run wrote.
+#[derive(Debug, PartialEq, Eq)]
+pub struct Written {
+    pub output: Vec<u8>,
+    pub error: Vec<u8>,
+}
+
+impl Written {
+    /// Nothing but this on standard output.
+    pub fn output(text: &str) -> Written {
+        Written {
+            output: text.into(),
+            error: Vec::new(),
+        }
+    }
+
+    /// Nothing but this on standard error.
+    pub fn error(text: &str) -> Written {
+        Written {
+            output: Vec::new(),
+            error: text.into(),
+        }
+    }
+
+    /// An error with both texts where they are not as expected.
+    pub fn expect(&self, expected: &Written) -> Result<(), String> {
+        if self == expected {
+            return Ok(());
+        }
+        let texts = [
+            told_text("expected output", &expected.output),
+            told_text("output", &self.output),
+            told_text("expected error", &expected.error),
+            told_text("error", &self.error),
+        ];
+        Err(format!("another text\n{}", texts.concat()))
+    }
+}
+
+/// A text for a message: its length, and its lines with their ends made visible.
+fn told_text(name: &str, text: &[u8]) -> String {
+    let line = |line: &[u8]| format!("    {}\n", line.escape_ascii());
+    let lines: String = text
+        .split_inclusive(|byte| *byte == b'\n')
+        .map(line)
+        .collect();
+    format!("  {name}, {} bytes:\n{lines}", text.len())
+}
+
+/// All that the program writes for an input.
+pub fn written(
     program: &str,
     input: &[u8],
     delivery: Delivery,
     file: &InputFile,
-) -> Result<Vec<u8>, String> {
+) -> Result<Written, String> {
     let stdin = match delivery {
         Delivery::File => Stdio::from(file.holding(input)?),
         Delivery::Pipe => Stdio::piped(),
     };
-    let mut command = Command::new(program);
-    let spawned = command.stdin(stdin).stdout(Stdio::piped()).spawn();
-    let mut child = spawned.map_err(|error| format!("{program}: {error}"))?;
+    let mut child = start(Command::new(program).stdin(stdin).stdout(Stdio::piped()))?;
     if let Some(pipe) = child.stdin.take() {
         let parts = parts(input);
         thread::spawn(move || deliver(pipe, &parts));
     }
-    let output = output_of(&mut child)?;
+    finish(child)
+}
+
+/// Starts a command whose standard error is read.
+pub fn start(command: &mut Command) -> Result<Child, String> {
+    let spawned = command.stderr(Stdio::piped()).spawn();
+    spawned.map_err(|error| format!("{}: {error}", command.get_program().to_string_lossy()))
+}
+
+/// All that a started program writes; an error if it does not end, or ends with another exit status
+/// than 0.
+pub fn finish(mut child: Child) -> Result<Written, String> {
+    let output = child.stdout.take().map(whole);
+    let error = child.stderr.take().map(whole);
+    let output = text_of(output, &mut child)?;
+    let error = text_of(error, &mut child)?;
     let status = child.wait().map_err(|error| error.to_string())?;
     if !status.success() {
         return Err(format!("{status}"));
     }
-    Ok(output)
+    Ok(Written { output, error })
 }
 
-/// The standard output until it is closed; a program that takes too long is ended.
-fn output_of(child: &mut Child) -> Result<Vec<u8>, String> {
-    let mut stdout = child.stdout.take().expect("standard output is a pipe");
+/// Reads a stream until it is closed, beside the run.
+fn whole(mut stream: impl Read + Send + 'static) -> Receiver<io::Result<Vec<u8>>> {
     let (sender, receiver) = mpsc::channel();
     thread::spawn(move || {
-        let mut output = Vec::new();
-        let read = stdout.read_to_end(&mut output).map(|_| output);
+        let mut text = Vec::new();
+        let read = stream.read_to_end(&mut text).map(|_| text);
         let _ = sender.send(read);
     });
+    receiver
+}
+
+/// What was read, nothing where no stream is; a program that takes too long is ended.
+fn text_of(
+    stream: Option<Receiver<io::Result<Vec<u8>>>>,
+    child: &mut Child,
+) -> Result<Vec<u8>, String> {
+    let Some(receiver) = stream else {
+        return Ok(Vec::new());
+    };
     match receiver.recv_timeout(LONGEST_RUN) {
-        Ok(read) => read.map_err(|error| format!("standard output: {error}")),
+        Ok(read) => read.map_err(|error| format!("what it writes: {error}")),
         Err(_) => {
             let _ = child.kill();
             let _ = child.wait();

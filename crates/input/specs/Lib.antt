@@ -1,0 +1,2 @@
+-- What the answers of reading say of the lent buffer. Definitions only.
+pub mod Input
