@@ -69,13 +69,13 @@ static void print_reach(void)
 /* Operation 4: hops, count and through counts of a pair. */
 static void print_pair(size_t destination, uint64_t *work)
 {
-    uint64_t hops;
+    size_t hops;
     uint64_t count;
     uint64_t through[STATIONS];
 
     accept_or_stop(joftaki_pair(plan, sizeof plan, STATIONS, SLOTS, SOURCE, destination, &hops, &count,
                                 through, STATIONS, work, JOFTAKI_WORK_LENGTH(STATIONS, SLOTS)));
-    printf("hops %" PRIu64 "\ncount %" PRIu64 "\n", hops, count);
+    printf("hops %zu\ncount %" PRIu64 "\n", hops, count);
     print_counts("through", through, STATIONS);
 }
 

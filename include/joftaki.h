@@ -20,10 +20,10 @@
  * length said at each prototype; entries past it are never touched, and longer is always fine.
  *
  * Proved. For every call that lends memory as said below, the number, the slots and every lent entry at exit are those of
- * the definitions in crates/temporal/specs (of busiest's station, a property), and the function ends. The contracts stand in crates/joftaki_c/src/lib.rt, with
- * the definitions of the slots and of JOFTAKI_NONE and JOFTAKI_LAST in crates/joftaki_c/specs. No contract asks anything of
- * the numbers or of what the lent memory holds. No refusal has the number of JOFTAKI_NONE or JOFTAKI_LAST
- * (crates/joftaki_c/proofs/Told.antt).
+ * the definitions in crates/temporal/specs (of busiest's station, a property), and the function ends. The contracts stand
+ * in crates/joftaki_c/src/lib.rt, with the definitions of the slots and of JOFTAKI_NONE and JOFTAKI_LAST in
+ * crates/joftaki_c/specs. No contract asks anything of the numbers or of what the lent memory holds. No refusal has the
+ * number of JOFTAKI_NONE or JOFTAKI_LAST (crates/joftaki_c/proofs/Told.antt).
  *
  * Not proved. That these prototypes, the numbers behind the names and the macros, written by hand, fit the archive and the
  * definitions; how long a call takes; how much stack it takes (measured: docs/MEMORY.md). The archive is for x86-64.
@@ -51,7 +51,7 @@
 extern "C" {
 #endif
 
-/* The numbers. */
+/* The numbers. 11 to 17 are kept for later causes; no function gives one of them. */
 #define JOFTAKI_ACCEPTED 0u
 /* A fault of the plan. */
 #define JOFTAKI_LIMITS 1u /* n or t outside its limits */
@@ -147,7 +147,7 @@ uint32_t joftaki_row_number(const uint64_t *table, size_t table_length, size_t n
  * valid, aligned and not null; the two slots, through, work and the plan do not overlap.
  */
 uint32_t joftaki_pair(const uint8_t *plan, size_t plan_length, size_t n, size_t t, size_t s, size_t z,
-                      uint64_t *hops, uint64_t *count,
+                      size_t *hops, uint64_t *count,
                       uint64_t *through, size_t through_length,
                       uint64_t *work, size_t work_length);
 

@@ -20,7 +20,7 @@
 
 static uint8_t plan[T * JOFTAKI_RECORD_BYTES];
 static uint16_t hops_table[TABLE], near_hops[N], way[T];
-static uint64_t counts[TABLE], near_counts[N], through[N], pairs[N], loads[N], work[WORK], hops64, count;
+static uint64_t counts[TABLE], near_counts[N], through[N], pairs[N], loads[N], work[WORK], count;
 static size_t offset, length, hops, station;
 
 static uint32_t run_check(void) { return joftaki_check(plan, sizeof plan, N, T); }
@@ -32,7 +32,7 @@ static uint32_t run_row(void) { return joftaki_row(counts, TABLE, N, T, 255, &of
 static uint32_t run_row_number(void) { return joftaki_row_number(counts, TABLE, N, T, 255); }
 static uint32_t run_pair(void)
 {
-    return joftaki_pair(plan, sizeof plan, N, T, 0, 255, &hops64, &count, through, N, work, WORK);
+    return joftaki_pair(plan, sizeof plan, N, T, 0, 255, &hops, &count, through, N, work, WORK);
 }
 static uint32_t run_loads(void) { return joftaki_loads(plan, sizeof plan, N, T, pairs, N, loads, N, work, WORK); }
 static uint32_t run_busiest(void) { return joftaki_busiest(plan, sizeof plan, N, T, &station, work, WORK); }

@@ -94,7 +94,7 @@ pub extern "C" fn joftaki_pair(
     t: usize,
     s: usize,
     z: usize,
-    hops: &mut u64,
+    hops: &mut usize,
     count: &mut u64,
     through: &mut [u64],
     work: &mut [u64],
@@ -103,7 +103,7 @@ pub extern "C" fn joftaki_pair(
 {
     match pair::pair(plan, n, t, s, z, through, work) {
         PairAnswer::Counted(h, c) => {
-            *hops = h;
+            *hops = h as usize;
             *count = c;
             0
         }

@@ -41,7 +41,7 @@ extern "C" {
         t: usize,
         s: usize,
         z: usize,
-        hops: *mut u64,
+        hops: *mut usize,
         count: *mut u64,
         through: *mut u64,
         through_length: usize,

@@ -29,7 +29,7 @@ pub fn pair(
     (source, destination): Ends,
     through: &mut [u64],
     work: &mut [u64],
-) -> (u32, u64, u64) {
+) -> (u32, usize, u64) {
     let (mut hops, mut count) = (0, 0);
     // SAFETY: each pointer comes with the length of its own slice, and the slots live here.
     let number = unsafe {

@@ -12,7 +12,7 @@ pub const NONE: u32 = 100;
 pub const LAST: u32 = 101;
 
 /// Pair: the number, the hops and the count.
-type PairOf = fn(Call, Ends, &mut [u64], &mut [u64]) -> (u32, u64, u64);
+type PairOf = fn(Call, Ends, &mut [u64], &mut [u64]) -> (u32, usize, u64);
 
 /// First way or next way: the number and the hops.
 type WayOf = fn(Call, Ends, &mut [u16], &mut [u64]) -> (u32, usize);
@@ -51,10 +51,10 @@ fn rust_loads(call: Call, pairs: &mut [u64], loads: &mut [u64], work: &mut [u64]
 }
 
 #[inline(never)]
-fn rust_pair(call: Call, ends: Ends, through: &mut [u64], work: &mut [u64]) -> (u32, u64, u64) {
+fn rust_pair(call: Call, ends: Ends, through: &mut [u64], work: &mut [u64]) -> (u32, usize, u64) {
     let answer = native::pair::pair(call, ends, through, work);
     let (hops, count) = beside(&answer);
-    (number(&answer).into(), hops, count)
+    (number(&answer).into(), hops as usize, count)
 }
 
 #[inline(never)]

@@ -146,7 +146,7 @@ unsafe fn answer(
             t,
             s,
             z,
-            values.entry(0),
+            values.entry(0).cast(),
             values.entry(1),
             through.start(),
             through.length(),
