@@ -5,3 +5,9 @@ pub mod Demand1
 mod LimitLaws
 mod JudgedLaws
 mod WayJudged
+-- demand 3
+mod CountLaws
+mod AccountLaws
+mod TracedLaws
+mod TenLaws
+pub mod Demand3

@@ -3,3 +3,7 @@
 pub mod Limits
 pub mod Causes
 pub mod Demand1
+-- demand 3
+pub mod Listing
+pub mod PairLoads
+pub mod Demand3

@@ -1,11 +1,11 @@
 -- Document 01's numbers are at most 10, so they fit 32 bits. Assumes nothing.
-use Prim.Native.Nat.{ℕ, zero, suc, _≤_}
+use Prim.Native.Nat.{ℕ, _≤_}
 use native.Mathlib.Omega.{arith}
 use mathlib.Core.Path.{_≡_}
-use mathlib.Core.Bool.{Bool, true, false}
-use mathlib.Core.List.{List, [], _∷_}
-use Rattle.temporal.specs.Cause.{cause, first, stationCauses}
+use mathlib.Core.List.{List, []}
+use Rattle.temporal.specs.Cause.{stationCauses}
 use Rattle.temporal.specs.Outcome.{rowNumber}
+use Rattle.temporal.proofs.NumberLaws.{none-most, cause-most}
 use Rattle.plan.specs.Fault.{planNumber, callNumber, faultNumber, checkNumber}
 use Rattle.plan.specs.declared.PlanFault.{PlanFault}
 use Rattle.plan.specs.declared.PlanFault.the-variants as plan-fault
@@ -38,18 +38,9 @@ pub check-small : (r : CheckAnswer) (k : ℕ) → k ≡ checkNumber r → k ≤ 
 check-small check-answer.Accepted k e = omega arith
 check-small (check-answer.Refused f) k e = omega (arith, plan-small f)
 
--- the first of causes that are at most 10
-pub cause-small : (k : ℕ) (b : Bool) (l : List ℕ) → k ≤ 10 → first l ≤ 10 → first (cause k b ∷ l) ≤ 10
-unfolding first cause
-cause-small zero true l h rest = rest
-cause-small (suc k) true l h rest = h
-cause-small k false l h rest = rest
-
-pub none-small : first [] ≤ 10
-unfolding first
-none-small = omega arith
-
 pub row-small : (n t v : ℕ) (table : List ℕ) (k : ℕ) → k ≡ rowNumber n t v table → k ≤ 10
 unfolding rowNumber stationCauses
 row-small n t v table k e =
-    rw e (cause-small 1 _ _ (omega arith) (cause-small 6 _ _ (omega arith) (cause-small 8 _ [] (omega arith) none-small)))
+    rw e
+    (cause-most 10 1 _ _ (omega arith)
+    (cause-most 10 6 _ _ (omega arith) (cause-most 10 8 _ [] (omega arith) (none-most 10))))

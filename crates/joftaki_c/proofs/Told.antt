@@ -2,17 +2,13 @@
 -- Assumes nothing.
 use Prim.Native.Nat.{ℕ, zero, suc, _+_, _<_, _≤_}
 use native.Mathlib.Omega.{arith}
-use native.Mathlib.Decide.{decLt}
 use mathlib.Core.Path.{_≡_, refl}
 use mathlib.Core.Bool.{Bool, true, false, cond}
-use mathlib.Core.List.{List, [], _∷_, _++_, flatMap}
-use mathlib.Core.Logic.{by-cases}
+use mathlib.Core.List.{List, [], _∷_}
 use mathlib.Core.Option.{Option, none, some}
 use lib.Dec.{ltb}
 use lib.ListN.{length}
-use Rattle.temporal.specs.Lists.{below}
-use Rattle.temporal.specs.Bytes.{records, planOf}
-use Rattle.temporal.specs.Cause.{cause, first, unless, recordCauses, planCauses, pairCauses, tooMany}
+use Rattle.temporal.specs.Cause.{first, unless}
 use Rattle.temporal.specs.Cursor.{
   Reply,
   path,
@@ -31,9 +27,8 @@ use Rattle.temporal.specs.Cursor.{
   move,
 }
 use Rattle.temporal.specs.FirstNext.{Question, listOf, wayCauses, overflow, wayWork, wayAnswer}
-use Rattle.temporal.proofs.CauseLaws.{first-append-none, first-append-some}
+use Rattle.temporal.proofs.NumberLaws.{way-most, overflow-most}
 use Rattle.joftaki_c.specs.Code.{replyCode, replyHops}
-use Rattle.joftaki_c.proofs.CodeLaws.{cause-small, none-small}
 
 -- a reply is read off its number and its hops slot
 pub record Told (r : Reply) : Type 0 where
@@ -114,50 +109,11 @@ move-numbered o k l at b h =
     unless-either (λ m. Numbered (m .reply)) k (λ j. stay (refused j) at b) (go o l at b) (λ some. (some, h))
     (go-numbered o l at b)
 
--- the causes of a call are numbered up to 10
-append-small : (l m : List ℕ) → first l ≤ 10 → first m ≤ 10 → first (l ++ m) ≤ 10
-append-small l m a b = by-cases (decLt 0 (first l))
-    (λ some. rw (first-append-some l m some) a)
-    (λ none. rw (first-append-none l m (omega arith)) b)
-
-each-small : (f : ℕ → List ℕ) (l : List ℕ) → ((i : ℕ) → first (f i) ≤ 10) → first (flatMap f l) ≤ 10
-unfolding flatMap
-each-small f [] h = none-small
-each-small f (i ∷ l) h = append-small (f i) (flatMap f l) (h i) (each-small f l h)
-
-record-small : (bs : List ℕ) (n t i : ℕ) → first (recordCauses bs n t i) ≤ 10
-unfolding recordCauses
-record-small bs n t i =
-    cause-small 3 _ _ (omega arith) (cause-small 4 _ _ (omega arith) (cause-small 5 _ [] (omega arith) none-small))
-
-plan-small : (bs : List ℕ) (n t : ℕ) → first (planCauses bs n t) ≤ 10
-unfolding planCauses
-plan-small bs n t =
-    cause-small 1 _ _ (omega arith)
-    (cause-small 2 _ _ (omega arith) (each-small (recordCauses bs n t) (below (records bs)) (record-small bs n t)))
-
-pair-small : (n s z : ℕ) (lacking : Bool) → first (pairCauses n s z lacking) ≤ 10
-unfolding pairCauses
-pair-small n s z lacking =
-    cause-small 6 _ _ (omega arith) (cause-small 7 _ _ (omega arith) (cause-small 8 _ [] (omega arith) none-small))
-
-way-small : (q : Question) (wayLength workLength : ℕ) → first (wayCauses q wayLength workLength) ≤ 10
-unfolding wayCauses
-way-small q wayLength workLength = append-small _ _ (plan-small (q .bytes) (q .stations) (q .slots)) (pair-small _ _ _ _)
-
-overflow-small : (q : Question) → overflow q ≤ 10
-unfolding overflow cause
-overflow-small q = either (tooMany (planOf (q .bytes) (q .stations) (q .slots)) (q .source))
-  where
-    either : (b : Bool) → cond b 9 0 ≤ 10
-    either true = omega arith
-    either false = omega arith
-
 -- every answer of first way and next way is told
 pub told : (o : Operation) (q : Question) (way work : List ℕ) → Told (wayAnswer o q way work .reply)
 unfolding wayAnswer wayWork
 told o q way work =
     numbered-told _
     (unless-either (λ a. Numbered (a .reply)) (first (wayCauses q (length way) (length work))) _ (wayWork o q way work)
-    (λ some. (some, way-small q (length way) (length work)))
-    (move-numbered o (overflow q) (listOf q) (indexIn (listOf q) way) way (overflow-small q)))
+    (λ some. (some, omega (arith, way-most q (length way) (length work))))
+    (move-numbered o (overflow q) (listOf q) (indexIn (listOf q) way) way (omega (arith, overflow-most q))))

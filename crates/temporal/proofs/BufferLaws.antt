@@ -3,7 +3,20 @@ use Prim.Native.Nat.{ℕ, zero, suc, _<_, _≤_}
 use native.Mathlib.Omega.{arith}
 use mathlib.Core.Path.{_≡_, refl, sym, ap, ap₂, _∙_}
 use mathlib.Core.List.{List, [], _∷_, _++_, map}
-use lib.ListN.{length, getD, take, drop, replicate, length-replicate, length-map, List·getD-map, List·getD-append, take-append-drop}
+use lib.ListN.{
+  length,
+  getD,
+  take,
+  drop,
+  replicate,
+  length-replicate,
+  length-map,
+  length-append,
+  length-drop,
+  List·getD-map,
+  List·getD-append,
+  take-append-drop,
+}
 use lib.Seq.{ext-getD, getD-take, length-take-le}
 use Rattle.temporal.specs.Lists.{below}
 use Rattle.temporal.specs.Outcome.{over}
@@ -22,6 +35,11 @@ over-by k l new old size fits same rest =
     let inside : i < k = rw (length-take-le k l fits) at h in
     getD-take k l i 0 inside ∙ same i inside))
     (rest ∙ ap (λ j. drop j old) (sym size))
+
+-- what is written to the beginning of a buffer, where it fits, keeps its length
+pub length-over : (new old : List ℕ) → length new ≤ length old → length (over new old) ≡ length old
+unfolding over
+length-over new old fits = simp (length-append, length-drop) (omega arith)
 
 -- a fill over lists that agree beyond it
 pub fill-beyond : (k x : ℕ) (a b : List ℕ) → drop k a ≡ drop k b → over (replicate k x) a ≡ over (replicate k x) b

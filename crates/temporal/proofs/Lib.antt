@@ -4,6 +4,7 @@ pub mod Adequacy
 mod Rounding
 -- the causes of refusal, what an accepted plan keeps, and what a check of a plan rests on
 pub mod CauseLaws
+pub mod NumberLaws
 pub mod EnteredLaws
 pub mod Accepted
 pub mod CheckLaws

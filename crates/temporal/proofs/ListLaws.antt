@@ -12,7 +12,7 @@ use native.Mathlib.Decide.{ℕ-discrete}
 use lib.Dec.{eqb}
 use lib.ListN.{length, getD}
 use borrow.Author.Tests.{eqb-false, eqb-true, eq-eqb, ne-eqb, not-true}
-use Rattle.temporal.specs.Lists.{from, below, sum, select, any, member, distinct, tuples, Before, Rising}
+use Rattle.temporal.specs.Lists.{from, below, sum, select, any, member, distinct, tuples, Before, Rising, NoneTwice}
 
 -- a test is true or false
 pub true-or-false : (b : Bool) → (b ≡ true) ⊎ (b ≡ false)
@@ -328,6 +328,12 @@ rising-getD [] r i j d g h = absurd (omega arith)
 rising-getD (w ∷ l) r i zero d g h = absurd (omega arith)
 rising-getD (w ∷ l) r zero (suc j) d g h = r .0 (getD l j d) (mem-getD l j d (omega arith))
 rising-getD (w ∷ l) r (suc i) (suc j) d g h = rising-getD l (r .1) i j d (omega arith) (omega arith)
+
+-- so no member stands in a rising list twice
+pub rising-none-twice : (l : List (List ℕ)) → Rising l → NoneTwice l
+unfolding NoneTwice
+rising-none-twice l r i j g h e =
+    before-irrefl (getD l j []) (subst (λ w. Before w (getD l j [])) e (rising-getD l r i j [] g h))
 
 -- the sum of two lists in turn is the sum of their sums
 pub sum-append : (a b : List ℕ) → sum (a ++ b) ≡ sum a + sum b

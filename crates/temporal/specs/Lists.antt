@@ -4,8 +4,9 @@ use Prim.Native.Nat.{ℕ, zero, suc, _+_, _*_, _<_}
 use mathlib.Core.Path.{_≡_}
 use mathlib.Core.Bool.{Bool, true, false, not, cond, _&&_, _||_}
 use mathlib.Core.List.{List, [], _∷_, map, flatMap, List·Memᴰ}
-use mathlib.Core.Logic.{_⊎_}
+use mathlib.Core.Logic.{_⊎_, _≢_}
 use lib.Dec.{eqb}
+use lib.ListN.{length, getD}
 
 -- as many numbers as the second says, from the first on: from 2 3 is 2, 3, 4
 unfoldable pub from : ℕ → ℕ → List ℕ
@@ -62,3 +63,7 @@ Before (i ∷ u) (j ∷ w) = (i < j) ⊎ ((i ≡ j) × Before u w)
 unfoldable pub Rising : List (List ℕ) → Type 0
 Rising [] = Unit {0}
 Rising (w ∷ l) = ((u : List ℕ) → List·Memᴰ u l → Before w u) × Rising l
+
+-- no member of a list stands in it twice: members at two places differ
+unfoldable pub NoneTwice : List (List ℕ) → Type 0
+NoneTwice l = (i j : ℕ) → i < j → j < length l → getD l i [] ≢ getD l j []

@@ -1,5 +1,5 @@
 -- Document 01's listing, here a trace: calls of first way and next way on one way buffer, and the caller's writes between
--- them; and demand 3 about it. Definitions only.
+-- them; and that it follows the cursor. Definitions only.
 -- Assumes nothing.
 use Prim.Native.Nat.{ℕ, _≤_, _<_}
 use mathlib.Core.Path.{_≡_}
@@ -72,9 +72,8 @@ pub record Asked (q : Question) : Type 0 where
   pub destination : q .destination < q .stations
   pub different : q .source ≢ q .destination
 
--- Demand 3 about listings: every trace, from any buffer, follows the cursor that starts on the way with which the buffer
--- begins, or on none.
-abbrev pub Demand3 : Type 0
-Demand3 =
+-- Every trace, from any buffer, follows the cursor that starts on the way with which the buffer begins, or on none.
+abbrev pub EveryTraceFollows : Type 0
+EveryTraceFollows =
     (q : Question) → Asked q → (b : List ℕ) (es : List Event) → Trace q b es →
     FollowsCursor (listOf q) (indexIn (listOf q) b) b es

@@ -4,10 +4,10 @@
 use Prim.Native.Nat.{ℕ, _+_, _<_}
 use mathlib.Core.Path.{_≡_}
 use mathlib.Core.Bool.{Bool, true, false, _&&_}
-use mathlib.Core.List.{List, [], _∷_}
+use mathlib.Core.List.{List, [], _∷_, _++_}
 use lib.Dec.{eqb}
 use lib.ListN.{length, take}
-use Rattle.temporal.specs.Lists.{any, Rising}
+use Rattle.temporal.specs.Lists.{any, Rising, NoneTwice}
 use Rattle.temporal.specs.Cursor.{path, no-path, last-path, refused, Operation, first-way, next-way}
 use Rattle.temporal.specs.FirstNext.{Question, listOf}
 use Rattle.temporal.specs.Trace.{causeOf, Event, called, wrote, Trace, Asked}
@@ -39,11 +39,24 @@ EndsWhenAllOut l k (called c last-path after ∷ es) = (k ≡ length l) × EndsW
 EndsWhenAllOut l k (called c (refused j) after ∷ es) = EndsWhenAllOut l k es
 EndsWhenAllOut l k (wrote behind ∷ es) = EndsWhenAllOut l k es
 
--- From an accepted first way on, with no other after it, wherever the trace is broken off, the ways given are the first
--- ones of the complete list, none twice since they rise, and "none" or "last" comes exactly where all are out.
-abbrev pub Demand3Given : Type 0
-Demand3Given =
-    (q : Question) → Asked q → (b : List ℕ) (e : Event) (es : List Event) →
-    startsOver e ≡ true → any startsOver es ≡ false → Trace q b (e ∷ es) →
-    (given (e ∷ es) ≡ take (length (given (e ∷ es))) (listOf q)) × Rising (given (e ∷ es)) ×
-    EndsWhenAllOut (listOf q) 0 (e ∷ es)
+-- A stretch of a trace about q, from an accepted first way on, with no other accepted first way in it: it ends just before the
+-- next one, or earlier.
+pub record FromFirstWay (q : Question) (e : Event) (es : List Event) : Type 0 where
+  pub starts : startsOver e ≡ true
+  pub once : any startsOver es ≡ false
+  pub buffer : List ℕ
+  pub before : List Event
+  pub behind : List Event
+  pub trace : Trace q buffer (before ++ ((e ∷ es) ++ behind))
+
+-- Such a stretch gives the first ways of the complete list l, in its order, none twice; and "none" or "last" comes exactly
+-- where all are out.
+pub record GivesFirst (l : List (List ℕ)) (es : List Event) : Type 0 where
+  pub first-ones : given es ≡ take (length (given es)) l
+  pub rising : Rising (given es)
+  pub none-twice : NoneTwice (given es)
+  pub ends : EndsWhenAllOut l 0 es
+
+abbrev pub EveryTraceGives : Type 0
+EveryTraceGives =
+    (q : Question) → Asked q → (e : Event) (es : List Event) → FromFirstWay q e es → GivesFirst (listOf q) (e ∷ es)

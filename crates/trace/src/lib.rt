@@ -1,1 +1,1 @@
-// Laws alone: every trace of first way and next way follows the cursor (demand 3).
+// Laws alone: every trace of first way and next way follows the cursor.

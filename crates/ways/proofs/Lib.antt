@@ -6,7 +6,7 @@ mod AheadLaws
 mod ColumnLaws
 mod PassLaws
 -- the order of lists, searches, buffers, and what the code's tests decide
-mod OrderLaws
+pub mod OrderLaws
 mod SearchLaws
 mod ListingLaws
 mod CodeLaws

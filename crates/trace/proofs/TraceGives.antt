@@ -1,7 +1,7 @@
--- The second sentence of demand 3: from an accepted first way on, with no other after it, a trace gives the first paths
--- of the complete list, none twice, and says "none" or "last" exactly where all are out. It follows from demand3: with
--- k paths out the cursor is on path k - 1, so a next way gives path k while there is one, and then says "last"; where
--- the list is empty the cursor is on none, and every next way is refused. A refusal and a write leave the cursor.
+-- From an accepted first way on, with no other after it, a trace gives the first paths of the complete list, none twice, and
+-- says "none" or "last" exactly where all are out. It follows from every-trace-follows: with k paths out the cursor is on path
+-- k - 1, so a next way gives path k while there is one, and then says "last"; where the list is empty the cursor is on none,
+-- and every next way is refused. A refusal and a write leave the cursor.
 -- Assumes nothing.
 use Prim.Native.Nat.{ℕ, zero, suc, _+_, _<_}
 use native.Mathlib.Omega.{arith}
@@ -34,13 +34,14 @@ use Rattle.temporal.specs.Cursor.{
   go,
   move,
 }
-use Rattle.temporal.specs.FirstNext.{listOf}
-use Rattle.temporal.specs.Trace.{Call, causeOf, Event, called, wrote, overwritten, FollowsCursor}
-use Rattle.temporal.specs.TraceGiven.{isFirstWay, startsOver, given, EndsWhenAllOut, Demand3Given}
+use Rattle.temporal.specs.FirstNext.{Question, listOf}
+use Rattle.temporal.specs.Trace.{Call, causeOf, Event, called, wrote, overwritten, Trace, FollowsCursor, Asked}
+use Rattle.temporal.specs.TraceGiven.{isFirstWay, startsOver, given, EndsWhenAllOut, GivesFirst, EveryTraceGives}
 use Rattle.temporal.proofs.CauseLaws.{or-false-left, or-false-right}
-use Rattle.temporal.proofs.ListLaws.{not-both}
+use Rattle.temporal.proofs.ListLaws.{not-both, rising-none-twice}
 use Rattle.trace.proofs.CursorLaws.{take-over}
-use Rattle.trace.proofs.Demand3.{listOf-paths, demand3}
+use Rattle.trace.proofs.TraceFollows.{listOf-paths, every-trace-follows}
+use Rattle.trace.proofs.TraceParts.{trace-stretch}
 
 -- a beginning of a rising list rises
 rising-beginning : (a b : List (List ℕ)) → Rising (a ++ b) → Rising a
@@ -135,18 +136,31 @@ events-give l k at b (wrote behind ∷ es) s e f =
     let g = events-give l k at (overwritten l behind b) es s e f in
     record { ways = g .ways; ends = g .ends }
 
--- The second sentence of demand 3: from an accepted first way on, with no other after it, the paths given are the first
--- ones of the complete list, none twice, and "none" or "last" comes exactly where all are out.
-pub demand3-given : Demand3Given
+-- a trace that begins with an accepted first way, with no other in it, gives the first ones of the complete list
+gives-first : (q : Question) → Asked q → (b : List ℕ) (e : Event) (es : List Event) → startsOver e ≡ true
+    → any startsOver es ≡ false
+    → Trace q b (e ∷ es)
+    → GivesFirst (listOf q) (e ∷ es)
 unfolding FollowsCursor startsOver
-demand3-given q asked b (called c r after) es starts once t =
+gives-first q asked b (called c r after) es starts once t =
     let l = listOf q in
-    let f = demand3 q asked b (called c r after ∷ es) t in
+    let f = every-trace-follows q asked b (called c r after ∷ es) t in
     let g = call-gives l 0 b c r after es (first-goes l b (c .operation) (causeOf c) starts) (f .0) (f .1) (f .2)
     (λ j at d stands follows. events-give l j at d es stands once follows) in
-    let n = length (given (called c r after ∷ es)) in (
-      g .ways,
-      rw (g .ways) (rising-beginning (take n l) (drop n l) (rw take-append-drop (listOf-paths q asked .rises))),
-      g .ends,
-    )
-demand3-given q asked b (wrote behind) es starts once t = absurd (not-both starts refl)
+    let n = length (given (called c r after ∷ es)) in
+    let rises : Rising (given (called c r after ∷ es)) =
+    rw (g .ways) (rising-beginning (take n l) (drop n l) (rw take-append-drop (listOf-paths q asked .rises))) in
+    record {
+      first-ones = g .ways;
+      rising = rises;
+      none-twice = rising-none-twice (given (called c r after ∷ es)) rises;
+      ends = g .ends;
+    }
+gives-first q asked b (wrote behind) es starts once t = absurd (not-both starts refl)
+
+-- From an accepted first way on, with no other after it, the paths given are the first ones of the complete list, none twice,
+-- and "none" or "last" comes exactly where all are out.
+pub every-trace-gives : EveryTraceGives
+every-trace-gives q asked e es s =
+    let (b, t) = trace-stretch q (s .buffer) (s .before) (e ∷ es) (s .behind) (s .trace) in
+    gives-first q asked b e es (s .starts) (s .once) t

@@ -1,4 +1,4 @@
--- Demand 3: the answers and the buffers of every trace are those of the cursor, from any first buffer. An operation
+-- The answers and the buffers of every trace are those of the cursor, from any first buffer. An operation
 -- puts its cursor where the lent part of the buffer shows it, so the theorem says that to read the buffer anew at each
 -- call is to remember the cursor. It holds since the index of the path with which the buffer begins is always the
 -- cursor: a refusal, "none" and "last" leave the buffer; a call without cause 8 is lent at least the plan's slots,
@@ -29,7 +29,7 @@ use Rattle.temporal.specs.Trace.{
   Trace,
   FollowsCursor,
   Asked,
-  Demand3,
+  EveryTraceFollows,
 }
 use Rattle.temporal.proofs.CauseLaws.{
   first-append-left,
@@ -155,14 +155,14 @@ call-follows q asked c b r after met names =
 
 -- ---- a trace
 
--- Demand 3: every trace, from any buffer, follows the cursor that starts on the path with which the buffer begins.
-pub demand3 : Demand3
+-- Every trace, from any buffer, follows the cursor that starts on the path with which the buffer begins.
+pub every-trace-follows : EveryTraceFollows
 unfolding Trace FollowsCursor overwritten
-demand3 q asked b [] t = tt
-demand3 q asked b (called c r after ∷ es) t =
+every-trace-follows q asked b [] t = tt
+every-trace-follows q asked b (called c r after ∷ es) t =
     let f = call-follows q asked c b r after (t .0) (t .1) in
-    let rest = demand3 q asked after es (t .2) in
+    let rest = every-trace-follows q asked after es (t .2) in
     (f .reply, f .buffer, subst₂ (λ at d. FollowsCursor (listOf q) at d es) (f .cursor) (f .buffer) rest)
-demand3 q asked b (wrote behind ∷ es) t =
+every-trace-follows q asked b (wrote behind ∷ es) t =
     subst (λ at. FollowsCursor (listOf q) at (overwritten (listOf q) behind b) es)
-    (index-behind (listOf-paths q asked) b behind (t .0)) (demand3 q asked (overwritten (listOf q) behind b) es (t .1))
+    (index-behind (listOf-paths q asked) b behind (t .0)) (every-trace-follows q asked (overwritten (listOf q) behind b) es (t .1))

@@ -1,0 +1,77 @@
+-- What pair and loads answer, from their contracts' own equations where the number is 0: pair counts the complete list, and
+-- loads leaves each station's pairs and load. Assumes nothing.
+use Prim.Native.Nat.{ℕ, _<_}
+use native.Mathlib.Omega.{arith}
+use mathlib.Core.Path.{_≡_, refl, sym, ap, _∙_}
+use mathlib.Core.Logic.{⊎-elim}
+use mathlib.Core.List.{List}
+use lib.ListN.{getD}
+use Rattle.temporal.specs.Shortest.{hops, through}
+use Rattle.temporal.specs.Load.{pairs, load}
+use Rattle.temporal.specs.Bytes.{planOf}
+use Rattle.temporal.specs.Cause.{tooMany, tooManyAnywhere}
+use Rattle.temporal.specs.Outcome.{Outcome}
+use Rattle.temporal.specs.OutcomePair.{PairValues, PairBuffers, paired, pair, LoadBuffers, loaded, loads}
+use Rattle.temporal.specs.FirstNext.{Question, listOf}
+use Rattle.temporal.proofs.BufferLaws.{written}
+use Rattle.temporal.proofs.EnteredLaws.{no-cause}
+use Rattle.temporal.proofs.ListLaws.{true-or-false}
+use Rattle.counting.proofs.ExactSum.{within-exact-sum}
+use Rattle.pair.specs.Answer.{pairValues}
+use Rattle.pair.specs.declared.PairAnswer.{PairAnswer}
+use Rattle.demands.specs.PairLoads.{CountedByPair, PairDemand, Loaded, LoadsDemand}
+
+module _ (q : Question) (old : PairBuffers) (r : PairAnswer) (new : PairBuffers) where
+  -- pair's work without cause 9 counts the complete list
+  pair-counted :
+      _≡_ {A = Outcome PairValues PairBuffers} (record { number = 0; values = pairValues r; buffers = new })
+      (paired (planOf (q .bytes) (q .stations) (q .slots)) (q .source) (q .destination) old) →
+      CountedByPair q (listOf q) r new × (pairValues r .hops ≡ hops (listOf q))
+  unfolding paired through planOf listOf
+  pair-counted e =
+      ⊎-elim
+      (λ many. absurd (let z : _≡_ {A = ℕ} 0 9 = ap (λ o. o .number) (rw many at e) in omega arith))
+      (λ few.
+      let here = rw few at e in (
+        record {
+          count = ap (λ o. o .values .count) (sym here);
+          through = λ v h.
+              sym
+              (written (through (planOf (q .bytes) (q .stations) (q .slots)) (q .source) (q .destination)) (q .stations) v
+              (old .throughTable) h) ∙
+              ap (λ o. getD (o .buffers .throughTable) v 0) (sym here);
+        },
+        ap (λ o. o .values .hops) here,
+      ))
+      (true-or-false (tooMany (planOf (q .bytes) (q .stations) (q .slots)) (q .source)))
+
+-- Pair: where it is accepted, its work was done.
+pub pair-demand : PairDemand
+unfolding pair
+pair-demand q old r new a =
+    pair-counted q old r new (no-cause _ _ (pairValues r) old new _ (rw (a .accepted) at (a .contract)))
+
+module _ (bs : List ℕ) (n t : ℕ) (old new : LoadBuffers) where
+  -- loads' work without cause 9 leaves each station's pairs and load
+  loads-summed :
+      _≡_ {A = Outcome (Unit {0}) LoadBuffers} (record { number = 0; values = tt; buffers = new })
+      (loaded (planOf bs n t) old) →
+      (v : ℕ) → v < n → Loaded bs n t new v
+  unfolding loaded planOf
+  loads-summed e v h =
+      ⊎-elim
+      (λ many. absurd (let z : _≡_ {A = ℕ} 0 9 = ap (λ o. o .number) (rw many at e) in omega arith))
+      (λ few.
+      let here = rw few at e in
+      record {
+        pairs-of = ap (λ o. getD (o .buffers .pairsTable) v 0) here ∙ written (pairs (planOf bs n t)) n v (old .pairsTable) h;
+        load-of = ap (λ o. getD (o .buffers .loadTable) v 0) here ∙ written (load (planOf bs n t)) n v (old .loadTable) h;
+        near = within-exact-sum (planOf bs n t) v;
+      })
+      (true-or-false (tooManyAnywhere (planOf bs n t)))
+
+-- Loads: where it is accepted, its work was done.
+pub loads-demand : LoadsDemand
+unfolding loads
+loads-demand bs n t old r new a =
+    loads-summed bs n t old new (no-cause _ tt tt old new _ (rw (a .accepted) at (a .contract)))
