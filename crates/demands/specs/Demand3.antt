@@ -1,4 +1,5 @@
--- Demand 3, whole. Definitions only.
+-- Demand 3, whole. It is about the operations themselves: the WayContract by which a trace's calls are judged is what first way
+-- and next way ensure (crates/listing), and PairAccepts and LoadsAccepts hold what pair and loads ensure. Definitions only.
 -- Assumes nothing.
 use Prim.Native.Nat.{ℕ}
 use mathlib.Core.Path.{_≡_}
