@@ -4,7 +4,7 @@
 use Prim.Native.Nat.{ℕ, _+_}
 use mathlib.Core.Path.{_≡_, refl, sym, ap, _∙_, fun-ext}
 use mathlib.Core.Bool.{Bool, true, false, not, cond, _&&_, _||_, and-true, and-false, or-false, not-and-self}
-use mathlib.Core.List.{List, [], _∷_, List·Memᴰ, List·Memᴰ·head, List·Memᴰ·tail, Memᴰ·cast}
+use mathlib.Core.List.{List, [], _∷_, List·Memᴰ, Memᴰ·cast}
 use mathlib.Core.Logic.{by-cases}
 use mathlib.Core.Option.{some}
 use native.Mathlib.Omega.{arith}
@@ -14,7 +14,7 @@ use lib.Dec.{eqb}
 use lib.ListN.{length}
 use Rattle.temporal.specs.Lists.{any, member, distinct, select, tuples}
 use Rattle.temporal.specs.Plan.{Plan, Appearance, start}
-use Rattle.temporal.specs.Walk.{run, lastOr, stationsOf, holds, isAt, isPath, isInterior}
+use Rattle.temporal.specs.Walk.{run, lastOr, stationsOf, holds, isAt, isWalkTo, isPath, isInterior}
 use Rattle.temporal.specs.Definition3.{startingPoints}
 use Rattle.temporal.specs.Shortest.{ofHops, shortest, shortestPaths, hops, count, through}
 use Rattle.temporal.specs.Bytes.{planOf}
@@ -23,9 +23,9 @@ use Rattle.temporal.proofs.ListLaws.{distinct-cons, mem-select, select-select, 
 use Rattle.temporal.proofs.ListLaws.{sum-ext, sum-map-add}
 use Rattle.temporal.proofs.ShortestLaws.{shortest-mem}
 use Rattle.temporal.proofs.WalkLaws.{SlotsWithin, run-nil, run-cons}
-use Rattle.temporal.proofs.PathLaws.{PathBy, path-inv}
+use Rattle.temporal.proofs.PathLaws.{PathBy, path-inv, last-visited}
 use Rattle.temporal.proofs.PlanLaws.{slots-within}
-use Rattle.temporal.proofs.Adequacy.{isWalkTo, bounded-ends, bounded-paths, shortest-walks-are-paths}
+use Rattle.temporal.proofs.Adequacy.{bounded-ends, bounded-paths, shortest-walks-are-paths}
 use Rattle.counting.proofs.Weights.{worth, behind, value, total, everywhere, value-less, value-ends}
 use Rattle.counting.proofs.Fewest.{shortest-ofHops}
 
@@ -65,14 +65,8 @@ forbidden s v l = ap (λ t. any t l) (fun-ext one) ∙ any-and (not (eqb v s)) (
         (λ e. rw (e, eq-eqb v v refl, and-true (not (eqb v s))))
         (λ n. rw (ne-eqb u v n, ne-eqb v u (λ e. n (sym e)), and-false (not (eqb v s))))
 
--- the last station of a run that is not empty is one of its stations
-last-visited : (y : Appearance) (l : List Appearance) → List·Memᴰ (lastOr y l .station) (stationsOf (y ∷ l))
-unfolding lastOr
-last-visited y [] = List·Memᴰ·head refl
-last-visited y (x ∷ l) = List·Memᴰ·tail (last-visited x l)
-
 -- the starting points of a run that visits no station twice are the stations that it visits without the last
-starts-visited : (v : ℕ) (x : Appearance) (l : List Appearance) → distinct (x .station ∷ stationsOf l) ≡ true
+pub starts-visited : (v : ℕ) (x : Appearance) (l : List Appearance) → distinct (x .station ∷ stationsOf l) ≡ true
     → member v (startingPoints x l) ≡ (not (eqb v (lastOr x l .station)) && member v (x .station ∷ stationsOf l))
 unfolding member any startingPoints lastOr
 starts-visited v x [] d = rw (or-false, not-and-self)

@@ -11,3 +11,9 @@ mod AccountLaws
 mod TracedLaws
 mod TenLaws
 pub mod Demand3
+-- demand 2, and the lists that it is about
+pub mod Demand2
+mod ListedLaws
+mod BetweenLaws
+-- what the load program prints for plan A
+pub mod PlanAText

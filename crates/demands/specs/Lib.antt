@@ -7,3 +7,7 @@ pub mod Demand1
 pub mod Listing
 pub mod PairLoads
 pub mod Demand3
+-- demand 2
+pub mod Demand2
+-- what the load program prints for plan A
+pub mod PlanAText

@@ -13,4 +13,3 @@ mod TurnLaws
 mod OutcomeLaws
 mod ReachedLaws
 pub mod CallLaws
-pub mod Demand2

@@ -12,7 +12,7 @@ use lib.Dec.{eqb}
 use lib.ListN.{length, getElem?}
 use Rattle.temporal.specs.Lists.{sum, below, Rising}
 use Rattle.temporal.specs.Plan.{Contact, Plan, Appearance, start}
-use Rattle.temporal.specs.Walk.{run, lastOr, endsIn, isAt, isAppearance, isWalk, isPath}
+use Rattle.temporal.specs.Walk.{run, lastOr, endsIn, isAt, isWalkTo, isAppearance, isWalk, isPath}
 use Rattle.temporal.specs.Shortest.{shortest, shortestWalks, shortestPaths, hops, count}
 use Rattle.temporal.specs.Definition3.{isPath000}
 use Rattle.temporal.specs.Bytes.{contactAt, records, planOf}
@@ -46,10 +46,6 @@ use Rattle.temporal.proofs.PathLaws.{
   walk-to-station,
   walk-one-slot,
 }
-
--- whether w is a walk from s to station z
-abbrev pub isWalkTo : Plan → ℕ → ℕ → List ℕ → Bool
-isWalkTo p s z = endsIn p (start s) (isAt z)
 
 -- walks of a plan whose contacts lie within its slots are bounded
 pub bounded-ends : (p : Plan) → SlotsWithin p → (s : ℕ) (t : Appearance → Bool) → Bounded p (endsIn p (start s) t)

@@ -57,15 +57,17 @@ module _ {Values Buffers : Type 0} (zeros : Values) (old : Buffers) (work : Outc
   entered-work = refl
 
 -- a number that is 0 came from no cause
-pub no-cause :
-    {Values Buffers : Type 0} (causes : List ℕ) (zeros v : Values) (old b : Buffers) (work : Outcome Values Buffers) →
-    _≡_ {A = Outcome Values Buffers} (record { number = 0; values = v; buffers = b }) (entered causes zeros old work) →
-    _≡_ {A = Outcome Values Buffers} (record { number = 0; values = v; buffers = b }) work
-unfolding entered
-no-cause causes zeros v old b work e = decide (first causes) refl
+module _ {Values Buffers : Type 0} (causes : List ℕ) (zeros v : Values) (old b : Buffers) (work : Outcome Values Buffers)
+    (e : _≡_ {A = Outcome Values Buffers} (record { number = 0; values = v; buffers = b }) (entered causes zeros old work))
   where
-    decide : (k : ℕ) → first causes ≡ k → record { number = 0; values = v; buffers = b } ≡ work
-    decide zero q = e ∙ unless-none (first causes) _ _ q
-    decide (suc k) q =
-        absurd (let z : _≡_ {A = ℕ} 0 (first causes) =
-        ap (λ o. o .number) (e ∙ unless-some (first causes) _ _ (omega arith)) in omega arith)
+    pub no-first : first causes ≡ 0
+    unfolding entered
+    no-first = decide (first causes) refl
+      where
+        decide : (k : ℕ) → first causes ≡ k → first causes ≡ 0
+        decide zero q = q
+        decide (suc k) q = sym (ap (λ o. o .number) (e ∙ unless-some (first causes) _ _ (omega arith)))
+
+    pub no-cause : _≡_ {A = Outcome Values Buffers} (record { number = 0; values = v; buffers = b }) work
+    unfolding entered
+    no-cause = e ∙ unless-none (first causes) _ _ no-first

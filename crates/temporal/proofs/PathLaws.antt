@@ -16,10 +16,10 @@ use lib.ListN.{length}
 use Rattle.temporal.specs.Lists.{any, member, distinct, sum, below}
 use Rattle.temporal.specs.Plan.{Plan, Appearance, start}
 use Rattle.temporal.specs.Walk.{step, run, lastOr, stationsOf, holds, endsIn}
-use Rattle.temporal.specs.Walk.{isAt, isAppearance, isWalk, isPath, isInterior}
+use Rattle.temporal.specs.Walk.{isAt, isWalkTo, isAppearance, isWalk, isPath, isInterior}
 use Rattle.temporal.specs.Definition3.{startingPoints, isPath000}
 use Rattle.temporal.proofs.OptionLaws.{holds-inv}
-use Rattle.temporal.proofs.ListLaws.{member-true, sum-zero, sum-of-guarded}
+use Rattle.temporal.proofs.ListLaws.{member-true, distinct-cons, sum-zero, sum-of-guarded}
 use Rattle.temporal.proofs.WalkLaws.{step-later, step-earlier, run-nil, run-cons, SlotsWithin, run-last-within}
 use Rattle.temporal.proofs.WalkLaws.{ends-inv, ends-intro, ends-nil, ends-step, ends-after}
 
@@ -190,8 +190,27 @@ pub path-definition3 : (p : Plan) (s z : ℕ) → s ≢ z → (w : List ℕ) →
 unfolding isPath isPath000
 path-definition3 p s z h w = ap (holds (run p (start s) w)) (fun-ext (λ l. definitions-agree z (start s) l h))
 
+-- document 000's path from s to z is a walk to z
+pub definition3-is-walk : (p : Plan) (s z : ℕ) (w : List ℕ) → isPath000 p s z w ≡ true → isWalkTo p s z w ≡ true
+unfolding isPath000
+definition3-is-walk p s z w e =
+    let (l, runs, both) = holds-inv (run p (start s) w) _ e in
+    ends-intro p (start s) (isAt z) w runs (and-eq-true-iff (isAt z (lastOr (start s) l)) _ .0 both .0)
+
+-- every path is document 000's, from a station to itself too
+pub path-meets-definition3 : (p : Plan) (s z : ℕ) (w : List ℕ) → isPath p s z w ≡ true → isPath000 p s z w ≡ true
+unfolding isPath000 holds
+path-meets-definition3 p s z w e =
+    let r = path-inv p s z w e in
+    let apart = distinct-cons s (stationsOf (r .visits)) .0 (r .apart) .1 in
+    rw (r .runs)
+    (and-eq-true-iff _ _ .1 (
+      eq-eqb (lastOr (start s) (r .visits) .station) z (r .ends),
+      and-eq-true-iff _ _ .1 (starts-apart (start s) (r .visits) (r .apart), apart),
+    ))
+
 -- the last station of a run that is not empty is one of its stations
-last-visited : (y : Appearance) (l : List Appearance) → List·Memᴰ (lastOr y l .station) (stationsOf (y ∷ l))
+pub last-visited : (y : Appearance) (l : List Appearance) → List·Memᴰ (lastOr y l .station) (stationsOf (y ∷ l))
 unfolding lastOr
 last-visited y [] = List·Memᴰ·head refl
 last-visited y (x ∷ l) = List·Memᴰ·tail (last-visited x l)

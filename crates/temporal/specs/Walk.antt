@@ -52,6 +52,10 @@ isAppearance v t x = eqb (x .station) v && eqb (x .slot) t
 abbrev pub isAt : ℕ → Appearance → Bool
 isAt z x = eqb (x .station) z
 
+-- whether w is a walk from s to station z, in whatever slot: document 000's strict temporal walk from s to z (Def. 2)
+abbrev pub isWalkTo : Plan → ℕ → ℕ → List ℕ → Bool
+isWalkTo p s z = endsIn p (start s) (isAt z)
+
 -- whether w is a walk from s to the appearance (v, t)
 unfoldable pub isWalk : Plan → ℕ → ℕ → ℕ → List ℕ → Bool
 isWalk p s v t = endsIn p (start s) (isAppearance v t)

@@ -14,7 +14,7 @@ use lib.Dec.{eqb}
 use lib.ListN.{length, length-append}
 use Rattle.temporal.specs.Lists.{tuples}
 use Rattle.temporal.specs.Plan.{Plan, Appearance, start}
-use Rattle.temporal.specs.Walk.{step, run, lastOr, holds, endsIn, isAt}
+use Rattle.temporal.specs.Walk.{step, run, lastOr, holds, endsIn, isAt, isWalkTo}
 use Rattle.temporal.specs.Shortest.{ofHops, shortestPaths, hops}
 use Rattle.temporal.specs.Bytes.{planOf}
 use Rattle.temporal.specs.Cause.{planFault}
@@ -26,7 +26,7 @@ use Rattle.temporal.proofs.WalkLaws.{step-inv, run-append, run-join, last-appen
 use Rattle.temporal.proofs.WalkLaws.{ends-inv, ends-intro, ends-nil, ends-step, ends-after}
 use Rattle.temporal.proofs.Accepted.{accepted}
 use Rattle.temporal.proofs.PlanLaws.{contact-within, slots-within}
-use Rattle.temporal.proofs.Adequacy.{isWalkTo, bounded-ends, shortest-walks-are-paths, walk-ends-within}
+use Rattle.temporal.proofs.Adequacy.{bounded-ends, shortest-walks-are-paths, walk-ends-within}
 use Rattle.counting.proofs.Fewest.{shortest-ofHops}
 use Rattle.ways.specs.Home.{homeFrom}
 use Rattle.ways.specs.Prefix.{endAfter, completes}

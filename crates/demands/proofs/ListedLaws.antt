@@ -1,0 +1,138 @@
+-- The lists of shortest paths and walks are what demand 2 says of them. A law marked (kept) rests on a reading being kept until
+-- the plan ends. Assumes nothing.
+use Prim.Native.Nat.{ℕ, _≤_, _<_}
+use native.Mathlib.Omega.{arith}
+use mathlib.Core.Path.{_≡_, refl, sym, ap, _∙_}
+use mathlib.Core.Bool.{Bool, true}
+use mathlib.Core.List.{List, [], _∷_, List·Memᴰ, List·Memᴰ·head, List·Memᴰ·tail, List·Memᴰ·not-nil}
+use mathlib.Core.Logic.{_↔_}
+use lib.ListN.{length}
+use Rattle.temporal.specs.Lists.{NoneTwice}
+use Rattle.temporal.specs.Plan.{Plan}
+use Rattle.temporal.specs.Walk.{isAt, isAppearance, isWalk}
+use Rattle.temporal.specs.Shortest.{shortest, shortestWalks, shortestPaths, hops, count}
+use Rattle.temporal.specs.Bytes.{planOf}
+use Rattle.temporal.specs.Cause.{planFault}
+use Rattle.temporal.proofs.Accepted.{accepted}
+use Rattle.temporal.proofs.ListLaws.{rising-none-twice, length-zero}
+use Rattle.temporal.proofs.ShortestLaws.{
+  Bounded,
+  Found,
+  nowhere,
+  at-hops,
+  found,
+  mem-ofHops,
+  least-member,
+  hops-least,
+  hops-empty,
+  shortest-rising,
+  shortest-least,
+  shortest-mem,
+}
+use Rattle.temporal.proofs.PathLaws.{definition3-is-walk, path-meets-definition3}
+use Rattle.temporal.proofs.PlanLaws.{slots-within}
+use Rattle.temporal.proofs.Adequacy.{bounded-ends, in-complete-list, shortest-walks-are-paths}
+use Rattle.demands.specs.Demand2.{ShortestList, StationList, AppearanceList}
+
+-- A list of the shortest walks of a bounded test, where all of them pass another test that only walks pass.
+module _ {p : Plan} {passes isAWalk : List ℕ → Bool} (b : Bounded p isAWalk) (few : p .slots < 65535)
+    (walks : (w : List ℕ) → passes w ≡ true → isAWalk w ≡ true)
+    (pass : (w : List ℕ) → List·Memᴰ w (shortest p isAWalk) → passes w ≡ true) where
+  -- a walk that no walk is shorter than has the hops of the shortest
+  least-hops :
+      (w : List ℕ) → isAWalk w ≡ true → ((w′ : List ℕ) → isAWalk w′ ≡ true → length w ≤ length w′) →
+      length w ≡ hops (shortest p isAWalk)
+  least-hops w e least = step (found b)
+    where
+      step : Found p isAWalk → length w ≡ hops (shortest p isAWalk)
+      step (nowhere z none) = absurd (none w e)
+      step (at-hops k h z) =
+          let (u, m) = least-member h in
+          let (size, inside, q) = mem-ofHops p isAWalk k .0 m in
+          let at-most = least u q in
+          omega (arith, hops-least h, shortest-least b e)
+
+  -- no hops and no count exactly where there is no walk
+  without : (hops (shortest p isAWalk) ≡ 65535) ↔ ((w : List ℕ) → isAWalk w ≡ true → ⊥)
+  without = step (found b)
+    where
+      step : Found p isAWalk → (hops (shortest p isAWalk) ≡ 65535) ↔ ((w : List ℕ) → isAWalk w ≡ true → ⊥)
+      step (nowhere z none) = (λ e. none, λ e. hops-empty (shortest p isAWalk) z)
+      step (at-hops k h z) = (
+        λ e. absurd (let fits = h .fits in omega (arith, hops-least h)),
+        λ none. let (u, m) = least-member h in absurd (none u (mem-ofHops p isAWalk k .0 m .2)),
+      )
+
+  uncounted : (count (shortest p isAWalk) ≡ 0) ↔ ((w : List ℕ) → isAWalk w ≡ true → ⊥)
+  uncounted = step (found b)
+    where
+      step : Found p isAWalk → (count (shortest p isAWalk) ≡ 0) ↔ ((w : List ℕ) → isAWalk w ≡ true → ⊥)
+      step (nowhere z none) = (λ e. none, λ e. ap length z)
+      step (at-hops k h z) = (
+        λ e. absurd (h .some (sym z ∙ length-zero (shortest p isAWalk) .0 e)),
+        λ none. let (u, m) = least-member h in absurd (none u (mem-ofHops p isAWalk k .0 m .2)),
+      )
+
+  listed :
+      ShortestList passes isAWalk (shortest p isAWalk) (hops (shortest p isAWalk)) (count (shortest p isAWalk))
+  listed =
+      record {
+        once = rising-none-twice (shortest p isAWalk) (shortest-rising p isAWalk);
+        members = λ w. (
+          λ m. record {
+            passing = pass w m;
+            none-shorter = λ w′ e. let size = shortest-mem b .0 m .1 in rw size (shortest-least b e);
+          },
+          λ h. let e = walks w (h .passing) in shortest-mem b .1 (e, least-hops w e (h .none-shorter)),
+        );
+        lengths = λ w m. shortest-mem b .0 m .1;
+        number = refl;
+        no-hops = without;
+        no-count = uncounted;
+      }
+
+-- where the empty list of positions passes, it is the only member
+pub only-empty :
+    {passes isAWalk : List ℕ → Bool} {l : List (List ℕ)} {h c : ℕ} → ShortestList passes isAWalk l h c →
+    passes [] ≡ true → (h ≡ 0) × (c ≡ 1)
+unfolding NoneTwice
+only-empty {passes} {isAWalk} {l} {h} {c} k e =
+    let there = k .members [] .1 (record { passing = e; none-shorter = λ w′ q. omega arith }) in
+    (sym (k .lengths [] there), k .number ∙ one l there (λ w m. empty w (k .lengths w m ∙ sym (k .lengths [] there))) (k .once))
+  where
+    empty : (w : List ℕ) → length w ≡ 0 → w ≡ []
+    empty w q = length-zero w .0 q
+
+    one :
+        (l : List (List ℕ)) → List·Memᴰ [] l → ((w : List ℕ) → List·Memᴰ w l → w ≡ []) → NoneTwice l → length l ≡ 1
+    one [] m all once = absurd (List·Memᴰ·not-nil m)
+    one (x ∷ []) m all once = refl
+    one (x ∷ y ∷ l) m all once =
+        let same = all x (List·Memᴰ·head refl) ∙ sym (all y (List·Memᴰ·tail (List·Memᴰ·head refl))) in
+        absurd (once 0 1 (omega arith) (omega arith) same)
+
+module _ (bs : List ℕ) (n t : ℕ) (ok : planFault bs n t ≡ 0) where
+  few-slots : planOf bs n t .slots < 65535
+  unfolding planOf
+  few-slots = let most = accepted bs n t ok .slots in omega arith
+
+  -- (kept) the list of a station
+  pub station-listed :
+      (s v : ℕ) →
+      StationList (planOf bs n t) s v (hops (shortestPaths (planOf bs n t) s v)) (count (shortestPaths (planOf bs n t) s v))
+  station-listed s v =
+      let p = planOf bs n t in
+      let same = shortest-walks-are-paths bs n t ok s v in
+      rw same
+      (listed (bounded-ends p (slots-within bs n t ok) s (isAt v)) few-slots (definition3-is-walk p s v)
+      (λ w m. path-meets-definition3 p s v w (in-complete-list bs n t ok s v w .0 (rw same m) .0)))
+
+  -- the list of an appearance
+  pub appearance-listed :
+      (s v u : ℕ) →
+      AppearanceList (planOf bs n t) s v u (hops (shortestWalks (planOf bs n t) s v u))
+      (count (shortestWalks (planOf bs n t) s v u))
+  unfolding shortestWalks isWalk
+  appearance-listed s v u =
+      let b = bounded-ends (planOf bs n t) (slots-within bs n t ok) s (isAppearance v u) in
+      listed b few-slots (λ w e. e) (λ w m. shortest-mem b .0 m .0)
