@@ -177,6 +177,6 @@ unfolding load exactSum commonCount pairs share sum
 within-exact-sum p v =
     record {
       at-most = rounded-sum-at-most (2 ^ 32) (throughOf p v) (countOf p) (pairsOf p v) (pair-count p v);
-      below = rounded-sum-below (2 ^ 32) (throughOf p v) (countOf p) (pairsOf p v) (pair-count p v);
+      less = rounded-sum-below (2 ^ 32) (throughOf p v) (countOf p) (pairsOf p v) (pair-count p v);
       none = λ z. let e = length-zero (pairsOf p v) .0 z in (rw e, rw e);
     }

@@ -29,7 +29,7 @@ use Rattle.plan.proofs.Answers.{number-positive}
 use Rattle.calls.specs.Call.{pairCallFault, callCheckNumber}
 use Rattle.calls.specs.declared.CallCheck.{CallCheck}
 use Rattle.calls.specs.declared.CallCheck.the-variants as call-check
-use Rattle.listing.specs.Work.{Ready, wayOutcome}
+use Rattle.listing.specs.Work.{WayReady, wayOutcome}
 
 -- no fault of a call has the number 0
 call-number-positive : (f : CallFault) → 0 < callNumber f
@@ -96,7 +96,7 @@ module _ (o : Operation) (q : Question) (way work : List ℕ) where
           rw (call-decides ok) (unless-none callFaultOf refusal (wayWork o q way work) none)
 
       -- it is ready for the work
-      pub way-ready : Ready q way work
+      pub way-ready : WayReady q way work
       unfolding pairCallFault pairCauses
       way-ready =
           let none : callFaultOf ≡ 0 = sym answer ∙ ap callCheckNumber e in

@@ -43,7 +43,7 @@ use Rattle.pass.specs.Passed.{areaSize, Passed}
 use Rattle.ways.specs.Home.{Completed}
 use Rattle.ways.specs.Found.{listIn, isOffered, Listable, Startable, Continuable, Stepped}
 use Rattle.ways.specs.declared.Pair.{Pair}
-use Rattle.listing.specs.Work.{Ready, moved, Worked, wayOutcome}
+use Rattle.listing.specs.Work.{WayReady, moved, Worked, wayOutcome}
 
 -- ---- lists
 
@@ -106,7 +106,7 @@ pairOf q h =
       hops = h;
     }
 
-module _ (q : Question) (way work : List ℕ) (ready : Ready q way work) where
+module _ (q : Question) (way work : List ℕ) (ready : WayReady q way work) where
   few-list : (listOf q ≡ []) ⊎ (hops (listOf q) ≤ 255)
   unfolding listOf shortestPaths planOf
   few-list =

@@ -10,7 +10,7 @@ use Rattle.temporal.specs.FirstNext.{Question, listOf, overflow, WayOutcome}
 use Rattle.temporal.specs.Trace.{Asked}
 
 -- an accepted plan, two different stations of it, and buffers that are long enough
-pub record Ready (q : Question) (way work : List ℕ) : Type 0 where
+pub record WayReady (q : Question) (way work : List ℕ) : Type 0 where
   pub asked : Asked q
   pub room : q .slots ≤ length way
   pub area : workSize (q .stations) (q .slots) ≤ length work

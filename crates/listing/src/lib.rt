@@ -8,7 +8,7 @@ ghost use Rattle.temporal.specs.Outcome.{over, workSize};
 ghost use Rattle.temporal.specs.Cursor.{first-way, next-way};
 ghost use Rattle.temporal.specs.FirstNext.{wayWork, WayContract};
 ghost use Rattle.listing.specs.Answer.{replyOf, question};
-ghost use Rattle.listing.specs.Work.{Ready, Worked, wayOutcome};
+ghost use Rattle.listing.specs.Work.{WayReady, Worked, wayOutcome};
 use calls::CallCheck;
 use plan::CallFault;
 use plan::CheckAnswer;
@@ -41,7 +41,7 @@ fn first_work(
     way: &mut [u16],
     work: &mut [u64],
 ) -> WayAnswer
-    requires { ⌜ Ready (question (now plan) n t source destination) (now way) (now work) ⌝ }
+    requires { ⌜ WayReady (question (now plan) n t source destination) (now way) (now work) ⌝ }
     ensures { λ r. ⌜ Worked first-way (question (now (plan .entry)) n t source destination) (now (way .entry)) (now (work .entry)) (replyOf r) (now (way .exit)) (now (work .exit)) ⌝ }
 {
     if pass::pass(work, plan, n, t, source, 0, 0) {
@@ -73,7 +73,7 @@ fn first_cleared(
     way: &mut [u16],
     work: &mut [u64],
 ) -> WayAnswer
-    requires { ⌜ Ready (question (now plan) n t source destination) (now way) (now work) ⌝ }
+    requires { ⌜ WayReady (question (now plan) n t source destination) (now way) (now work) ⌝ }
     ensures { λ r. ⌜ wayOutcome (replyOf r) (now (way .exit)) (now (work .exit)) ≡ wayWork first-way (question (now (plan .entry)) n t source destination) (now (way .entry)) (now (work .entry)) ⌝ }
 {
     let answer = first_work(plan, n, t, source, destination, way, work);
@@ -136,7 +136,7 @@ fn next_work(
     way: &mut [u16],
     work: &mut [u64],
 ) -> WayAnswer
-    requires { ⌜ Ready (question (now plan) n t source destination) (now way) (now work) ⌝ }
+    requires { ⌜ WayReady (question (now plan) n t source destination) (now way) (now work) ⌝ }
     ensures { λ r. ⌜ Worked next-way (question (now (plan .entry)) n t source destination) (now (way .entry)) (now (work .entry)) (replyOf r) (now (way .exit)) (now (work .exit)) ⌝ }
 {
     if pass::pass(work, plan, n, t, source, 0, 0) {
@@ -173,7 +173,7 @@ fn next_cleared(
     way: &mut [u16],
     work: &mut [u64],
 ) -> WayAnswer
-    requires { ⌜ Ready (question (now plan) n t source destination) (now way) (now work) ⌝ }
+    requires { ⌜ WayReady (question (now plan) n t source destination) (now way) (now work) ⌝ }
     ensures { λ r. ⌜ wayOutcome (replyOf r) (now (way .exit)) (now (work .exit)) ≡ wayWork next-way (question (now (plan .entry)) n t source destination) (now (way .entry)) (now (work .entry)) ⌝ }
 {
     let answer = next_work(plan, n, t, source, destination, way, work);

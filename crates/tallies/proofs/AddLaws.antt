@@ -14,7 +14,7 @@ use lib.ListN.{length, getD, set, length-set}
 use lib.Seq.{getD-set-same, getD-set-other, drop-set-lt, lt-length-set}
 use Rattle.temporal.specs.Plan.{Plan}
 use Rattle.temporal.specs.Shortest.{shortestPaths, through, count}
-use Rattle.tallies.specs.Progress.{pairTerm, loadTerm, Entry, Kept}
+use Rattle.tallies.specs.Progress.{pairTerm, loadTerm, TallyEntry, Kept}
 use Rattle.tallies.specs.Progress.{countedIn, added, addedAt}
 use Rattle.tallies.proofs.TermLaws.{Nothing, nothing-through, through-destination, pair-adds, load-adds}
 use Rattle.tallies.proofs.TermLaws.{partly-next}
@@ -87,7 +87,7 @@ module _ (n base : ℕ) (w : List ℕ) (v : ℕ) (h : v < n) (fits : base + 2 * 
 
 -- a pair that adds nothing leaves the entries one destination ahead
 pub entry-nothing : (p : Plan) (n base s v z : ℕ) (w : List ℕ) → Nothing p v s z
-    → Entry p n base s v z w → Entry p n base s v (z + 1) w
+    → TallyEntry p n base s v z w → TallyEntry p n base s v (z + 1) w
 entry-nothing p n base s v z w none e =
     record {
       pairs-there = omega (arith, e .pairs-there, none .pairs, partly-next (pairTerm p v) n s z);
@@ -98,7 +98,7 @@ entry-nothing p n base s v z w none e =
 pub entry-added : (p : Plan) (n base s v z c past : ℕ) (w : List ℕ) → v < n → base + 2 * n ≤ length w → s ≢ z
     → c ≡ count (shortestPaths p s z)
     → (v ≢ z → past + through p s z v ≡ count (shortestPaths p s z))
-    → Entry p n base s v z w → Entry p n base s v (z + 1) (added n base w v z c past)
+    → TallyEntry p n base s v z w → TallyEntry p n base s v (z + 1) (added n base w v z c past)
 unfolding added
 entry-added p n base s v z c past w h fits apart counted row e =
     by-cases (ℕ-discrete v z)
@@ -111,7 +111,7 @@ entry-added p n base s v z c past w h fits apart counted row e =
     (entry-nothing p n base s v z w (nothing-through p v s z (omega (arith, row other))) e))
     (λ some. rw (ne-eqb (c - past) 0 some) (paired other some))))
   where
-    paired : v ≢ z → c - past ≢ 0 → Entry p n base s v (z + 1) (countedIn n base w v (2 ^ 32 * (c - past) / c))
+    paired : v ≢ z → c - past ≢ 0 → TallyEntry p n base s v (z + 1) (countedIn n base w v (2 ^ 32 * (c - past) / c))
     paired other some =
         let inside : through p s z v ≡ c - past = omega (arith, row other) in
         let positive : 0 < through p s z v = omega arith in

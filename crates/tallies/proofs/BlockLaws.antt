@@ -15,7 +15,7 @@ use Rattle.temporal.specs.Bytes.{planOf}
 use Rattle.temporal.specs.Cause.{tooMany}
 use Rattle.temporal.proofs.Accepted.{accepted}
 use Rattle.pass.specs.Passed.{areaSize, Ready, Passed}
-use Rattle.tallies.specs.Progress.{pairTerm, loadTerm, Entry, State, Kept, Working, Workable, Advanced}
+use Rattle.tallies.specs.Progress.{pairTerm, loadTerm, TallyEntry, State, Kept, Working, Workable, DestinationsAdded}
 use Rattle.tallies.specs.Sources.{BlockReady, BlockDone, SourceReady, SourceDone}
 use Rattle.tallies.proofs.TermLaws.{partly-source}
 use Rattle.tallies.proofs.StateLaws.{kept-over, kept-same, working-again}
@@ -43,7 +43,7 @@ module _ (p : Plan) (n base s low : ℕ) where
         later = λ v g l. entry v 0 (f .later v (omega arith) l);
       }
     where
-      entry : (v k : ℕ) → Entry p n base s v k x → Entry p n base s v k y
+      entry : (v k : ℕ) → TallyEntry p n base s v k x → TallyEntry p n base s v k y
       entry v k q =
           record {
             pairs-there = later-same a (base + v) y x (omega arith) e ∙ q .pairs-there;
@@ -116,7 +116,7 @@ module _ (bs : List ℕ) (n t base s low block : ℕ) (old : List ℕ) (pre : Bl
           record { plan = bs; slots = t; working = working-again bs n t base s low block block-working }
 
       -- the block is done
-      pub block-done : (new : List ℕ) → Advanced n base s low block 0 n mid new
+      pub block-done : (new : List ℕ) → DestinationsAdded n base s low block 0 n mid new
           → BlockDone bs n t base s low block old new false
       block-done new a =
           let w = a .working bs t (working-again bs n t base s low block block-working) in

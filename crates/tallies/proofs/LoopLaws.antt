@@ -8,7 +8,7 @@ use native.Mathlib.Omega.{arith}
 use lib.ListN.{length, getD}
 use Rattle.temporal.specs.Bytes.{planOf}
 use Rattle.temporal.specs.Shortest.{shortestPaths, hops}
-use Rattle.tallies.specs.Progress.{Working, Workable, Advanced, Addable, addedAt}
+use Rattle.tallies.specs.Progress.{Working, Workable, DestinationsAdded, Addable, addedAt}
 use Rattle.tallies.proofs.StateLaws.{working-again, working-over, working-self, working-unreached, working-row}
 use Rattle.tallies.proofs.StateLaws.{working-addable, working-add}
 
@@ -16,11 +16,11 @@ use Rattle.tallies.proofs.StateLaws.{working-addable, working-add}
 
 module _ (n base s low block z : ℕ) (old : List ℕ) where
   -- the source is no destination
-  pub row-self : z ≡ s → Advanced n base s low block z (z + 1) old old
+  pub row-self : z ≡ s → DestinationsAdded n base s low block z (z + 1) old old
   row-self e = record { working = λ bs t k. working-self bs n t base s low block z k e }
 
   -- a destination without a path adds nothing
-  pub row-unreached : z < n → 65535 ≤ getD old z 0 → Advanced n base s low block z (z + 1) old old
+  pub row-unreached : z < n → 65535 ≤ getD old z 0 → DestinationsAdded n base s low block z (z + 1) old old
   row-unreached h far = record { working = λ bs t k. working-unreached bs n t base s low block z k h far }
 
 -- for every plan, destination z is added to the first j stations of the block
@@ -36,7 +36,7 @@ module _ (n base s low block z : ℕ) (old : List ℕ) (j : ℕ) (w : List ℕ) 
   pub tracking-length : Workable n base s low block z old → length w ≡ length old
   tracking-length pre = f .working (pre .plan) (pre .slots) (pre .working) .kept .same-length
 
-  pub tracking-all : block ≤ j → Advanced n base s low block z (z + 1) old w
+  pub tracking-all : block ≤ j → DestinationsAdded n base s low block z (z + 1) old w
   tracking-all h = record { working = λ bs t k. working-row bs n t base s low block z (f .working bs t k) h }
 
   module _ (destination : z < n) (near : getD old z 0 < 65535) (h : j < block) where
@@ -64,7 +64,7 @@ module _ (n base s low block z : ℕ) (old : List ℕ) (j : ℕ) (w : List ℕ) 
 -- for every plan, the destinations below z are added
 pub record Sweeping (n base s low block : ℕ) (old : List ℕ) (z : ℕ) (w : List ℕ) : Type 0 where
   pub within : z ≤ n
-  pub advanced : Advanced n base s low block 0 z old w
+  pub advanced : DestinationsAdded n base s low block 0 z old w
 
 pub sweeping-none : (n base s low block : ℕ) (old : List ℕ) → Sweeping n base s low block old 0 old
 sweeping-none n base s low block old = record { within = omega arith; advanced = record { working = λ bs t k. k } }
@@ -84,7 +84,7 @@ module _ (n base s low block : ℕ) (old : List ℕ) (z : ℕ) (w : List ℕ) (f
     pub sweeping-length : length w ≡ length old
     sweeping-length = f .advanced .working (pre .plan) (pre .slots) (pre .working) .kept .same-length
 
-  pub sweeping-more : z < n → (x : List ℕ) → Advanced n base s low block z (z + 1) w x
+  pub sweeping-more : z < n → (x : List ℕ) → DestinationsAdded n base s low block z (z + 1) w x
       → Sweeping n base s low block old (z + 1) x
   sweeping-more h x a =
       record {
@@ -98,7 +98,7 @@ module _ (n base s low block : ℕ) (old : List ℕ) (z : ℕ) (w : List ℕ) (f
             };
       }
 
-  pub sweeping-all : n ≤ z → Advanced n base s low block 0 n old w
+  pub sweeping-all : n ≤ z → DestinationsAdded n base s low block 0 n old w
   sweeping-all h =
       let e : z ≡ n = let g = f .within in omega arith in
-      subst (λ y. Advanced n base s low block 0 y old w) e (f .advanced)
+      subst (λ y. DestinationsAdded n base s low block 0 y old w) e (f .advanced)

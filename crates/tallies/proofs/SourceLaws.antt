@@ -19,7 +19,7 @@ use Rattle.memory.specs.Fill.{filled}
 use Rattle.memory.proofs.FillLaws.{filled-length, filled-at, filled-beyond}
 use Rattle.pass.specs.Passed.{areaSize}
 use Rattle.tallies.specs.Tally.{blockOf, tallyBase, Tallyable, Tallied}
-use Rattle.tallies.specs.Progress.{pairTerm, loadTerm, Entry, Kept}
+use Rattle.tallies.specs.Progress.{pairTerm, loadTerm, TallyEntry, Kept}
 use Rattle.tallies.specs.Sources.{SourceReady, SourceDone, AllReady}
 use Rattle.tallies.proofs.TermLaws.{partly-none, pairs-partly, load-partly}
 use Rattle.tallies.proofs.StateLaws.{kept-over, kept-same}
@@ -48,7 +48,7 @@ all-ready bs n t base block w asked e f = record { asked = asked; block-there = 
 pub record Summing (bs : List ℕ) (n t base : ℕ) (old : List ℕ) (s : ℕ) (w : List ℕ) : Type 0 where
   pub within : s ≤ n
   pub few : (a : ℕ) → a < s → tooMany (planOf bs n t) a ≡ false
-  pub summed : (v : ℕ) → v < n → Entry (planOf bs n t) n base s v 0 w
+  pub summed : (v : ℕ) → v < n → TallyEntry (planOf bs n t) n base s v 0 w
   pub kept : Kept n base old w
 
 module _ (bs : List ℕ) (n t base block : ℕ) (old : List ℕ) (pre : AllReady bs n t base block old) where
@@ -145,7 +145,7 @@ module _ (bs : List ℕ) (n t base block : ℕ) (old : List ℕ) (pre : AllReady
     summing-all h =
         let p = planOf bs n t in
         let all : s ≡ n = let g = f .within in omega arith in
-        let entries = subst (λ y. (v : ℕ) → v < n → Entry p n base y v 0 w) all (f .summed) in
+        let entries = subst (λ y. (v : ℕ) → v < n → TallyEntry p n base y v 0 w) all (f .summed) in
         record {
           too-many =
               sym (any-false (tooMany p) (below n) .1 (λ a m. f .few a (let g = mem-below n .0 m in omega arith)));

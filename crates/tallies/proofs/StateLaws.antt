@@ -13,7 +13,7 @@ use Rattle.temporal.specs.Plan.{Plan}
 use Rattle.temporal.specs.Bytes.{planOf}
 use Rattle.temporal.specs.Shortest.{shortestPaths, hops}
 use Rattle.pass.specs.Passed.{areaSize, Counted}
-use Rattle.tallies.specs.Progress.{pairTerm, loadTerm, Entry, Kept, Working, addedAt, Addable}
+use Rattle.tallies.specs.Progress.{pairTerm, loadTerm, TallyEntry, Kept, Working, addedAt, Addable}
 use Rattle.tallies.proofs.TermLaws.{Nothing, nothing-self, nothing-through, through-none, partly-at-most}
 use Rattle.tallies.proofs.TermLaws.{pair-at-most, load-at-most-whole}
 use Rattle.tallies.proofs.AddLaws.{Moved, moved-added, entry-nothing, entry-added}
@@ -36,7 +36,7 @@ counted-front bs n t s low block base w x area same c =
 
 -- the entries of another station stay
 entry-moved : (p : Plan) (n base s u v k : ℕ) (w x : List ℕ) → Moved n base v w x → u < n → u ≢ v
-    → Entry p n base s u k w → Entry p n base s u k x
+    → TallyEntry p n base s u k w → TallyEntry p n base s u k x
 entry-moved p n base s u v k w x m h d e =
     record { pairs-there = m .other-pairs u h d ∙ e .pairs-there; load-there = m .other-loads u h d ∙ e .load-there }
 

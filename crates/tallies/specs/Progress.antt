@@ -31,17 +31,17 @@ unfoldable pub partly : (ℕ → ℕ → ℕ) → ℕ → ℕ → ℕ → ℕ
 partly f n s k = sum (map (λ a. sum (map (f a) (below n))) (below s)) + sum (map (f s) (below k))
 
 -- the entries of station v hold the sums over the sources below s, and over source s and the destinations below k
-pub record Entry (p : Plan) (n base s v k : ℕ) (work : List ℕ) : Type 0 where
+pub record TallyEntry (p : Plan) (n base s v k : ℕ) (work : List ℕ) : Type 0 where
   pub pairs-there : getD work (base + v) 0 ≡ partly (pairTerm p v) n s k
   pub load-there : getD work (base + n + v) 0 ≡ partly (loadTerm p v) n s k
 
 -- While source s is worked on with the stations low, .., low + block - 1, the destinations below z are added to all of the
 -- block, destination z to its first j stations; the stations before the block have all destinations, those after it none.
 pub record State (p : Plan) (n base s low block z j : ℕ) (work : List ℕ) : Type 0 where
-  pub done : (v : ℕ) → v < low → Entry p n base s v n work
-  pub ahead : (v : ℕ) → low ≤ v → v < low + j → Entry p n base s v (z + 1) work
-  pub here : (v : ℕ) → low + j ≤ v → v < low + block → Entry p n base s v z work
-  pub later : (v : ℕ) → low + block ≤ v → v < n → Entry p n base s v 0 work
+  pub done : (v : ℕ) → v < low → TallyEntry p n base s v n work
+  pub ahead : (v : ℕ) → low ≤ v → v < low + j → TallyEntry p n base s v (z + 1) work
+  pub here : (v : ℕ) → low + j ≤ v → v < low + block → TallyEntry p n base s v z work
+  pub later : (v : ℕ) → low + block ≤ v → v < n → TallyEntry p n base s v 0 work
 
 -- the tallies of n stations lie behind the pass's part of the work area, and within the list
 pub record Room (n base block : ℕ) (work : List ℕ) : Type 0 where
@@ -71,7 +71,7 @@ pub record Workable (n base s low block z : ℕ) (work : List ℕ) : Type 0 wher
   pub working : Working plan n slots base s low block z 0 work work
 
 -- for every plan, the tallies go on from destination z to destination y
-pub record Advanced (n base s low block z y : ℕ) (old new : List ℕ) : Type 0 where
+pub record DestinationsAdded (n base s low block z y : ℕ) (old new : List ℕ) : Type 0 where
   pub working : (bs : List ℕ) (t : ℕ) → Working bs n t base s low block z 0 old old
       → Working bs n t base s low block y 0 old new
 

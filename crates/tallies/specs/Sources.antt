@@ -8,7 +8,7 @@ use mathlib.Core.List.{List}
 use Rattle.temporal.specs.Bytes.{planOf}
 use Rattle.temporal.specs.Cause.{planFault, tooMany}
 use Rattle.tallies.specs.Tally.{blockOf, tallyBase, Tallyable}
-use Rattle.tallies.specs.Progress.{Entry, State, Room, Kept}
+use Rattle.tallies.specs.Progress.{TallyEntry, State, Room, Kept}
 
 -- what a block asks: an accepted plan, a source and a block in it, and the stations before the block done
 pub record BlockReady (bs : List ℕ) (n t base s low block : ℕ) (work : List ℕ) : Type 0 where
@@ -30,12 +30,12 @@ pub record SourceReady (bs : List ℕ) (n t base block s : ℕ) (work : List ℕ
   pub source : s < n
   pub some-block : 0 < block
   pub room : Room n base block work
-  pub summed : (v : ℕ) → v < n → Entry (planOf bs n t) n base s v 0 work
+  pub summed : (v : ℕ) → v < n → TallyEntry (planOf bs n t) n base s v 0 work
 
 -- what a source promises: whether a count is over 2^64 - 1, and where none is, the source done too
 pub record SourceDone (bs : List ℕ) (n t base s : ℕ) (old new : List ℕ) (r : Bool) : Type 0 where
   pub too-many : r ≡ tooMany (planOf bs n t) s
-  pub summed : r ≡ false → (v : ℕ) → v < n → Entry (planOf bs n t) n base (s + 1) v 0 new
+  pub summed : r ≡ false → (v : ℕ) → v < n → TallyEntry (planOf bs n t) n base (s + 1) v 0 new
   pub kept : Kept n base old new
 
 -- what all sources ask: what the tallies ask, with their block and base

@@ -4,7 +4,7 @@ ghost use mathlib.Core.Path.{_≡_};
 ghost use Prim.Native.Nat.{_+_, _*_, _<_, _≤_, min};
 ghost use lib.ListN.{length};
 ghost use Rattle.tallies.specs.Tally.{tallyBase, Tallyable, Tallied};
-ghost use Rattle.tallies.specs.Progress.{addedAt, Addable, Workable, Advanced};
+ghost use Rattle.tallies.specs.Progress.{addedAt, Addable, Workable, DestinationsAdded};
 ghost use Rattle.tallies.specs.Sources.{BlockReady, BlockDone, SourceReady, SourceDone, AllReady};
 
 // The smaller of two numbers.
@@ -49,7 +49,7 @@ fn add_row(
     z: usize,
 )
     requires { ⌜ Workable n base source low block z (now work) × (z < n) ⌝ }
-    ensures { λ _. ⌜ Advanced n base source low block z (z + 1) (now (work .entry)) (now (work .exit)) ⌝ }
+    ensures { λ _. ⌜ DestinationsAdded n base source low block z (z + 1) (now (work .entry)) (now (work .exit)) ⌝ }
 {
     if z == source {
         return;
@@ -67,7 +67,7 @@ fn add_row(
 // Adds every destination to every station of the block.
 fn add_rows(work: &mut [u64], n: usize, base: usize, source: usize, low: usize, block: usize)
     requires { ⌜ Workable n base source low block 0 (now work) ⌝ }
-    ensures { λ _. ⌜ Advanced n base source low block 0 n (now (work .entry)) (now (work .exit)) ⌝ }
+    ensures { λ _. ⌜ DestinationsAdded n base source low block 0 n (now (work .entry)) (now (work .exit)) ⌝ }
 {
     let mut z = 0;
     while z < n {

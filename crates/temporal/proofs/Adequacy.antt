@@ -135,8 +135,7 @@ module _ (bs : List ℕ) (n t : ℕ) (ok : planFault bs n t ≡ 0) where
     run-last-within (planOf bs n t) (slots-within bs n t ok) (start s) w (omega arith) e,
   )
 
-  -- A station's appearances account for its shortest walks: none has fewer hops than the station, and those with as many
-  -- hops have together as many shortest walks.
+  -- (kept) No appearance of a station has fewer hops than the station.
   pub appearance-at-least :
       (s v u : ℕ) → u < t + 1 → hops (shortestPaths (planOf bs n t) s v) ≤ hops (shortestWalks (planOf bs n t) s v u)
   unfolding shortestWalks planOf
@@ -146,6 +145,8 @@ module _ (bs : List ℕ) (n t : ℕ) (ok : planFault bs n t ≡ 0) where
       (below (t + 1)) (walk-one-slot (planOf bs n t) s v (slots-within bs n t ok)) (mem-below (t + 1) .1 h)
       (let few = accepted bs n t ok .slots in omega arith))
 
+  -- (kept) A station's appearances with as many hops as the station have together as many shortest walks as it has shortest
+  -- paths.
   pub appearances-account :
       (s v : ℕ) →
       count (shortestPaths (planOf bs n t) s v) ≡

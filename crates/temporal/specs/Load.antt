@@ -59,7 +59,7 @@ exactSum p v = sum (map (λ e. throughOf p v e * (commonCount p v / countOf p e)
 -- and 2^32 × S is below (load + pairs) × D; where there are none, load and S are 0.
 pub record WithinExactSum (p : Plan) (v : ℕ) : Type 0 where
   pub at-most : load p v * commonCount p v ≤ 2 ^ 32 * exactSum p v
-  pub below : 0 < pairs p v → 2 ^ 32 * exactSum p v < (load p v + pairs p v) * commonCount p v
+  pub less : 0 < pairs p v → 2 ^ 32 * exactSum p v < (load p v + pairs p v) * commonCount p v
   pub none : pairs p v ≡ 0 → (load p v ≡ 0) × (exactSum p v ≡ 0)
 
 -- Document 01's busiest: one of the stations, and no other's load exceeds its load. Among equals any may be given.
