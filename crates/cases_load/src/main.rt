@@ -13,22 +13,12 @@ fn write_text(input: &[u8]) {
 
 // One case; false where the input has no further one.
 fn run_case(head: &mut [u8], label: &mut [u8], input: &mut [u8]) -> bool {
-    if !cases::read_part(head, 4) {
+    if !cases::read_case(head, label, input, 0, 2) {
         return false;
     }
-    let name = cases::word(head, 0);
-    let size = cases::word(head, 2);
-    if !cases::read_part(label, name) {
-        return false;
-    }
-    if !cases::read_part(input, size) {
-        return false;
-    }
-    if input.len() < size {
-        return false;
-    }
-    cases::write_part(label, name);
+    cases::write_part(label, cases::word(head, 0));
     cases::write_part(b":\n", 2);
+    let size = cases::least(cases::word(head, 2), input.len());
     write_text(&input[..size]);
     true
 }
