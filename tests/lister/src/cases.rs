@@ -10,6 +10,7 @@ mod limits;
 mod records;
 
 use crate::answer::number;
+use crate::files::{case_bytes, words_bytes, Filed};
 use crate::plan::{check, PlanInput};
 
 pub use generated::{damage, generated_cases, valid_records, SEED};
@@ -33,7 +34,7 @@ pub const PLAN_A: [Record; 6] = [
 /// The bytes of records, each field high byte first.
 pub fn plan_bytes(records: &[Record]) -> Vec<u8> {
     let fields = records.iter().flat_map(|(slot, a, b)| [*slot, *a, *b]);
-    fields.flat_map(u16::to_be_bytes).collect()
+    words_bytes(fields).collect()
 }
 
 /// One call of check.
@@ -78,29 +79,23 @@ impl Case {
 
 /// All cases, in the order of the files.
 pub fn all_cases() -> Vec<Case> {
-    let mut cases = limits::cases();
-    cases.extend(records::cases());
-    cases.extend(causes::cases());
-    cases.extend(generated_cases());
-    cases
+    [
+        limits::cases(),
+        records::cases(),
+        causes::cases(),
+        generated_cases(),
+    ]
+    .concat()
 }
 
-/// The bytes of standard input.
-pub fn stdin_bytes(cases: &[Case]) -> Vec<u8> {
-    let mut bytes = Vec::new();
-    for case in cases {
-        let lengths = [case.bytes.len() as u16, case.label.len() as u16];
-        for head in [case.stations, case.slots, lengths[0], lengths[1]] {
-            bytes.extend(head.to_be_bytes());
-        }
-        bytes.extend(case.label.bytes());
-        bytes.extend(&case.bytes);
+impl Filed for Case {
+    fn stdin(&self) -> Vec<u8> {
+        let lengths = [self.bytes.len(), self.label.len()].map(|length| length as u16);
+        let head = [self.stations, self.slots, lengths[0], lengths[1]];
+        case_bytes(&head, &[], &self.label, &self.bytes)
     }
-    bytes
-}
 
-/// The expected standard output.
-pub fn stdout_text(cases: &[Case]) -> String {
-    let line = |case: &Case| format!("{} {}\n", case.label, case.number());
-    cases.iter().map(line).collect()
+    fn stdout(&self) -> String {
+        format!("{} {}\n", self.label, self.number())
+    }
 }

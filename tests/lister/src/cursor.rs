@@ -1,20 +1,14 @@
 //! The cursor, document 01's finger, and traces, document 01's listings.
 
 use crate::answer::{Answer, CallFault};
-use crate::ways::{first_way_within, next_way_within, paths_of_call, Found, PathCall};
-
-/// Which operation a call of a trace makes.
-#[derive(Clone, Copy, Debug, PartialEq, Eq)]
-pub enum Operation {
-    First,
-    Next,
-}
+use crate::means::LISTED;
+use crate::ways::{paths_of_call, Found, PathCall, Way};
 
 /// One step of a trace.
 #[derive(Clone, Copy, Debug)]
 pub enum Step<'a> {
     /// A call; the way buffer lent is a beginning of the trace's buffer, of the named length.
-    Call(Operation, PathCall<'a>),
+    Call(Way, PathCall<'a>),
     /// The caller writes one entry of the buffer.
     Write(usize, u16),
 }
@@ -51,18 +45,18 @@ impl Cursor {
     }
 
     /// What the call must answer; its causes other than 10 come from the arguments alone.
-    pub fn call(&mut self, operation: Operation, call: &PathCall) -> Answer<Found> {
+    pub fn call(&mut self, way: Way, call: &PathCall) -> Answer<Found> {
         let causes = paths_of_call(self.limit, call).map(|_| ());
-        self.answer(operation, causes)
+        self.answer(way, causes)
     }
 
     /// What a call must answer, its causes other than 10 being given.
-    pub fn answer(&mut self, operation: Operation, causes: Answer<()>) -> Answer<Found> {
+    pub fn answer(&mut self, way: Way, causes: Answer<()>) -> Answer<Found> {
         causes?;
-        match operation {
-            Operation::First if self.list.is_empty() => Ok(Found::NoPath),
-            Operation::First => Ok(self.go_to(0)),
-            Operation::Next => match self.place {
+        match way {
+            Way::First if self.list.is_empty() => Ok(Found::NoPath),
+            Way::First => Ok(self.go_to(0)),
+            Way::Next => match self.place {
                 None => Err(CallFault::NotShortest.into()),
                 Some(place) if place + 1 == self.list.len() => Ok(Found::Last),
                 Some(place) => Ok(self.go_to(place + 1)),
@@ -95,16 +89,12 @@ pub fn first_difference(
                 buffer[*entry] = *value;
                 cursor.write(*entry, *value);
             }
-            Step::Call(operation, call) => {
+            Step::Call(way, call) => {
                 let lent = &mut buffer[..call.buffer_length];
                 let mut scratch = vec![1; call.scratch_length];
-                let run = match operation {
-                    Operation::First => first_way_within,
-                    Operation::Next => next_way_within,
-                };
-                let (source, destination) = (call.source, call.destination);
-                let answer = run(limit, call.input, source, destination, lent, &mut scratch);
-                if answer != cursor.call(*operation, call) || buffer != cursor.buffer() {
+                let listed = LISTED.within(limit);
+                let answer = listed.way(*way, call.input, call.ends(), lent, &mut scratch);
+                if answer != cursor.call(*way, call) || buffer != cursor.buffer() {
                     return Some(at);
                 }
             }

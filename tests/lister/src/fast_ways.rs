@@ -5,15 +5,13 @@
 //! after a given one has the next rank. The module serves plans with too many walks to be listed; the
 //! tests compare it with the plain lister on small plans.
 
-use crate::answer::{Answer, CallFault};
-use crate::lent::scratch_named;
+use crate::answer::Answer;
 use crate::numbers::{Appearances, Walks};
-use crate::plan::{Plan, PlanInput};
-use crate::shortest::COUNT_LIMIT;
-use crate::ways::{accepted_plan, give, Found, PathCall};
+use crate::plan::{Appearance, Ends, Plan};
+use crate::ways::Paths;
 
 /// The shortest paths of one pair that has some.
-struct Ranked {
+pub struct Ranked {
     plan: Plan,
     appearances: Appearances,
     /// The start, (source, 0).
@@ -27,9 +25,13 @@ struct Ranked {
 
 impl Ranked {
     /// The pair's shortest paths; none if there is no path.
-    fn of_pair(plan: Plan, source: usize, destination: usize) -> Option<Ranked> {
-        let appearances = Appearances::new(&plan);
-        let start = appearances.number(source, 0);
+    fn of_pair(
+        plan: Plan,
+        appearances: Appearances,
+        source: usize,
+        destination: usize,
+    ) -> Option<Ranked> {
+        let start = appearances.number(Appearance::start(source));
         let mut completions = Vec::new();
         let mut last = appearances.ended(destination);
         while last[start] == 0 {
@@ -50,16 +52,11 @@ impl Ranked {
         })
     }
 
-    fn hops(&self) -> usize {
-        self.completions.len()
-    }
-
     /// The appearance that a contact brings after an appearance.
     fn followed(&self, at: usize, position: usize) -> Option<usize> {
-        let (station, slot) = self.appearances.all[at];
         let contact = self.plan.contacts.get(position)?;
-        let reached = contact.other(station)?;
-        (contact.slot > slot).then(|| self.appearances.number(reached, contact.slot))
+        let reached = self.appearances.all[at].step(*contact)?;
+        Some(self.appearances.number(reached))
     }
 
     /// The rank of offered positions; none if they are no shortest path.
@@ -101,68 +98,26 @@ impl Ranked {
     }
 }
 
-/// The paths of a call without a cause up to 9; where none up to 8 holds, the named scratch is 0.
-fn ranked(limit: u64, call: &PathCall, scratch: &mut [u64]) -> Answer<Option<Ranked>> {
-    let plan = accepted_plan(call)?;
-    scratch[..scratch_named(&plan)].fill(0);
-    let appearances = Appearances::new(&plan);
-    Walks::from_source(&appearances, call.source).few_enough(limit)?;
-    Ok(Ranked::of_pair(plan, call.source, call.destination))
-}
-
-/// First way: the first shortest path of the pair.
-pub fn first_way(
-    input: PlanInput,
-    source: usize,
-    destination: usize,
-    buffer: &mut [u16],
-    scratch: &mut [u64],
-) -> Answer<Found> {
-    first_way_within(COUNT_LIMIT, input, source, destination, buffer, scratch)
-}
-
-/// First way with the largest count as an argument.
-pub fn first_way_within(
-    limit: u64,
-    input: PlanInput,
-    source: usize,
-    destination: usize,
-    buffer: &mut [u16],
-    scratch: &mut [u64],
-) -> Answer<Found> {
-    let call = PathCall::lent(input, source, destination, buffer, scratch);
-    Ok(match ranked(limit, &call, scratch)? {
-        None => Found::NoPath,
-        Some(paths) => give(&paths.path(0), buffer),
-    })
-}
-
-/// Next way: the shortest path after the one with which the buffer begins.
-pub fn next_way(
-    input: PlanInput,
-    source: usize,
-    destination: usize,
-    buffer: &mut [u16],
-    scratch: &mut [u64],
-) -> Answer<Found> {
-    next_way_within(COUNT_LIMIT, input, source, destination, buffer, scratch)
-}
-
-/// Next way with the largest count as an argument.
-pub fn next_way_within(
-    limit: u64,
-    input: PlanInput,
-    source: usize,
-    destination: usize,
-    buffer: &mut [u16],
-    scratch: &mut [u64],
-) -> Answer<Found> {
-    let call = PathCall::lent(input, source, destination, buffer, scratch);
-    let paths = ranked(limit, &call, scratch)?.ok_or(CallFault::NotShortest)?;
-    let rank = paths.rank(&buffer[..paths.hops()]);
-    let next = rank.ok_or(CallFault::NotShortest)? + 1;
-    if next == paths.count {
-        return Ok(Found::Last);
+/// The pair's paths, none where it has no path.
+impl Paths for Option<Ranked> {
+    fn count(&self) -> u128 {
+        self.as_ref().map_or(0, |ranked| ranked.count)
     }
-    Ok(give(&paths.path(next), buffer))
+
+    fn path(&self, place: u128) -> Vec<u16> {
+        self.as_ref()
+            .map_or(Vec::new(), |ranked| ranked.path(place))
+    }
+
+    fn place(&self, buffer: &[u16]) -> Option<u128> {
+        let ranked = self.as_ref()?;
+        ranked.rank(&buffer[..ranked.completions.len()])
+    }
+}
+
+/// The shortest paths of a pair of an accepted plan, or cause 9.
+pub fn paths(limit: u64, plan: Plan, (source, destination): Ends) -> Answer<Option<Ranked>> {
+    let appearances = Appearances::new(&plan);
+    Walks::from_source(&appearances, source).few_enough(limit)?;
+    Ok(Ranked::of_pair(plan, appearances, source, destination))
 }

@@ -1,7 +1,7 @@
 //! Lent memory: the length of each named part.
 
-use crate::answer::{Answer, CallFault};
-use crate::plan::Plan;
+use crate::answer::Answer;
+use crate::causes::long_enough;
 
 /// The named entries of a table of appearances: n × (T+1).
 pub fn appearances(stations: usize, slots: usize) -> usize {
@@ -14,14 +14,17 @@ pub fn place(slots: usize, station: usize, slot: usize) -> usize {
 }
 
 /// The named entries of the scratch, document 01's work area: 4 × n × (T+1).
-pub fn scratch_named(plan: &Plan) -> usize {
-    4 * appearances(plan.stations, plan.slots)
+pub fn scratch_length(stations: usize, slots: usize) -> usize {
+    4 * appearances(stations, slots)
 }
 
-/// Cause 8: a lent table has at least its named entries.
-pub fn long_enough(length: usize, named: usize) -> Answer<()> {
-    if length < named {
-        return Err(CallFault::TooShort.into());
+/// Cause 8 for each lent table, in order; where none is too short, the named parts are then 0.
+pub fn clear(tables: &mut [(&mut [u64], usize)]) -> Answer<()> {
+    for (table, named) in tables.iter() {
+        long_enough(table.len(), *named)?;
+    }
+    for (table, named) in tables {
+        table[..*named].fill(0);
     }
     Ok(())
 }

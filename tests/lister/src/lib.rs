@@ -23,20 +23,26 @@
 //! The operations keep document 01's names.
 
 pub mod answer;
+pub mod call_cases;
 pub mod cases;
+pub mod causes;
 pub mod cursor;
 pub mod fast;
 pub mod fast_pairs;
 pub mod fast_ways;
+pub mod files;
 pub mod lent;
 pub mod load_cases;
 pub mod load_program;
 pub mod loads;
+pub mod means;
 pub mod numbers;
+pub mod operation;
 pub mod pair;
 pub mod pair_cases;
 pub mod plan;
 pub mod plans;
+pub mod program;
 pub mod random;
 pub mod reach;
 pub mod reach_cases;

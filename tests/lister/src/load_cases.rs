@@ -14,6 +14,7 @@ mod records;
 mod sizes;
 
 use crate::cases::{plan_bytes, Record};
+use crate::files::{case_bytes, Filed};
 use crate::load_program::load_text;
 
 pub use digits::{rare_path, RARE_PATHS};
@@ -78,21 +79,13 @@ pub fn all_cases() -> Vec<Case> {
     cases
 }
 
-/// The bytes of standard input.
-pub fn stdin_bytes(cases: &[Case]) -> Vec<u8> {
-    let mut bytes = Vec::new();
-    for case in cases {
-        for length in [case.label.len(), case.bytes.len()] {
-            bytes.extend((length as u16).to_be_bytes());
-        }
-        bytes.extend(case.label.bytes());
-        bytes.extend(&case.bytes);
+impl Filed for Case {
+    fn stdin(&self) -> Vec<u8> {
+        let head = [self.label.len(), self.bytes.len()].map(|length| length as u16);
+        case_bytes(&head, &[], &self.label, &self.bytes)
     }
-    bytes
-}
 
-/// The expected standard output.
-pub fn stdout_text(cases: &[Case]) -> String {
-    let part = |case: &Case| format!("{}:\n{}", case.label, case.text());
-    cases.iter().map(part).collect()
+    fn stdout(&self) -> String {
+        format!("{}:\n{}", self.label, self.text())
+    }
 }

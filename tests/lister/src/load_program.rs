@@ -1,10 +1,10 @@
 //! What the load program of document 01 prints, for any input.
 
 use crate::answer::{Answer, PlanFault};
+use crate::means::{Means, COUNTED, LISTED};
 use crate::numbers::Appearances;
-use crate::plan::{read, Contact, Plan, PlanInput, RECORD_BYTES};
-use crate::show::{loads_text_by, text_of, Loads};
-use crate::{fast_pairs, loads};
+use crate::plan::{contacts, read, whole_records, Plan, PlanInput};
+use crate::show::{loads_text, text_of};
 
 /// The load program's largest n.
 pub const MOST_STATIONS: usize = 32;
@@ -19,14 +19,10 @@ const MOST_LISTED: u128 = 10_000;
 /// The plan that an input names, or the first of causes 2 and 1. n is one more than the largest
 /// station number, T the slot of the last record; both are 1 for an empty input.
 fn named_plan(bytes: &[u8]) -> Answer<PlanInput<'_>> {
-    let records = bytes.chunks_exact(RECORD_BYTES);
-    if !records.remainder().is_empty() || records.len() > MOST_CONTACTS {
-        return Err(PlanFault::Length.into());
-    }
-    let contacts: Vec<Contact> = records.map(Contact::from_record).collect();
-    let largest = contacts.iter().map(|contact| contact.a.max(contact.b));
+    whole_records(bytes, MOST_CONTACTS)?;
+    let largest = contacts(bytes).map(|contact| contact.a.max(contact.b));
     let stations = largest.max().map_or(1, |station| station + 1);
-    let slots = contacts.last().map_or(1, |contact| contact.slot);
+    let slots = contacts(bytes).last().map_or(1, |contact| contact.slot);
     if stations > MOST_STATIONS || !(1..=MOST_SLOTS).contains(&slots) {
         return Err(PlanFault::Limits.into());
     }
@@ -49,12 +45,12 @@ pub fn is_listed(plan: &Plan) -> bool {
     number_of_walks(plan) <= MOST_LISTED
 }
 
-/// Operation 5 for a plan.
-fn loads_for(plan: &Plan) -> Loads {
+/// The means by which the loads of a plan are found.
+fn means_for(plan: &Plan) -> Means {
     if is_listed(plan) {
-        loads::loads
+        LISTED
     } else {
-        fast_pairs::loads
+        COUNTED
     }
 }
 
@@ -64,14 +60,14 @@ pub fn accepted_plan(bytes: &[u8]) -> Answer<Plan> {
 }
 
 /// The whole output for an input, with loads by the given means.
-pub fn load_text_by(loads: Loads, bytes: &[u8]) -> String {
-    text_of(named_plan(bytes).and_then(|input| loads_text_by(loads, input)))
+pub fn load_text_by(means: Means, bytes: &[u8]) -> String {
+    text_of(named_plan(bytes).and_then(|input| loads_text(means, input)))
 }
 
 /// The whole output for an input.
 pub fn load_text(bytes: &[u8]) -> String {
     match accepted_plan(bytes) {
-        Ok(plan) => load_text_by(loads_for(&plan), bytes),
+        Ok(plan) => load_text_by(means_for(&plan), bytes),
         Err(refusal) => text_of(Err(refusal)),
     }
 }

@@ -1,10 +1,9 @@
 //! Operations 5 and 6, loads and busiest.
 
 use crate::answer::Answer;
-use crate::lent::{long_enough, scratch_named};
-use crate::pair::through_count;
+use crate::lent::{clear, scratch_length};
+use crate::means::Means;
 use crate::plan::{read, Plan, PlanInput};
-use crate::shortest::{count_of, shortest_paths, walks_within, COUNT_LIMIT};
 
 /// The pairs and the load of one station.
 #[derive(Clone, Copy, Debug, Default, PartialEq, Eq)]
@@ -33,95 +32,73 @@ pub fn share(through: u64, count: u64) -> u64 {
     ((u128::from(through) << 32) / u128::from(count)) as u64
 }
 
-/// Pairs and load of every station.
-fn loads_of(limit: u64, plan: &Plan) -> Answer<Vec<Load>> {
-    let mut loads = vec![Load::default(); plan.stations];
-    for source in 0..plan.stations {
-        let walks = walks_within(limit, plan, source)?;
-        for destination in (0..plan.stations).filter(|station| *station != source) {
-            let paths = shortest_paths(&walks, destination);
-            for (station, entry) in loads.iter_mut().enumerate() {
-                let through = through_count(&paths, station);
-                if through > 0 {
-                    entry.pairs += 1;
-                    entry.load += share(through, count_of(&paths));
-                }
-            }
-        }
-    }
-    Ok(loads)
-}
-
-/// The plan of loads without a cause up to 8; the named parts of tables and scratch are then 0.
-pub fn cleared(
-    input: PlanInput,
-    pairs: &mut [u64],
-    loads: &mut [u64],
-    scratch: &mut [u64],
-) -> Answer<Plan> {
-    let stations = read(input)?.stations;
-    long_enough(pairs.len(), stations)?;
-    long_enough(loads.len(), stations)?;
-    let plan = cleared_scratch(input, scratch)?;
-    pairs[..stations].fill(0);
-    loads[..stations].fill(0);
-    Ok(plan)
-}
-
-/// The plan of busiest without a cause up to 8; the named part of the scratch is then 0.
-pub fn cleared_scratch(input: PlanInput, scratch: &mut [u64]) -> Answer<Plan> {
-    let plan = read(input)?;
-    long_enough(scratch.len(), scratch_named(&plan))?;
-    scratch[..scratch_named(&plan)].fill(0);
-    Ok(plan)
-}
-
-/// Writes pairs and loads to the two lent tables.
-pub fn write(entries: &[Load], pairs: &mut [u64], loads: &mut [u64]) {
-    for (station, entry) in entries.iter().enumerate() {
-        pairs[station] = entry.pairs;
-        loads[station] = entry.load;
-    }
-}
-
 /// The stations whose load no other exceeds.
-pub fn largest(loads: &[Load]) -> Busiest {
+fn largest(loads: &[Load]) -> Busiest {
     let exceeded = |station: &usize| loads.iter().any(|other| other.load > loads[*station].load);
     Busiest {
         stations: (0..loads.len()).filter(|v| !exceeded(v)).collect(),
     }
 }
 
-/// Loads: each station's pairs and load in the two lent tables.
-pub fn loads(
-    input: PlanInput,
-    pairs: &mut [u64],
-    loads: &mut [u64],
-    scratch: &mut [u64],
-) -> Answer<()> {
-    loads_within(COUNT_LIMIT, input, pairs, loads, scratch)
-}
+impl Means {
+    /// Pairs and load of every station of an accepted plan, or cause 9 of a source.
+    fn loads_of(self, plan: &Plan) -> Answer<Vec<Load>> {
+        let mut loads = vec![Load::default(); plan.stations];
+        let mut pairs_from = self.pairs_from(plan);
+        for source in 0..plan.stations {
+            let others = (0..plan.stations).filter(|station| *station != source);
+            let others: Vec<usize> = others.collect();
+            for paired in pairs_from(source, &others)? {
+                for (entry, through) in loads.iter_mut().zip(paired.through) {
+                    if through > 0 {
+                        entry.pairs += 1;
+                        entry.load += share(through, paired.values.count);
+                    }
+                }
+            }
+        }
+        Ok(loads)
+    }
 
-/// Loads with the largest count as an argument.
-pub fn loads_within(
-    limit: u64,
-    input: PlanInput,
-    pairs: &mut [u64],
-    loads: &mut [u64],
-    scratch: &mut [u64],
-) -> Answer<()> {
-    let plan = cleared(input, pairs, loads, scratch)?;
-    write(&loads_of(limit, &plan)?, pairs, loads);
-    Ok(())
-}
+    /// Loads: each station's pairs and load in the two lent tables.
+    pub fn loads(
+        self,
+        input: PlanInput,
+        pairs: &mut [u64],
+        loads: &mut [u64],
+        scratch: &mut [u64],
+    ) -> Answer<()> {
+        let plan = read(input)?;
+        let (stations, named) = (plan.stations, scratch_length(plan.stations, plan.slots));
+        let tables = [
+            (&mut *pairs, stations),
+            (&mut *loads, stations),
+            (scratch, named),
+        ];
+        clear(&mut { tables })?;
+        for (station, entry) in self.loads_of(&plan)?.iter().enumerate() {
+            pairs[station] = entry.pairs;
+            loads[station] = entry.load;
+        }
+        Ok(())
+    }
 
-/// Busiest: the stations with the largest load.
-pub fn busiest(input: PlanInput, scratch: &mut [u64]) -> Answer<Busiest> {
-    busiest_within(COUNT_LIMIT, input, scratch)
-}
+    /// The loads that busiest compares.
+    fn compared(self, input: PlanInput, scratch: &mut [u64]) -> Answer<Vec<Load>> {
+        let plan = read(input)?;
+        clear(&mut [(scratch, scratch_length(plan.stations, plan.slots))])?;
+        self.loads_of(&plan)
+    }
 
-/// Busiest with the largest count as an argument.
-pub fn busiest_within(limit: u64, input: PlanInput, scratch: &mut [u64]) -> Answer<Busiest> {
-    let plan = cleared_scratch(input, scratch)?;
-    Ok(largest(&loads_of(limit, &plan)?))
+    /// Busiest: the stations with the largest load.
+    pub fn busiest(self, input: PlanInput, scratch: &mut [u64]) -> Answer<Busiest> {
+        let loads = self.compared(input, scratch)?;
+        Ok(largest(&loads))
+    }
+
+    /// The load of a station that busiest may give.
+    pub fn largest_load(self, input: PlanInput, scratch: &mut [u64]) -> Answer<u64> {
+        let loads = self.compared(input, scratch)?;
+        Ok(loads[largest(&loads).stations[0]].load)
+    }
 }

@@ -2,12 +2,14 @@
 
 use std::io::Read;
 use std::process::ExitCode;
-use std::{env, fs, io};
+use std::{fs, io};
 
+use lister::files::{stdin_bytes, stdout_text, Filed};
 use lister::load_program::load_text;
+use lister::means::LISTED;
 use lister::plan::PlanInput;
 use lister::show::{loads_text, pair_text, reach_text, text_of};
-use lister::{cases, load_cases, pair_cases, reach_cases, way_cases};
+use lister::{cases, load_cases, pair_cases, program, reach_cases, way_cases};
 
 const USAGE: &str = "usage:
   lister check-cases DIR         write DIR/stdin and DIR/stdout, cases of check
@@ -21,48 +23,20 @@ const USAGE: &str = "usage:
   lister loads n T < plan        pairs and load of each station";
 
 fn main() -> ExitCode {
-    let words: Vec<String> = env::args().skip(1).collect();
-    let words: Vec<&str> = words.iter().map(String::as_str).collect();
-    match run(&words) {
-        Ok(()) => ExitCode::SUCCESS,
-        Err(message) => {
-            eprintln!("{message}");
-            ExitCode::from(2)
-        }
-    }
+    program::exit(run)
 }
 
 fn run(words: &[&str]) -> Result<(), String> {
     match words {
-        ["check-cases", directory] => {
-            let all = cases::all_cases();
-            let stdout = cases::stdout_text(&all);
-            write_files(directory, &cases::stdin_bytes(&all), &stdout)
-        }
-        ["reach-cases", directory] => {
-            let all = reach_cases::all_cases();
-            let stdout = reach_cases::stdout_text(&all);
-            write_files(directory, &reach_cases::stdin_bytes(&all), &stdout)
-        }
-        ["load-cases", directory] => {
-            let all = load_cases::all_cases();
-            let stdout = load_cases::stdout_text(&all);
-            write_files(directory, &load_cases::stdin_bytes(&all), &stdout)
-        }
+        ["check-cases", directory] => write_files(directory, &cases::all_cases()),
+        ["reach-cases", directory] => write_files(directory, &reach_cases::all_cases()),
+        ["load-cases", directory] => write_files(directory, &load_cases::all_cases()),
         ["load-text"] => {
             print!("{}", load_text(&standard_input()?));
             Ok(())
         }
-        ["pair-cases", directory] => {
-            let all = pair_cases::all_cases();
-            let stdout = pair_cases::stdout_text(&all);
-            write_files(directory, &pair_cases::stdin_bytes(&all), &stdout)
-        }
-        ["way-cases", directory] => {
-            let all = way_cases::all_cases();
-            let stdout = way_cases::stdout_text(&all);
-            write_files(directory, &way_cases::stdin_bytes(&all), &stdout)
-        }
+        ["pair-cases", directory] => write_files(directory, &pair_cases::all_cases()),
+        ["way-cases", directory] => write_files(directory, &way_cases::all_cases()),
         ["show", stations, slots, source, destination] => {
             let source = decimal(source)?;
             let destination = decimal(destination)?;
@@ -71,7 +45,7 @@ fn run(words: &[&str]) -> Result<(), String> {
             })
         }
         ["loads", stations, slots] => {
-            print_for_plan(stations, slots, |input| text_of(loads_text(input)))
+            print_for_plan(stations, slots, |input| text_of(loads_text(LISTED, input)))
         }
         ["reach", stations, slots, source] => {
             let source = decimal(source)?;
@@ -81,13 +55,13 @@ fn run(words: &[&str]) -> Result<(), String> {
     }
 }
 
-fn write_files(directory: &str, stdin: &[u8], stdout: &str) -> Result<(), String> {
+fn write_files(directory: &str, cases: &[impl Filed]) -> Result<(), String> {
     let write = |name: &str, bytes: &[u8]| {
         let file = format!("{directory}/{name}");
         fs::write(&file, bytes).map_err(|error| format!("{file}: {error}"))
     };
-    write("stdin", stdin)?;
-    write("stdout", stdout.as_bytes())
+    write("stdin", &stdin_bytes(cases))?;
+    write("stdout", stdout_text(cases).as_bytes())
 }
 
 fn standard_input() -> Result<Vec<u8>, String> {

@@ -6,75 +6,145 @@
 use std::collections::BTreeSet;
 use std::ops::Range;
 
-use crate::answer::{Answer, CallFault};
-use crate::plan::{Contact, Plan};
+use crate::answer::Answer;
+use crate::causes::few_enough;
+use crate::plan::{follows, Appearance, Contact, Plan};
+
+/// The two ends of a contact, in its slot.
+fn both_ends(contact: &Contact) -> [Appearance; 2] {
+    let slot = contact.slot;
+    [contact.a, contact.b].map(|station| Appearance { station, slot })
+}
 
 /// The appearances that a plan's contacts can bring, and each station's start in slot 0. They are
 /// numbered by station, then by slot.
 #[derive(Clone, Debug)]
 pub struct Appearances {
-    /// Station and slot of each appearance.
-    pub all: Vec<(usize, usize)>,
+    pub all: Vec<Appearance>,
     /// The numbers of each station's appearances; the first is its start.
     pub of_station: Vec<Range<usize>>,
-    /// The appearances that each appearance meets, in the same slot.
-    pub met: Vec<Vec<usize>>,
+    /// The appearances to which contacts lead from each appearance's station in its slot.
+    pub leads: Vec<Vec<usize>>,
+    /// The same from the other end: those from whose stations contacts lead to each appearance.
+    pub hears: Vec<Vec<usize>>,
+    /// For each appearance, those of its station that contacts in its slot may follow: the first ones,
+    /// since a contact that may follow an appearance may follow all earlier ones.
+    followed: Vec<Range<usize>>,
 }
 
 impl Appearances {
     /// The appearances of an accepted plan.
     pub fn new(plan: &Plan) -> Appearances {
-        let ends = |contact: &Contact| [(contact.a, contact.slot), (contact.b, contact.slot)];
-        let starts = (0..plan.stations).map(|station| (station, 0));
-        let all = starts.chain(plan.contacts.iter().flat_map(ends));
-        let all: BTreeSet<(usize, usize)> = all.collect();
+        let starts = (0..plan.stations).map(Appearance::start);
+        let all = starts.chain(plan.contacts.iter().flat_map(both_ends));
+        let all: BTreeSet<Appearance> = all.collect();
         let mut appearances = Appearances {
-            met: vec![Vec::new(); all.len()],
+            leads: vec![Vec::new(); all.len()],
+            hears: vec![Vec::new(); all.len()],
             of_station: Vec::new(),
+            followed: Vec::new(),
             all: all.into_iter().collect(),
         };
         for station in 0..plan.stations {
-            let row = appearances.number(station, 0)..appearances.number(station + 1, 0);
+            let row = appearances.number(Appearance::start(station))
+                ..appearances.number(Appearance::start(station + 1));
+            for at in row.clone() {
+                let followed = appearances.followed_from(row.clone(), at);
+                appearances.followed.push(followed);
+            }
             appearances.of_station.push(row);
         }
         for contact in &plan.contacts {
-            let [a, b] = ends(contact).map(|(station, slot)| appearances.number(station, slot));
-            appearances.met[a].push(b);
-            appearances.met[b].push(a);
+            for (from, to) in contact.directions() {
+                let at = |station| Appearance {
+                    station,
+                    slot: contact.slot,
+                };
+                let [from, to] = [from, to].map(|station| appearances.number(at(station)));
+                appearances.leads[from].push(to);
+                appearances.hears[to].push(from);
+            }
         }
         appearances
     }
 
-    /// The number of an appearance.
-    pub fn number(&self, station: usize, slot: usize) -> usize {
-        self.all.partition_point(|other| *other < (station, slot))
+    /// The appearances of a row that contacts in the slot of one of them may follow.
+    fn followed_from(&self, row: Range<usize>, at: usize) -> Range<usize> {
+        let may_follow = |earlier: &Appearance| follows(earlier.slot, self.all[at].slot);
+        row.start..row.start + self.all[row].partition_point(may_follow)
     }
 
-    /// The station of an appearance.
-    pub fn station(&self, at: usize) -> usize {
-        self.all[at].0
+    /// The number of an appearance.
+    pub fn number(&self, appearance: Appearance) -> usize {
+        self.all.partition_point(|other| *other < appearance)
+    }
+
+    /// The number of an appearance, if contacts can bring it.
+    pub fn known(&self, appearance: Appearance) -> Option<usize> {
+        self.all.binary_search(&appearance).ok()
+    }
+
+    /// For each appearance of a station, the sum of the entries of those that contacts in its slot may
+    /// follow.
+    fn sums_before<'a>(
+        &'a self,
+        station: usize,
+        entries: &'a [u128],
+    ) -> impl Iterator<Item = (usize, u128)> + 'a {
+        let row = self.of_station[station].clone();
+        let mut summed = row.start;
+        let mut sum: u128 = 0;
+        row.map(move |at| {
+            for earlier in summed..self.followed[at].end {
+                sum = sum.saturating_add(entries[earlier]);
+            }
+            summed = self.followed[at].end;
+            (at, sum)
+        })
+    }
+
+    /// For each appearance of a station, the last one first, the sum of the entries of those in whose
+    /// slots contacts may follow it.
+    pub fn sums_after<'a>(
+        &'a self,
+        station: usize,
+        entries: &'a [u128],
+    ) -> impl Iterator<Item = (usize, u128)> + 'a {
+        let row = self.of_station[station].clone();
+        let mut later = row.clone().rev().peekable();
+        let mut sum: u128 = 0;
+        row.rev().map(move |at| {
+            while let Some(later) = later.next_if(|later| self.followed[*later].contains(&at)) {
+                sum = sum.saturating_add(entries[later]);
+            }
+            (at, sum)
+        })
     }
 
     /// The walks of one hop more, for each appearance.
     fn longer(&self, walks: &[u128]) -> Vec<u128> {
         let mut longer: Vec<u128> = vec![0; walks.len()];
-        for row in &self.of_station {
-            let mut earlier: u128 = 0;
-            for at in row.clone() {
-                for met in &self.met[at] {
-                    longer[*met] = longer[*met].saturating_add(earlier);
+        for station in 0..self.of_station.len() {
+            for (at, earlier) in self.sums_before(station, walks) {
+                for to in &self.leads[at] {
+                    longer[*to] = longer[*to].saturating_add(earlier);
                 }
-                earlier = earlier.saturating_add(walks[at]);
             }
         }
         longer
     }
 
+    /// The walks of no hop from a source.
+    fn empty_walk(&self, source: usize) -> Vec<u128> {
+        let mut walks = vec![0; self.all.len()];
+        walks[self.of_station[source].start] = 1;
+        walks
+    }
+
     /// How many walks there are from a source, of any number of hops.
     pub fn number_of_walks(&self, source: usize) -> u128 {
         let mut all: u128 = 0;
-        let mut walks = vec![0; self.all.len()];
-        walks[self.of_station[source].start] = 1;
+        let mut walks = self.empty_walk(source);
         while walks.iter().any(|count| *count > 0) {
             all = walks.iter().copied().fold(all, u128::saturating_add);
             walks = self.longer(&walks);
@@ -91,14 +161,13 @@ impl Appearances {
 
     /// The completions of one hop more, for each appearance.
     pub fn longer_completions(&self, completions: &[u128]) -> Vec<u128> {
+        let add = |sum: u128, to: &usize| sum.saturating_add(completions[*to]);
+        let leaving = self.leads.iter().map(|leads| leads.iter().fold(0, add));
+        let leaving: Vec<u128> = leaving.collect();
         let mut longer = vec![0; self.all.len()];
-        for row in &self.of_station {
-            let mut later: u128 = 0;
-            for at in row.clone().rev() {
+        for station in 0..self.of_station.len() {
+            for (at, later) in self.sums_after(station, &leaving) {
                 longer[at] = later;
-                for met in &self.met[at] {
-                    later = later.saturating_add(completions[*met]);
-                }
             }
         }
         longer
@@ -128,8 +197,7 @@ impl Walks<'_> {
     /// shortest walk without its last hop is shortest to its own appearance; so where no appearance
     /// is new at a number of hops, none is at a larger one.
     pub fn from_source(appearances: &Appearances, source: usize) -> Walks<'_> {
-        let mut walks = vec![0; appearances.all.len()];
-        walks[appearances.of_station[source].start] = 1;
+        let mut walks = appearances.empty_walk(source);
         let mut reached = vec![false; walks.len()];
         let mut of_hops = Vec::new();
         while enter(&mut reached, &walks) {
@@ -164,16 +232,10 @@ impl Walks<'_> {
 
     /// Cause 9: no appearance and no station has more than `limit` shortest walks.
     pub fn few_enough(&self, limit: u64) -> Answer<()> {
-        let over = |shortest: Option<(usize, u128)>| {
-            shortest.is_some_and(|(_, count)| count > u128::from(limit))
-        };
-        let mut appearances = 0..self.appearances.all.len();
-        let mut stations = 0..self.appearances.of_station.len();
-        if appearances.any(|at| over(self.to_appearance(at)))
-            || stations.any(|station| over(self.to_station(station)))
-        {
-            return Err(CallFault::TooMany.into());
-        }
-        Ok(())
+        let appearances = (0..self.appearances.all.len()).map(|at| self.to_appearance(at));
+        let stations = 0..self.appearances.of_station.len();
+        let stations = stations.map(|station| self.to_station(station));
+        let shortest = appearances.chain(stations).flatten();
+        few_enough(limit, shortest.map(|(_, count)| count))
     }
 }

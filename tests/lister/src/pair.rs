@@ -1,9 +1,12 @@
 //! Operation 4, pair.
 
-use crate::answer::{Answer, CallFault};
-use crate::lent::{long_enough, scratch_named};
-use crate::plan::{read, Plan, PlanInput};
-use crate::shortest::{count_of, hops_of, shortest_paths, walks_within, COUNT_LIMIT};
+use crate::answer::Answer;
+use crate::causes::known_pair;
+use crate::fast_pairs;
+use crate::lent::{clear, scratch_length};
+use crate::means::{Counting, Means};
+use crate::plan::{read, Ends, Plan, PlanInput};
+use crate::shortest::{count_of, hops_of, shortest_paths, walks_within};
 use crate::walk::Walk;
 
 /// The values that pair answers: 65535 and 0 if there is no path.
@@ -13,69 +16,68 @@ pub struct PairValues {
     pub count: u64,
 }
 
-/// Causes 6 and 7: both stations are below n, and they differ.
-pub fn two_stations(plan: &Plan, source: usize, destination: usize) -> Answer<()> {
-    plan.has_station(source)?;
-    plan.has_station(destination)?;
-    if source == destination {
-        return Err(CallFault::SameStation.into());
-    }
-    Ok(())
+/// What pair answers, and its n through counts.
+#[derive(Clone, Debug, PartialEq, Eq)]
+pub struct Paired {
+    pub values: PairValues,
+    pub through: Vec<u64>,
 }
 
 /// The through count of a station: how many paths of the list have it interior.
-pub fn through_count(paths: &[&Walk], station: usize) -> u64 {
+fn through_count(paths: &[&Walk], station: usize) -> u64 {
     let through = paths.iter().filter(|path| path.has_interior(station));
     through.count() as u64
 }
 
-/// The plan of a call without a cause up to 8; the named parts of table and scratch are then 0.
-pub fn cleared(
-    input: PlanInput,
-    source: usize,
-    destination: usize,
-    through: &mut [u64],
-    scratch: &mut [u64],
-) -> Answer<Plan> {
-    let plan = read(input)?;
-    two_stations(&plan, source, destination)?;
-    long_enough(through.len(), plan.stations)?;
-    long_enough(scratch.len(), scratch_named(&plan))?;
-
-    through[..plan.stations].fill(0);
-    scratch[..scratch_named(&plan)].fill(0);
-    Ok(plan)
-}
-
-/// Pair: hops, count, and n through counts in the lent table.
-pub fn pair(
-    input: PlanInput,
-    source: usize,
-    destination: usize,
-    through: &mut [u64],
-    scratch: &mut [u64],
-) -> Answer<PairValues> {
-    pair_within(COUNT_LIMIT, input, source, destination, through, scratch)
-}
-
-/// Pair with the largest count as an argument.
-pub fn pair_within(
-    limit: u64,
-    input: PlanInput,
-    source: usize,
-    destination: usize,
-    through: &mut [u64],
-    scratch: &mut [u64],
-) -> Answer<PairValues> {
-    let plan = cleared(input, source, destination, through, scratch)?;
-    let walks = walks_within(limit, &plan, source)?;
-
-    let paths = shortest_paths(&walks, destination);
-    for (station, entry) in through[..plan.stations].iter_mut().enumerate() {
-        *entry = through_count(&paths, station);
+/// The values of the listed paths of a pair.
+fn paired(plan: &Plan, paths: &[&Walk]) -> Paired {
+    let through = (0..plan.stations).map(|station| through_count(paths, station));
+    Paired {
+        values: PairValues {
+            hops: hops_of(paths),
+            count: count_of(paths),
+        },
+        through: through.collect(),
     }
-    Ok(PairValues {
-        hops: hops_of(&paths),
-        count: count_of(&paths),
+}
+
+/// For a source and some destinations the values of their pairs, or cause 9.
+pub type PairsFrom<'a> = Box<dyn FnMut(usize, &[usize]) -> Answer<Vec<Paired>> + 'a>;
+
+/// The values of pairs by their lists of paths.
+fn listed_pairs(limit: u64, plan: &Plan) -> PairsFrom<'_> {
+    Box::new(move |source, destinations| {
+        let walks = walks_within(limit, plan, source)?;
+        let paths = destinations
+            .iter()
+            .map(|destination| shortest_paths(&walks, *destination));
+        Ok(paths.map(|paths| paired(plan, &paths)).collect())
     })
+}
+
+impl Means {
+    /// The values of the pairs of an accepted plan.
+    pub fn pairs_from(self, plan: &Plan) -> PairsFrom<'_> {
+        match self.counting {
+            Counting::Listed => listed_pairs(self.limit, plan),
+            Counting::Fast => fast_pairs::pairs_from(self.limit, plan),
+        }
+    }
+
+    /// Pair: hops, count, and n through counts in the lent table.
+    pub fn pair(
+        self,
+        input: PlanInput,
+        ends: Ends,
+        through: &mut [u64],
+        scratch: &mut [u64],
+    ) -> Answer<PairValues> {
+        let plan = read(input)?;
+        known_pair(plan.stations, ends)?;
+        let named = scratch_length(plan.stations, plan.slots);
+        clear(&mut [(&mut *through, plan.stations), (scratch, named)])?;
+        let found = self.pairs_from(&plan)(ends.0, &[ends.1])?;
+        through[..plan.stations].copy_from_slice(&found[0].through);
+        Ok(found[0].values)
+    }
 }

@@ -19,14 +19,16 @@ mod refusals;
 mod shares;
 mod small;
 
-use crate::answer::{beside, number, Answer};
+use std::mem;
+
+use crate::answer::{beside, number};
+use crate::call_cases::{CallCase, Called};
 use crate::cases::{plan_bytes, Record};
-use crate::fast_pairs;
-use crate::lent::{appearances, scratch_named};
-use crate::loads::{busiest, loads};
-use crate::pair::pair;
-use crate::plan::{read, PlanInput};
-use crate::reach_cases::{counts_text, Builder, Counting};
+use crate::files::Filed;
+use crate::lent::scratch_length;
+use crate::means::Counting;
+use crate::plans::pairs;
+use crate::reach_cases::{counts_text, Builder};
 
 pub use limits::BLOCKS;
 pub use shares::{mixed_ladders, MixedLadder};
@@ -57,7 +59,7 @@ impl Operation {
     /// The named lengths; 0 for a table that the operation does not have.
     fn named(self, (stations, slots): (u16, u16)) -> [usize; 3] {
         let (stations, slots) = (stations.into(), slots.into());
-        let scratch = 4 * appearances(stations, slots);
+        let scratch = scratch_length(stations, slots);
         match self {
             Operation::Pair(..) => [stations, 0, scratch],
             Operation::Loads => [stations, stations, scratch],
@@ -66,24 +68,34 @@ impl Operation {
     }
 }
 
-/// One call of pair, of loads or of busiest.
-#[derive(Clone, Debug, PartialEq, Eq)]
-pub struct Case {
-    pub label: String,
-    pub operation: Operation,
-    /// n
-    pub stations: u16,
-    /// T
-    pub slots: u16,
-    pub bytes: Vec<u8>,
-    /// What tables and scratch hold before the call.
-    pub mark: u16,
-    /// The lent entries of the two tables and of the scratch.
-    pub lengths: [usize; 3],
-    pub counting: Counting,
-    /// The number stated by hand; none for a generated case.
-    pub stated: Option<u8>,
+impl Called for Operation {
+    fn kind(self) -> u16 {
+        match self {
+            Operation::Pair(..) => 0,
+            Operation::Loads => 1,
+            Operation::Busiest => 2,
+        }
+    }
+
+    fn stations(self) -> Vec<u16> {
+        match self {
+            Operation::Pair(source, destination) => vec![source, destination],
+            Operation::Loads | Operation::Busiest => vec![0, 0],
+        }
+    }
+
+    /// The scratch is the last.
+    fn tables(self) -> Vec<usize> {
+        match self {
+            Operation::Pair(..) => vec![0, 2],
+            Operation::Loads => vec![0, 1, 2],
+            Operation::Busiest => vec![2],
+        }
+    }
 }
+
+/// One call of pair, of loads or of busiest; the lengths are of the two tables and of the scratch.
+pub type Case = CallCase<Operation, 3>;
 
 /// What a call answers and leaves: the number, the values beside it, the lent tables and the scratch.
 #[derive(Clone, Debug, PartialEq, Eq)]
@@ -94,95 +106,33 @@ pub struct Outcome {
 }
 
 impl Case {
-    /// The case with other lengths.
-    fn lent(self, lengths: [usize; 3]) -> Case {
-        Case { lengths, ..self }
-    }
-
-    /// The case with the length of one table, or of the scratch, as given.
-    fn with_length(mut self, table: usize, length: usize) -> Case {
-        self.lengths[table] = length;
-        self
-    }
-
-    /// The case with entries behind those of the tables that the operation has, and of the scratch.
-    fn longer(self, more: [usize; 3]) -> Case {
-        let lengths = self.tables().into_iter();
-        lengths.fold(self, |case, table| {
-            let length = case.lengths[table] + more[table];
-            case.with_length(table, length)
-        })
-    }
-
-    /// The places, among the lengths, of the operation's tables and of the scratch.
-    fn tables(&self) -> Vec<usize> {
-        match self.operation {
-            Operation::Pair(..) => vec![0, 2],
-            Operation::Loads => vec![0, 1, 2],
-            Operation::Busiest => vec![2],
-        }
-    }
-
-    /// The case with another mark.
-    fn marked(self, mark: u16) -> Case {
-        Case { mark, ..self }
-    }
-
-    /// The case with its number stated by hand.
-    fn stating(self, number: u8) -> Case {
-        Case {
-            stated: Some(number),
-            ..self
-        }
-    }
-
-    pub fn input(&self) -> PlanInput<'_> {
-        PlanInput {
-            bytes: &self.bytes,
-            stations: self.stations.into(),
-            slots: self.slots.into(),
-        }
-    }
-
     /// What the call answers and leaves.
     pub fn outcome(&self) -> Outcome {
         let lent = |length: usize| vec![u64::from(self.mark); length];
         let [mut first, mut second, mut scratch] = self.lengths.map(lent);
-        let (input, listed) = (self.input(), self.counting == Counting::Listed);
-        match self.operation {
+        let (input, means) = (self.input(), self.counting.means());
+        let (number, values) = match self.operation {
             Operation::Pair(source, destination) => {
-                let call = if listed { pair } else { fast_pairs::pair };
-                let (source, destination) = (source.into(), destination.into());
-                let answer = call(input, source, destination, &mut first, &mut scratch);
+                let ends = (source.into(), destination.into());
+                let answer = means.pair(input, ends, &mut first, &mut scratch);
                 let values = beside(&answer);
-                Outcome {
-                    number: number(&answer),
-                    values: vec![values.hops.into(), values.count],
-                    buffers: vec![first, scratch],
-                }
+                (number(&answer), vec![values.hops.into(), values.count])
             }
             Operation::Loads => {
-                let call = if listed { loads } else { fast_pairs::loads };
-                let answer = call(input, &mut first, &mut second, &mut scratch);
-                Outcome {
-                    number: number(&answer),
-                    values: Vec::new(),
-                    buffers: vec![first, second, scratch],
-                }
+                let answer = means.loads(input, &mut first, &mut second, &mut scratch);
+                (number(&answer), Vec::new())
             }
             Operation::Busiest => {
-                let call = if listed {
-                    largest_load
-                } else {
-                    fast_pairs::largest_load
-                };
-                let answer = call(input, &mut scratch);
-                Outcome {
-                    number: number(&answer),
-                    values: vec![beside(&answer)],
-                    buffers: vec![scratch],
-                }
+                let answer = means.largest_load(input, &mut scratch);
+                (number(&answer), vec![beside(&answer)])
             }
+        };
+        let mut lent = [first, second, scratch];
+        let tables = self.operation.tables().into_iter();
+        Outcome {
+            number,
+            values,
+            buffers: tables.map(|table| mem::take(&mut lent[table])).collect(),
         }
     }
 
@@ -199,14 +149,14 @@ impl Case {
     }
 }
 
-/// The load of the station that busiest gives, by the plain lister.
-fn largest_load(input: PlanInput, scratch: &mut [u64]) -> Answer<u64> {
-    let given = busiest(input, scratch)?;
-    let plan = read(input)?;
-    let lengths = [plan.stations, plan.stations, scratch_named(&plan)];
-    let [mut pairs, mut load, mut own] = lengths.map(|length| vec![0; length]);
-    loads(input, &mut pairs, &mut load, &mut own)?;
-    Ok(load[given.stations[0]])
+impl Filed for Case {
+    fn stdin(&self) -> Vec<u8> {
+        self.stdin_bytes()
+    }
+
+    fn stdout(&self) -> String {
+        self.line(&self.outcome()) + "\n"
+    }
 }
 
 /// A plan with a label, for cases of each operation.
@@ -278,12 +228,9 @@ impl LabelledPlan {
 
     /// Every pair of two different stations.
     fn every_pair(&self) -> Vec<Case> {
-        let (stations, _) = self.sizes;
-        let from = |source: u16| {
-            let others = (0..stations).filter(move |station| *station != source);
-            others.map(move |destination| self.pair(source, destination))
-        };
-        (0..stations).flat_map(from).collect()
+        let pair =
+            |(source, destination): (usize, usize)| self.pair(source as u16, destination as u16);
+        pairs(self.sizes.0.into()).map(pair).collect()
     }
 
     /// Every pair, loads and busiest.
@@ -303,33 +250,4 @@ pub fn all_cases() -> Vec<Case> {
     cases.extend(shares::cases());
     cases.extend(small::cases());
     cases
-}
-
-/// The bytes of standard input.
-pub fn stdin_bytes(cases: &[Case]) -> Vec<u8> {
-    let mut bytes = Vec::new();
-    for case in cases {
-        let (kind, source, destination) = match case.operation {
-            Operation::Pair(source, destination) => (0, source, destination),
-            Operation::Loads => (1, 0, 0),
-            Operation::Busiest => (2, 0, 0),
-        };
-        let (plan, label) = (case.bytes.len() as u16, case.label.len() as u16);
-        let call = [kind, case.stations, case.slots, source, destination];
-        for head in call.into_iter().chain([plan, label, case.mark]) {
-            bytes.extend(head.to_be_bytes());
-        }
-        for length in case.lengths {
-            bytes.extend((length as u32).to_be_bytes());
-        }
-        bytes.extend(case.label.bytes());
-        bytes.extend(&case.bytes);
-    }
-    bytes
-}
-
-/// The expected standard output.
-pub fn stdout_text(cases: &[Case]) -> String {
-    let line = |case: &Case| case.line(&case.outcome()) + "\n";
-    cases.iter().map(line).collect()
 }

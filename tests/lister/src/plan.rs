@@ -1,6 +1,6 @@
 //! Plans, their bytes, and operation 1, check.
 
-use crate::answer::{Answer, CallFault, PlanFault};
+use crate::answer::{Answer, PlanFault};
 
 /// The largest n.
 pub const MOST_STATIONS: usize = 256;
@@ -20,15 +20,16 @@ pub struct Contact {
 }
 
 impl Contact {
-    /// The station that `station` hears in this contact, if the contact contains it.
-    pub fn other(&self, station: usize) -> Option<usize> {
-        if station == self.a {
-            Some(self.b)
-        } else if station == self.b {
-            Some(self.a)
-        } else {
-            None
-        }
+    /// The direction of a contact: from which station to which it leads. It leads both ways.
+    pub fn directions(&self) -> [(usize, usize); 2] {
+        [(self.a, self.b), (self.b, self.a)]
+    }
+
+    /// The station to which this contact leads from a given one.
+    pub fn leads_from(&self, station: usize) -> Option<usize> {
+        let directions = self.directions().into_iter();
+        let mut from = directions.filter(|(from, _)| *from == station);
+        from.next().map(|(_, to)| to)
     }
 
     /// The 6 bytes of a record, each field high byte first.
@@ -41,6 +42,40 @@ impl Contact {
         }
     }
 }
+
+/// The rule of following: whether a contact in a slot may follow an appearance in another.
+pub fn follows(reached: usize, slot: usize) -> bool {
+    reached < slot
+}
+
+/// An appearance: a station, and the slot in which it is reached.
+#[derive(Clone, Copy, Debug, PartialEq, Eq, PartialOrd, Ord)]
+pub struct Appearance {
+    pub station: usize,
+    pub slot: usize,
+}
+
+impl Appearance {
+    /// The start: the source in slot 0.
+    pub fn start(source: usize) -> Appearance {
+        Appearance {
+            station: source,
+            slot: 0,
+        }
+    }
+
+    /// The appearance that a contact brings after this one.
+    pub fn step(self, contact: Contact) -> Option<Appearance> {
+        let station = contact.leads_from(self.station)?;
+        follows(self.slot, contact.slot).then_some(Appearance {
+            station,
+            slot: contact.slot,
+        })
+    }
+}
+
+/// The source and the destination of a pair.
+pub type Ends = (usize, usize);
 
 /// A plan as a call names it: its bytes, n and T, all unchecked.
 #[derive(Clone, Copy, Debug)]
@@ -62,16 +97,6 @@ pub struct Plan {
     pub contacts: Vec<Contact>,
 }
 
-impl Plan {
-    /// Cause 6: a station that a call names is below n.
-    pub fn has_station(&self, station: usize) -> Answer<()> {
-        if station >= self.stations {
-            return Err(CallFault::Station.into());
-        }
-        Ok(())
-    }
-}
-
 /// Cause 1: n and T are inside their limits.
 pub fn within_limits(stations: usize, slots: usize) -> Answer<()> {
     let stations_fit = (1..=MOST_STATIONS).contains(&stations);
@@ -83,35 +108,54 @@ pub fn within_limits(stations: usize, slots: usize) -> Answer<()> {
     }
 }
 
-/// Operation 1: whether the plan is accepted.
+/// Cause 2: a plan has whole records, and not too many.
+pub fn whole_records(bytes: &[u8], most: usize) -> Answer<()> {
+    let records = bytes.len() / RECORD_BYTES;
+    if records * RECORD_BYTES != bytes.len() || records > most {
+        return Err(PlanFault::Length.into());
+    }
+    Ok(())
+}
+
+/// The contacts that bytes hold, in order.
+pub fn contacts(bytes: &[u8]) -> impl DoubleEndedIterator<Item = Contact> + '_ {
+    bytes.chunks_exact(RECORD_BYTES).map(Contact::from_record)
+}
+
+impl PlanInput<'_> {
+    /// Causes 3, 4 and 5 of a record behind another.
+    fn accepts(&self, contact: Contact, before: Option<Contact>) -> Answer<()> {
+        if contact.slot == 0 || contact.slot > self.slots {
+            return Err(PlanFault::Slot.into());
+        }
+        if contact.a >= contact.b || contact.b >= self.stations {
+            return Err(PlanFault::Stations.into());
+        }
+        if before.is_some_and(|before| contact <= before) {
+            return Err(PlanFault::Order.into());
+        }
+        Ok(())
+    }
+}
+
+/// Operation 1: whether the plan is accepted, or the first of causes 1 to 5.
 pub fn check(input: PlanInput) -> Answer<()> {
-    read(input).map(|_| ())
+    within_limits(input.stations, input.slots)?;
+    whole_records(input.bytes, MOST_CONTACTS)?;
+    let mut before = None;
+    for contact in contacts(input.bytes) {
+        input.accepts(contact, before)?;
+        before = Some(contact);
+    }
+    Ok(())
 }
 
 /// The plan that the bytes hold, or the first of causes 1 to 5.
 pub fn read(input: PlanInput) -> Answer<Plan> {
-    within_limits(input.stations, input.slots)?;
-    let records = input.bytes.len() / RECORD_BYTES;
-    if records * RECORD_BYTES != input.bytes.len() || records > MOST_CONTACTS {
-        return Err(PlanFault::Length.into());
-    }
-    let mut contacts: Vec<Contact> = Vec::new();
-    for record in input.bytes.chunks_exact(RECORD_BYTES) {
-        let contact = Contact::from_record(record);
-        if contact.slot == 0 || contact.slot > input.slots {
-            return Err(PlanFault::Slot.into());
-        }
-        if contact.a >= contact.b || contact.b >= input.stations {
-            return Err(PlanFault::Stations.into());
-        }
-        if contacts.last().is_some_and(|before| contact <= *before) {
-            return Err(PlanFault::Order.into());
-        }
-        contacts.push(contact);
-    }
+    check(input)?;
     Ok(Plan {
         stations: input.stations,
         slots: input.slots,
-        contacts,
+        contacts: contacts(input.bytes).collect(),
     })
 }

@@ -1,10 +1,11 @@
 //! Small plans: all of a size, and generated ones.
 
 use crate::cases::{plan_bytes, Record};
-use crate::plan::PlanInput;
+use crate::lent;
+use crate::means::COUNT_LIMIT;
+use crate::plan::{Ends, PlanInput};
 use crate::random::Random;
 use crate::reach_cases::Builder;
-use crate::shortest::COUNT_LIMIT;
 use crate::ways::{paths_of_call, PathCall};
 
 /// A plan's bytes with n and T.
@@ -26,11 +27,11 @@ impl Owned {
 
     /// The plan of a builder.
     pub fn built(builder: &Builder) -> Owned {
-        let case = builder.case("");
+        let (stations, slots) = builder.sizes();
         Owned {
-            bytes: case.bytes,
-            stations: case.stations.into(),
-            slots: case.slots.into(),
+            bytes: builder.bytes(),
+            stations: stations.into(),
+            slots: slots.into(),
         }
     }
 
@@ -44,7 +45,7 @@ impl Owned {
 
     /// The named entries of the scratch.
     pub fn scratch_length(&self) -> usize {
-        4 * self.stations * (self.slots + 1)
+        lent::scratch_length(self.stations, self.slots)
     }
 
     /// A call on memory of exactly the named lengths.
@@ -62,6 +63,26 @@ impl Owned {
     pub fn list(&self, source: usize, destination: usize) -> Vec<Vec<u16>> {
         paths_of_call(COUNT_LIMIT, &self.path_call(source, destination)).unwrap()
     }
+}
+
+/// The ordered pairs of two different stations.
+pub fn pairs(stations: usize) -> impl Iterator<Item = Ends> {
+    let of_source = move |source| (0..stations).map(move |destination| (source, destination));
+    let all = (0..stations).flat_map(of_source);
+    all.filter(|(source, destination)| source != destination)
+}
+
+/// All lists of a length with entries below a bound.
+pub fn all_lists(length: usize, bound: u16) -> Vec<Vec<u16>> {
+    let mut lists = vec![Vec::new()];
+    for _ in 0..length {
+        let longer = |list: &Vec<u16>| {
+            let list = list.clone();
+            (0..bound).map(move |entry| [list.as_slice(), &[entry]].concat())
+        };
+        lists = lists.iter().flat_map(longer).collect();
+    }
+    lists
 }
 
 /// All records that a valid plan can have, in order.

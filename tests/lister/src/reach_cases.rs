@@ -19,11 +19,11 @@ mod rows;
 mod small;
 
 use crate::answer::number;
+use crate::call_cases::{CallCase, Called};
 use crate::cases::{plan_bytes, Record};
-use crate::fast;
-use crate::lent::appearances;
-use crate::plan::PlanInput;
-use crate::reach::{reach, ReachTables};
+use crate::files::Filed;
+use crate::means::Counting;
+use crate::reach::{reach_named, Tables};
 use crate::row::{row, row_number};
 use crate::shortest::NO_WALK;
 
@@ -40,65 +40,48 @@ pub const LONGEST_TABLES: [usize; 4] = [65_600, 65_600, 320, 320];
 /// The most bytes of a plan.
 pub const LONGEST_PLAN: usize = 24_600;
 
-/// The operation that a case runs.
+/// The operation that a case runs, with its source or its station.
 #[derive(Clone, Copy, Debug, PartialEq, Eq)]
 pub enum Operation {
-    Reach,
-    Row,
+    Reach(u16),
+    Row(u16),
 }
 
-/// Where the expected tables of reach come from.
-#[derive(Clone, Copy, Debug, PartialEq, Eq)]
-pub enum Counting {
-    /// The plain lister.
-    Listed,
-    /// The numbers of walks, for plans with too many to be listed.
-    Fast,
+impl Called for Operation {
+    fn kind(self) -> u16 {
+        match self {
+            Operation::Reach(_) => 0,
+            Operation::Row(_) => 1,
+        }
+    }
+
+    fn stations(self) -> Vec<u16> {
+        let (Operation::Reach(station) | Operation::Row(station)) = self;
+        vec![station]
+    }
+
+    fn tables(self) -> Vec<usize> {
+        match self {
+            Operation::Reach(_) => vec![0, 1, 2, 3],
+            Operation::Row(_) => vec![1],
+        }
+    }
 }
 
 /// One call of reach, or of row and its sister.
-#[derive(Clone, Debug, PartialEq, Eq)]
-pub struct Case {
-    pub label: String,
-    pub operation: Operation,
-    /// n
-    pub stations: u16,
-    /// T
-    pub slots: u16,
-    /// The source of reach, the station of row.
-    pub station: u16,
-    pub bytes: Vec<u8>,
-    /// What reach's tables hold before the call.
-    pub mark: u16,
-    /// The lent entries of each table.
-    pub lengths: [usize; 4],
-    pub counting: Counting,
-    /// The number stated by hand; none for a generated case.
-    pub stated: Option<u8>,
-}
-
-/// The four tables of reach.
-#[derive(Clone, Debug, PartialEq, Eq)]
-pub struct Tables {
-    pub appearance_hops: Vec<u16>,
-    pub appearance_counts: Vec<u64>,
-    pub station_hops: Vec<u16>,
-    pub station_counts: Vec<u64>,
-}
+pub type Case = CallCase<Operation, 4>;
 
 impl Case {
     /// Reach on bytes, with tables of exactly the named lengths.
     fn on_bytes(label: &str, (stations, slots): (u16, u16), bytes: Vec<u8>, source: u16) -> Case {
-        let named = appearances(usize::from(stations), usize::from(slots));
         Case {
             label: label.to_string(),
-            operation: Operation::Reach,
+            operation: Operation::Reach(source),
             stations,
             slots,
-            station: source,
             bytes,
             mark: 999,
-            lengths: [named, named, stations.into(), stations.into()],
+            lengths: reach_named(stations.into(), slots.into()),
             counting: Counting::Listed,
             stated: None,
         }
@@ -112,83 +95,50 @@ impl Case {
     /// Row on a table.
     fn on_table(label: &str, sizes: (u16, u16), station: u16, length: usize) -> Case {
         Case {
-            operation: Operation::Row,
+            operation: Operation::Row(station),
             mark: 0,
             lengths: [0, length, 0, 0],
             ..Case::on_bytes(label, sizes, Vec::new(), station)
         }
     }
 
-    /// The case with other lengths.
-    fn lent(self, lengths: [usize; 4]) -> Case {
-        Case { lengths, ..self }
-    }
-
-    /// The case with entries behind those of each table.
-    fn longer(self, more: [usize; 4]) -> Case {
-        let lengths = [0, 1, 2, 3].map(|table| self.lengths[table] + more[table]);
-        self.lent(lengths)
-    }
-
-    /// The case with another mark.
-    fn marked(self, mark: u16) -> Case {
-        Case { mark, ..self }
-    }
-
-    /// The case with its number stated by hand.
-    fn stating(self, number: u8) -> Case {
-        Case {
-            stated: Some(number),
-            ..self
-        }
-    }
-
-    fn input(&self) -> PlanInput<'_> {
-        PlanInput {
-            bytes: &self.bytes,
-            stations: self.stations.into(),
-            slots: self.slots.into(),
-        }
-    }
-
-    /// Reach's number, and its tables after the call.
-    pub fn reached(&self) -> (u8, Tables) {
-        let mut tables = Tables {
-            appearance_hops: vec![self.mark; self.lengths[0]],
-            appearance_counts: vec![self.mark.into(); self.lengths[1]],
-            station_hops: vec![self.mark; self.lengths[2]],
-            station_counts: vec![self.mark.into(); self.lengths[3]],
-        };
-        let lent = ReachTables {
-            appearance_hops: &mut tables.appearance_hops,
-            appearance_counts: &mut tables.appearance_counts,
-            station_hops: &mut tables.station_hops,
-            station_counts: &mut tables.station_counts,
-        };
-        let answer = match self.counting {
-            Counting::Listed => reach(self.input(), self.station.into(), lent),
-            Counting::Fast => fast::reach(self.input(), self.station.into(), lent),
-        };
+    /// Reach's number from a source, and its tables after the call.
+    fn reached_from(&self, source: u16) -> (u8, Tables) {
+        let mut tables = Tables::marked(self.lengths, self.mark);
+        let means = self.counting.means();
+        let answer = means.reach(self.input(), source.into(), tables.lend());
         (number(&answer), tables)
     }
 
-    /// Row's number, and its part.
-    pub fn part(&self) -> (u8, Vec<u64>) {
+    /// The number and the part of a station's row.
+    fn row_of(&self, station: u16) -> (u8, Vec<u64>) {
         let (stations, slots) = (self.stations.into(), self.slots.into());
-        let station = self.station.into();
         let entry = |at: usize| 3 * at as u64 + 1;
         let mut table: Vec<u64> = (0..self.lengths[1]).map(entry).collect();
-        let number = row_number(stations, slots, station, &table);
-        let part = row(stations, slots, station, &mut table);
+        let number = row_number(stations, slots, station.into(), &table);
+        let part = row(stations, slots, station.into(), &mut table);
         (number, part.to_vec())
+    }
+
+    /// What the call answers and leaves.
+    pub fn outcome(&self) -> Outcome {
+        match self.operation {
+            Operation::Reach(source) => {
+                let (number, tables) = self.reached_from(source);
+                Outcome::Reached(number, tables)
+            }
+            Operation::Row(station) => {
+                let (number, part) = self.row_of(station);
+                Outcome::Part(number, part)
+            }
+        }
     }
 
     /// The expected line, without its end.
     pub fn line(&self) -> String {
         let label = &self.label;
-        match self.operation {
-            Operation::Reach => {
-                let (number, tables) = self.reached();
+        match self.outcome() {
+            Outcome::Reached(number, tables) => {
                 let texts = [
                     hops_text(&tables.appearance_hops),
                     counts_text(&tables.appearance_counts),
@@ -197,11 +147,34 @@ impl Case {
                 ];
                 format!("{label}: {number}{}", texts.concat())
             }
-            Operation::Row => {
-                let (number, part) = self.part();
+            Outcome::Part(number, part) => {
                 format!("{label}: {number} {}{}", part.len(), counts_text(&part))
             }
         }
+    }
+}
+
+/// What a call answers and leaves: the number, and reach's tables or row's part.
+#[derive(Clone, Debug, PartialEq, Eq)]
+pub enum Outcome {
+    Reached(u8, Tables),
+    Part(u8, Vec<u64>),
+}
+
+impl Outcome {
+    pub fn number(&self) -> u8 {
+        let (Outcome::Reached(number, _) | Outcome::Part(number, _)) = self;
+        *number
+    }
+}
+
+impl Filed for Case {
+    fn stdin(&self) -> Vec<u8> {
+        self.stdin_bytes()
+    }
+
+    fn stdout(&self) -> String {
+        self.line() + "\n"
     }
 }
 
@@ -242,32 +215,4 @@ pub fn all_cases() -> Vec<Case> {
     cases.extend(exact::cases());
     cases.extend(small::cases());
     cases
-}
-
-/// The bytes of standard input.
-pub fn stdin_bytes(cases: &[Case]) -> Vec<u8> {
-    let mut bytes = Vec::new();
-    for case in cases {
-        let kind = match case.operation {
-            Operation::Reach => 0,
-            Operation::Row => 1,
-        };
-        let (plan, label) = (case.bytes.len() as u16, case.label.len() as u16);
-        let sizes = [kind, case.stations, case.slots, case.station];
-        for head in sizes.into_iter().chain([plan, label, case.mark]) {
-            bytes.extend(head.to_be_bytes());
-        }
-        for length in case.lengths {
-            bytes.extend((length as u32).to_be_bytes());
-        }
-        bytes.extend(case.label.bytes());
-        bytes.extend(&case.bytes);
-    }
-    bytes
-}
-
-/// The expected standard output.
-pub fn stdout_text(cases: &[Case]) -> String {
-    let line = |case: &Case| case.line() + "\n";
-    cases.iter().map(line).collect()
 }

@@ -2,8 +2,9 @@
 
 use std::ops::Range;
 
-use crate::answer::{number, Answer, CallFault};
-use crate::lent::{appearances, long_enough, place};
+use crate::answer::{number, Answer};
+use crate::causes::{known_station, long_enough};
+use crate::lent::{appearances, place};
 use crate::plan::within_limits;
 
 /// The part of the caller's table that holds the station's T+1 entries; empty on refusal.
@@ -20,9 +21,7 @@ pub fn row_number(stations: usize, slots: usize, station: usize, table: &[u64]) 
 /// The places of the station's entries, or the first of causes 1, 6 and 8.
 fn row_part(stations: usize, slots: usize, station: usize, length: usize) -> Answer<Range<usize>> {
     within_limits(stations, slots)?;
-    if station >= stations {
-        return Err(CallFault::Station.into());
-    }
+    known_station(stations, station)?;
     long_enough(length, appearances(stations, slots))?;
     Ok(place(slots, station, 0)..place(slots, station, slots) + 1)
 }

@@ -1,13 +1,12 @@
 //! The shortest of a list of walks, document 01's least.
 
-use crate::answer::{Answer, CallFault};
-use crate::plan::Plan;
+use crate::answer::Answer;
+use crate::plan::{Appearance, Plan};
+use crate::reach::{Entries, Entry};
 use crate::walk::{walks_from, Walk};
 
 /// The hops of an appearance or a station that no walk reaches.
 pub const NO_WALK: u16 = 65535;
-/// The largest count, 2^64−1; one more is cause 9.
-pub const COUNT_LIMIT: u64 = u64::MAX;
 
 /// The walks with the fewest hops.
 fn shortest<'a>(walks: impl Iterator<Item = &'a Walk>) -> Vec<&'a Walk> {
@@ -20,7 +19,7 @@ fn shortest<'a>(walks: impl Iterator<Item = &'a Walk>) -> Vec<&'a Walk> {
 
 /// The shortest walks to the appearance (station, slot).
 pub fn walks_to_appearance(walks: &[Walk], station: usize, slot: usize) -> Vec<&Walk> {
-    let reaches = |walk: &&Walk| walk.end() == station && walk.slot == slot;
+    let reaches = |walk: &&Walk| walk.reached() == Appearance { station, slot };
     shortest(walks.iter().filter(reaches))
 }
 
@@ -47,18 +46,20 @@ pub fn count_of(walks: &[&Walk]) -> u64 {
     walks.len() as u64
 }
 
+/// The entries of listed walks from a source.
+pub fn entries_of(plan: &Plan, walks: &[Walk]) -> Entries {
+    let entry = |walks: Vec<&Walk>| Entry {
+        hops: hops_of(&walks),
+        count: count_of(&walks).into(),
+    };
+    let to_appearance = |station, slot| entry(walks_to_appearance(walks, station, slot));
+    let to_station = |station| entry(walks_to_station(walks, station));
+    Entries::new(plan, to_appearance, to_station)
+}
+
 /// All walks from a source, unless an appearance or station has more than `limit` shortest ones.
 pub fn walks_within(limit: u64, plan: &Plan, source: usize) -> Answer<Vec<Walk>> {
     let walks = walks_from(plan, source);
-    for station in 0..plan.stations {
-        if count_of(&walks_to_station(&walks, station)) > limit {
-            return Err(CallFault::TooMany.into());
-        }
-        for slot in 0..=plan.slots {
-            if count_of(&walks_to_appearance(&walks, station, slot)) > limit {
-                return Err(CallFault::TooMany.into());
-            }
-        }
-    }
+    entries_of(plan, &walks).within(limit)?;
     Ok(walks)
 }

@@ -1,6 +1,6 @@
 //! Walks, listed from the definition.
 
-use crate::plan::Plan;
+use crate::plan::{Appearance, Plan};
 
 /// A walk, document 01's chain: contacts by position, and the stations it visits.
 #[derive(Clone, Debug, PartialEq, Eq)]
@@ -37,17 +37,21 @@ impl Walk {
         self.stations[self.stations.len() - 1]
     }
 
-    /// This walk and one hop more: the contact contains the end, and its slot is strictly later.
-    pub fn extended(&self, plan: &Plan, position: usize) -> Option<Walk> {
-        let contact = plan.contacts[position];
-        let reached = contact.other(self.end())?;
-        if contact.slot <= self.slot {
-            return None;
+    /// The appearance where the walk ends.
+    pub fn reached(&self) -> Appearance {
+        Appearance {
+            station: self.end(),
+            slot: self.slot,
         }
+    }
+
+    /// This walk and one hop more: the contact leads on from the end, and may follow it.
+    pub fn extended(&self, plan: &Plan, position: usize) -> Option<Walk> {
+        let Appearance { station, slot } = self.reached().step(plan.contacts[position])?;
         let mut longer = self.clone();
         longer.positions.push(position as u16);
-        longer.stations.push(reached);
-        longer.slot = contact.slot;
+        longer.stations.push(station);
+        longer.slot = slot;
         Some(longer)
     }
 

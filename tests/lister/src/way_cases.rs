@@ -23,13 +23,14 @@ use std::collections::BTreeMap;
 
 use crate::answer::Answer;
 use crate::cases::{plan_bytes, Record};
-use crate::cursor::{Cursor, Operation};
-use crate::fast;
-use crate::lent::{appearances, scratch_named};
+use crate::cursor::{self, Cursor};
+use crate::files::{case_bytes, words_bytes, Filed};
+use crate::lent;
+use crate::means::{Counting, COUNT_LIMIT};
 use crate::plan::PlanInput;
-use crate::reach_cases::{counts_text, Counting};
-use crate::shortest::COUNT_LIMIT;
-use crate::ways::{accepted_plan, paths_of_call, Found, PathCall};
+use crate::plans::pairs;
+use crate::reach_cases::counts_text;
+use crate::ways::{accepted_plan, paths_of_call, Found, PathCall, Way};
 
 pub use ladders::ladder_path;
 pub use small::mixed;
@@ -80,7 +81,7 @@ impl Arguments {
 /// One step of a trace.
 #[derive(Clone, Copy, Debug, PartialEq, Eq)]
 pub enum Step {
-    Call(Operation, Arguments),
+    Call(Way, Arguments),
     /// The caller writes a value to an entry of the buffer.
     Write(u16, u16),
 }
@@ -158,7 +159,7 @@ impl Case {
             plan_from: 0,
             plan_length: bytes.len() as u16,
             buffer_length: slots,
-            scratch_length: 4 * appearances(stations.into(), slots.into()),
+            scratch_length: lent::scratch_length(stations.into(), slots.into()),
         };
         Case {
             label: label.to_string(),
@@ -196,15 +197,12 @@ impl Case {
 
     /// A trace without steps for each two different stations of a plan.
     fn every_pair(label: &str, sizes: (u16, u16), bytes: &[u8]) -> Vec<Case> {
-        let mut cases = Vec::new();
-        for source in 0..sizes.0 {
-            for destination in (0..sizes.0).filter(|station| *station != source) {
-                let label = format!("{label}, {source} to {destination}");
-                let stations = (source, destination);
-                cases.push(Case::on_bytes(&label, sizes, bytes.to_vec(), stations));
-            }
-        }
-        cases
+        let case = |(source, destination): (usize, usize)| {
+            let label = format!("{label}, {source} to {destination}");
+            let stations = (source as u16, destination as u16);
+            Case::on_bytes(&label, sizes, bytes.to_vec(), stations)
+        };
+        pairs(sizes.0.into()).map(case).collect()
     }
 
     /// The trace with another buffer, which its calls are lent whole.
@@ -241,13 +239,13 @@ impl Case {
     /// First way of the pair.
     fn first(self) -> Case {
         let pair = self.pair;
-        self.then(Step::Call(Operation::First, pair))
+        self.then(Step::Call(Way::First, pair))
     }
 
     /// Next way of the pair, so many times.
     fn next(self, times: usize) -> Case {
         let pair = self.pair;
-        (0..times).fold(self, |case, _| case.then(Step::Call(Operation::Next, pair)))
+        (0..times).fold(self, |case, _| case.then(Step::Call(Way::Next, pair)))
     }
 
     /// The trace with its replies stated by hand.
@@ -269,21 +267,27 @@ impl Case {
 
     /// Whether a call has a cause other than 10.
     fn causes(&self, call: &PathCall) -> Answer<()> {
-        match self.counting {
-            Counting::Listed => paths_of_call(COUNT_LIMIT, call).map(|_| ()),
-            Counting::Fast => {
-                let plan = accepted_plan(call)?;
-                fast::entries(&plan, call.source).within(COUNT_LIMIT)
-            }
-        }
+        let plan = accepted_plan(call)?;
+        let entries = self.counting.entries(&plan, call.source);
+        entries.within(COUNT_LIMIT)
     }
 
     /// The scratch after a call: the named part is 0 where no cause from 1 to 8 holds.
     fn scratch_after(&self, call: &PathCall) -> Vec<u64> {
         let mut scratch = vec![self.mark.into(); call.scratch_length];
-        let named = accepted_plan(call).map_or(0, |plan| scratch_named(&plan));
+        let named =
+            accepted_plan(call).map_or(0, |plan| lent::scratch_length(plan.stations, plan.slots));
         scratch[..named].fill(0);
         scratch
+    }
+
+    /// The steps with the calls that they make.
+    pub fn trace(&self) -> Vec<cursor::Step<'_>> {
+        let step = |step: &Step| match step {
+            Step::Call(way, arguments) => cursor::Step::Call(*way, arguments.call(&self.bytes)),
+            Step::Write(entry, value) => cursor::Step::Write((*entry).into(), *value),
+        };
+        self.steps.iter().map(step).collect()
     }
 
     /// What each call answers and leaves, by the cursor.
@@ -294,12 +298,12 @@ impl Case {
         for step in &self.steps {
             match step {
                 Step::Write(entry, value) => cursor.write((*entry).into(), *value),
-                Step::Call(operation, arguments) => {
+                Step::Call(way, arguments) => {
                     let call = arguments.call(&self.bytes);
                     let causes = known
                         .entry(*arguments)
                         .or_insert_with(|| self.causes(&call));
-                    let answer = cursor.answer(*operation, *causes);
+                    let answer = cursor.answer(*way, *causes);
                     outcomes.push(Outcome {
                         answer,
                         buffer: cursor.buffer().to_vec(),
@@ -310,50 +314,37 @@ impl Case {
         }
         outcomes
     }
+}
 
-    /// The expected lines.
-    pub fn text(&self) -> String {
+impl Filed for Case {
+    fn stdin(&self) -> Vec<u8> {
+        let (plans, entries) = (self.bytes.len(), self.contents.len());
+        let lengths = [self.label.len(), plans, entries, self.steps.len()];
+        let mut head = lengths.map(|length| length as u16).to_vec();
+        head.push(self.mark);
+        let mut bytes = case_bytes(&head, &[], &self.label, &self.bytes);
+        bytes.extend(words_bytes(self.contents.iter().copied()));
+        bytes.extend(self.steps.iter().flat_map(step_bytes));
+        bytes
+    }
+
+    fn stdout(&self) -> String {
         let lines = self.outcomes();
         let lines = lines.iter().map(|outcome| outcome.line() + "\n");
         format!("{}\n{}", self.label, lines.collect::<String>())
-    }
-
-    /// The bytes of the case on standard input.
-    fn stdin_bytes(&self) -> Vec<u8> {
-        let lengths = [
-            self.label.len(),
-            self.bytes.len(),
-            self.contents.len(),
-            self.steps.len(),
-        ];
-        let mut bytes = Vec::new();
-        for length in lengths {
-            bytes.extend((length as u16).to_be_bytes());
-        }
-        bytes.extend(self.mark.to_be_bytes());
-        bytes.extend(self.label.bytes());
-        bytes.extend(&self.bytes);
-        for entry in &self.contents {
-            bytes.extend(entry.to_be_bytes());
-        }
-        for step in &self.steps {
-            bytes.extend(step_bytes(step));
-        }
-        bytes
     }
 }
 
 /// The bytes of a step.
 fn step_bytes(step: &Step) -> Vec<u8> {
-    let (numbers, scratch_length) = match step {
+    let (words, scratch_length) = match step {
         Step::Write(entry, value) => ([2, *entry, *value, 0, 0, 0, 0, 0], 0),
-        Step::Call(operation, call) => {
-            let kind = match operation {
-                Operation::First => 0,
-                Operation::Next => 1,
-            };
-            let numbers = [
-                kind,
+        Step::Call(way, call) => {
+            let words = [
+                match way {
+                    Way::First => 0,
+                    Way::Next => 1,
+                },
                 call.stations,
                 call.slots,
                 call.source,
@@ -362,12 +353,10 @@ fn step_bytes(step: &Step) -> Vec<u8> {
                 call.plan_length,
                 call.buffer_length,
             ];
-            (numbers, call.scratch_length as u32)
+            (words, call.scratch_length)
         }
     };
-    let mut bytes: Vec<u8> = numbers.into_iter().flat_map(u16::to_be_bytes).collect();
-    bytes.extend(scratch_length.to_be_bytes());
-    bytes
+    case_bytes(&words, &[scratch_length], "", &[])
 }
 
 /// All cases, in the order of the files.
@@ -380,14 +369,4 @@ pub fn all_cases() -> Vec<Case> {
     cases.extend(layered::cases());
     cases.extend(small::cases());
     cases
-}
-
-/// The bytes of standard input.
-pub fn stdin_bytes(cases: &[Case]) -> Vec<u8> {
-    cases.iter().flat_map(Case::stdin_bytes).collect()
-}
-
-/// The expected standard output.
-pub fn stdout_text(cases: &[Case]) -> String {
-    cases.iter().map(Case::text).collect()
 }

@@ -1,10 +1,21 @@
-//! Operations 7 and 8, first way and next way, on the list of shortest paths.
+//! Operations 7 and 8, first way and next way.
 
 use crate::answer::{Answer, CallFault};
-use crate::lent::{long_enough, scratch_named};
-use crate::pair::two_stations;
-use crate::plan::{read, Plan, PlanInput};
-use crate::shortest::{shortest_paths, walks_within, COUNT_LIMIT};
+use crate::causes::{known_pair, long_enough};
+use crate::fast_ways;
+use crate::lent;
+use crate::means::{Counting, Means};
+use crate::plan::{read, Ends, Plan, PlanInput};
+use crate::shortest::{shortest_paths, walks_within};
+
+/// The operation of a call.
+#[derive(Clone, Copy, Debug, PartialEq, Eq)]
+pub enum Way {
+    /// First way: the first shortest path of the pair.
+    First,
+    /// Next way: the shortest path after the one with which the buffer begins.
+    Next,
+}
 
 /// What an accepted call of first way or next way answers.
 #[derive(Clone, Copy, Debug, PartialEq, Eq)]
@@ -36,112 +47,121 @@ pub struct PathCall<'a> {
     pub scratch_length: usize,
 }
 
-impl<'a> PathCall<'a> {
-    /// The arguments of a call that is lent a buffer and a scratch.
-    pub fn lent(
-        input: PlanInput<'a>,
-        source: usize,
-        destination: usize,
-        buffer: &[u16],
-        scratch: &[u64],
-    ) -> PathCall<'a> {
-        PathCall {
-            input,
-            source,
-            destination,
-            buffer_length: buffer.len(),
-            scratch_length: scratch.len(),
-        }
+impl PathCall<'_> {
+    /// The source and the destination.
+    pub fn ends(&self) -> Ends {
+        (self.source, self.destination)
     }
 }
 
 /// The plan of a call, or the first of causes 1 to 8.
 pub fn accepted_plan(call: &PathCall) -> Answer<Plan> {
     let plan = read(call.input)?;
-    two_stations(&plan, call.source, call.destination)?;
+    known_pair(plan.stations, call.ends())?;
     long_enough(call.buffer_length, plan.slots)?;
-    long_enough(call.scratch_length, scratch_named(&plan))?;
+    long_enough(
+        call.scratch_length,
+        lent::scratch_length(plan.stations, plan.slots),
+    )?;
     Ok(plan)
 }
 
 /// The positions of the pair's shortest paths in order, or cause 9.
-fn path_positions(limit: u64, plan: &Plan, call: &PathCall) -> Answer<Vec<Vec<u16>>> {
-    let walks = walks_within(limit, plan, call.source)?;
-    let paths = shortest_paths(&walks, call.destination);
+fn path_positions(limit: u64, plan: &Plan, ends: Ends) -> Answer<Vec<Vec<u16>>> {
+    let walks = walks_within(limit, plan, ends.0)?;
+    let paths = shortest_paths(&walks, ends.1);
     Ok(paths.iter().map(|path| path.positions.clone()).collect())
 }
 
 /// The positions of the pair's shortest paths in order, or the first of causes 1 to 9.
 pub fn paths_of_call(limit: u64, call: &PathCall) -> Answer<Vec<Vec<u16>>> {
     let plan = accepted_plan(call)?;
-    path_positions(limit, &plan, call)
+    path_positions(limit, &plan, call.ends())
 }
 
-/// Gives a path: its positions go to the first entries of the buffer.
-pub fn give(positions: &[u16], buffer: &mut [u16]) -> Found {
-    buffer[..positions.len()].copy_from_slice(positions);
-    Found::Path(positions.len() as u16)
+/// The shortest paths of a pair in order; the place of the first is 0.
+pub trait Paths {
+    /// How many there are.
+    fn count(&self) -> u128;
+
+    /// The positions of the path at a place, which is below the count.
+    fn path(&self, place: u128) -> Vec<u16>;
+
+    /// The place of the path with which a buffer of at least T entries begins; none if there is none.
+    fn place(&self, buffer: &[u16]) -> Option<u128>;
 }
 
-/// First way: the first shortest path of the pair.
-pub fn first_way(
-    input: PlanInput,
-    source: usize,
-    destination: usize,
-    buffer: &mut [u16],
-    scratch: &mut [u64],
-) -> Answer<Found> {
-    first_way_within(COUNT_LIMIT, input, source, destination, buffer, scratch)
+/// The plain lister's paths.
+impl Paths for Vec<Vec<u16>> {
+    fn count(&self) -> u128 {
+        self.len() as u128
+    }
+
+    fn path(&self, place: u128) -> Vec<u16> {
+        self[place as usize].clone()
+    }
+
+    fn place(&self, buffer: &[u16]) -> Option<u128> {
+        let place = self.iter().position(|path| buffer.starts_with(path));
+        place.map(|place| place as u128)
+    }
 }
 
-/// First way with the largest count as an argument.
-pub fn first_way_within(
-    limit: u64,
-    input: PlanInput,
-    source: usize,
-    destination: usize,
-    buffer: &mut [u16],
-    scratch: &mut [u64],
-) -> Answer<Found> {
-    let call = PathCall::lent(input, source, destination, buffer, scratch);
-    let plan = accepted_plan(&call)?;
-    scratch[..scratch_named(&plan)].fill(0);
-    let list = path_positions(limit, &plan, &call)?;
-    Ok(match list.first() {
-        None => Found::NoPath,
-        Some(first) => give(first, buffer),
-    })
+impl Way {
+    /// The place of the path to give: one below the count, or the count where there is none. Cause 10
+    /// is that next way's buffer begins with no path.
+    fn place(self, paths: &dyn Paths, buffer: &[u16]) -> Answer<u128> {
+        match self {
+            Way::First => Ok(0),
+            Way::Next => {
+                let offered = paths.place(buffer);
+                Ok(offered.ok_or(CallFault::NotShortest)? + 1)
+            }
+        }
+    }
+
+    /// The answer where there is no path to give.
+    fn nothing(self) -> Found {
+        match self {
+            Way::First => Found::NoPath,
+            Way::Next => Found::Last,
+        }
+    }
 }
 
-/// Next way: the shortest path after the one with which the buffer begins.
-pub fn next_way(
-    input: PlanInput,
-    source: usize,
-    destination: usize,
-    buffer: &mut [u16],
-    scratch: &mut [u64],
-) -> Answer<Found> {
-    next_way_within(COUNT_LIMIT, input, source, destination, buffer, scratch)
-}
+impl Means {
+    /// The shortest paths of a pair of an accepted plan, or cause 9.
+    fn paths(self, plan: Plan, ends: Ends) -> Answer<Box<dyn Paths>> {
+        Ok(match self.counting {
+            Counting::Listed => Box::new(path_positions(self.limit, &plan, ends)?),
+            Counting::Fast => Box::new(fast_ways::paths(self.limit, plan, ends)?),
+        })
+    }
 
-/// Next way with the largest count as an argument.
-pub fn next_way_within(
-    limit: u64,
-    input: PlanInput,
-    source: usize,
-    destination: usize,
-    buffer: &mut [u16],
-    scratch: &mut [u64],
-) -> Answer<Found> {
-    let call = PathCall::lent(input, source, destination, buffer, scratch);
-    let plan = accepted_plan(&call)?;
-    scratch[..scratch_named(&plan)].fill(0);
-    let list = path_positions(limit, &plan, &call)?;
-    let Some(place) = list.iter().position(|path| buffer.starts_with(path)) else {
-        return Err(CallFault::NotShortest.into());
-    };
-    Ok(match list.get(place + 1) {
-        None => Found::Last,
-        Some(next) => give(next, buffer),
-    })
+    /// First way or next way: a path is given by its positions in the first entries of the buffer.
+    pub fn way(
+        self,
+        way: Way,
+        input: PlanInput,
+        (source, destination): Ends,
+        buffer: &mut [u16],
+        scratch: &mut [u64],
+    ) -> Answer<Found> {
+        let plan = accepted_plan(&PathCall {
+            input,
+            source,
+            destination,
+            buffer_length: buffer.len(),
+            scratch_length: scratch.len(),
+        })?;
+        scratch[..lent::scratch_length(plan.stations, plan.slots)].fill(0);
+        let paths = self.paths(plan, (source, destination))?;
+        let place = way.place(paths.as_ref(), buffer)?;
+        if place == paths.count() {
+            return Ok(way.nothing());
+        }
+        let positions = paths.path(place);
+        buffer[..positions.len()].copy_from_slice(&positions);
+        Ok(Found::Path(positions.len() as u16))
+    }
 }

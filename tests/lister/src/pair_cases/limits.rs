@@ -2,6 +2,7 @@
 //! stations do not divide evenly into blocks.
 
 use super::{Case, LabelledPlan};
+use crate::call_cases::Called;
 use crate::cases::{valid_records, Record, PLAN_A};
 use crate::random::Random;
 use crate::reach_cases::{every_slot, star, CORNERS};
@@ -81,7 +82,7 @@ fn lengths() -> Vec<Case> {
     let plan = on("corners, one entry short", &CORNERS);
     let mut cases = Vec::new();
     for case in [plan.pair(0, 254), plan.loads(), plan.busiest()] {
-        for table in case.tables() {
+        for table in case.operation.tables() {
             let mut case = case.clone().stating(8);
             case.label += &format!(", length {table}");
             case.lengths[table] -= 1;

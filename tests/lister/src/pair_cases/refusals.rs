@@ -2,6 +2,7 @@
 //! near the named one.
 
 use super::{Case, LabelledPlan, Operation};
+use crate::call_cases::Called;
 use crate::cases::PLAN_A;
 use crate::plan::within_limits;
 use crate::reach_cases::{bytes_with_cause, ladder, plan_faults};
@@ -132,7 +133,7 @@ fn lengths() -> Vec<Case> {
     let mut cases = Vec::new();
     for operation in OPERATIONS {
         let on = |label: &str| plan_a(label).case(operation);
-        for table in on("").tables() {
+        for table in operation.tables() {
             let name = ["first table", "second table", "scratch"][table];
             let named = on("").lengths[table];
             let mut push = |label: &str, longer: usize, length: usize, number: u8| {
@@ -172,7 +173,7 @@ fn before_too_many() -> Vec<Case> {
         on("7 before 9").pair(0, 0).stating(7),
     ];
     for operation in OPERATIONS {
-        for table in on("").case(operation).tables() {
+        for table in operation.tables() {
             let case = on(&format!("8 before 9, length {table}")).case(operation);
             let short = case.lengths[table] - 1;
             cases.push(case.with_length(table, short).stating(8));

@@ -5,8 +5,8 @@
 
 use super::ladders::Builder;
 use super::Case;
-use crate::fast::Entry;
-use crate::shortest::COUNT_LIMIT;
+use crate::means::COUNT_LIMIT;
+use crate::reach::Entry;
 
 /// A plan, and the number of reach from its source.
 #[derive(Clone, Debug)]

@@ -1,9 +1,9 @@
 //! Plans built from ladders, and the ladders that document 01 names.
 
-use super::{Case, Counting};
+use super::{Case, Counting, Operation};
 use crate::cases::{plan_bytes, Record};
-use crate::fast::{entries, Entries};
 use crate::plan::{read, PlanInput};
+use crate::reach::Entries;
 
 /// A plan in the making; station 0 is the source.
 #[derive(Clone, Debug)]
@@ -78,7 +78,8 @@ impl Builder {
             stations: self.stations,
             slots: self.slots,
         };
-        entries(&read(input).expect("an accepted plan"), 0)
+        let plan = read(input).expect("an accepted plan");
+        Counting::Fast.entries(&plan, 0)
     }
 
     /// Reach from the source, on tables of exactly the named lengths.
@@ -157,7 +158,7 @@ fn other_sources() -> Vec<Case> {
         let label = format!("ladder of 65 layers, from {source}");
         let case = ladder(65, 2).case(&label).stating(0);
         Case {
-            station: source,
+            operation: Operation::Reach(source),
             ..case
         }
     };

@@ -1,7 +1,7 @@
 //! The refusals of reach, alone and two in one call, and tables of every length near the named one.
 
 use super::ladders::ladder;
-use super::Case;
+use super::{Case, Operation};
 use crate::cases::{plan_bytes, Record, PLAN_A};
 
 pub fn cases() -> Vec<Case> {
@@ -161,7 +161,7 @@ fn plan_before_call() -> Vec<Case> {
     for sizes in [(0, 4), (257, 4), (5, 0), (5, 256)] {
         let (n, slots) = sizes;
         let mut station = sized(&format!("1 before 6, n {n}, T {slots}"), sizes);
-        station.station = 65535;
+        station.operation = Operation::Reach(65535);
         cases.push(station.stating(1));
         let short = sized(&format!("1 before 8, n {n}, T {slots}"), sizes);
         cases.push(short.lent([0, 1, 2, 0]).stating(1));
@@ -250,7 +250,7 @@ fn before_too_many() -> Vec<Case> {
     let last = order.bytes[order.bytes.len() - 6..].to_vec();
     order.bytes.extend(last);
     let mut station = whole().stating(6);
-    station.station = station.stations;
+    station.operation = Operation::Reach(station.stations);
     let mut cases = vec![
         named("1 before 9", limits),
         named("2 before 9", length),

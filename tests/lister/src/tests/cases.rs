@@ -2,7 +2,8 @@
 
 use super::read_back::{assert_labels, take, take_number};
 use crate::answer::number;
-use crate::cases::{all_cases, generated_cases, stdin_bytes, stdout_text, LONGEST_LABEL};
+use crate::cases::{all_cases, generated_cases, LONGEST_LABEL};
+use crate::files::{stdin_bytes, stdout_text};
 use crate::plan::{check, PlanInput};
 use crate::random::Random;
 

@@ -2,24 +2,14 @@
 
 use super::support::Owned;
 use crate::answer::{Answer, CallFault, Refusal};
-use crate::cases::Record;
 use crate::loads::share;
+use crate::reach_cases;
 
 const TOO_MANY: Refusal = Refusal::Call(CallFault::TooMany);
 
-/// A ladder: source 0, then layers of two stations, each meeting both of the next.
+/// A ladder of two stations a layer.
 fn ladder(layers: u16) -> Owned {
-    let mut records: Vec<Record> = vec![(1, 0, 1), (1, 0, 2)];
-    for layer in 1..layers {
-        let first = 2 * layer - 1;
-        for a in [first, first + 1] {
-            for b in [first + 2, first + 3] {
-                records.push((layer + 1, a, b));
-            }
-        }
-    }
-    let stations = 2 * usize::from(layers) + 1;
-    Owned::new(stations, usize::from(layers), &records)
+    Owned::built(&reach_cases::ladder(layers.into(), 2))
 }
 
 fn refused<V: std::fmt::Debug + PartialEq>(answer: Answer<V>) -> bool {

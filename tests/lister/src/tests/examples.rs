@@ -4,35 +4,33 @@ use super::support::Owned;
 use crate::answer::number;
 use crate::cases::PLAN_A;
 use crate::loads::{Busiest, Load};
+use crate::means::{COUNT_LIMIT, LISTED};
 use crate::pair::PairValues;
 use crate::plan::check;
-use crate::shortest::{walks_to_appearance, COUNT_LIMIT};
+use crate::shortest::walks_to_appearance;
 use crate::show::{loads_text, pair_text, reach_text, text_of};
 use crate::walk::walks_from;
-use crate::ways::{first_way, next_way, Found};
+use crate::ways::{Found, Way};
 
 /// Every path of a pair, by first way and next way until "last" or "none".
 fn listed(owned: &Owned, source: usize, destination: usize) -> Vec<Vec<u16>> {
     let mut buffer = vec![9; owned.slots];
     let mut scratch = vec![9; owned.scratch_length()];
     let mut list = Vec::new();
-    let mut answer = first_way(
-        owned.input(),
-        source,
-        destination,
-        &mut buffer,
-        &mut scratch,
-    );
+    let mut ask = |way: Way, buffer: &mut [u16]| {
+        LISTED.way(
+            way,
+            owned.input(),
+            (source, destination),
+            buffer,
+            &mut scratch,
+        )
+    };
+    let mut answer = ask(Way::First, &mut buffer);
     while let Ok(Found::Path(hops)) = answer {
         list.push(buffer[..usize::from(hops)].to_vec());
         assert!(list.len() <= 10, "no end after {list:?}");
-        answer = next_way(
-            owned.input(),
-            source,
-            destination,
-            &mut buffer,
-            &mut scratch,
-        );
+        answer = ask(Way::Next, &mut buffer);
     }
     let end = if list.is_empty() {
         Found::NoPath
@@ -114,7 +112,8 @@ fn p7_next_way() {
     let mut scratch = vec![9; owned.scratch_length()];
     let mut next = |offered: [u16; 4]| {
         let mut buffer = offered;
-        let answer = next_way(owned.input(), 0, 4, &mut buffer, &mut scratch);
+        let input = owned.input();
+        let answer = LISTED.way(Way::Next, input, (0, 4), &mut buffer, &mut scratch);
         (answer, buffer)
     };
     assert_eq!(next([1, 4, 5, 77]), (Ok(Found::Last), [1, 4, 5, 77]));
@@ -156,7 +155,7 @@ fn p9_loads() {
                    2 2 5726623060\n\
                    3 4 17179869184\n\
                    4 0 0\n";
-    assert_eq!(text_of(loads_text(owned.input())), printed);
+    assert_eq!(text_of(loads_text(LISTED, owned.input())), printed);
 }
 
 #[test]

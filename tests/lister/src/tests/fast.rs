@@ -1,39 +1,25 @@
 //! The numbers of walks, compared with the plain lister.
 
 use super::support::{random_plan, tiny_plans, Owned};
-use crate::answer::{number, Answer};
-use crate::fast::{self, entries, Entry};
-use crate::plan::PlanInput;
+use crate::answer::number;
+use crate::fast::entries;
+use crate::means::{Means, COUNTED, COUNT_LIMIT, LISTED};
 use crate::random::Random;
-use crate::reach::{reach_within, ReachTables};
-use crate::reach_cases::{exact_plans, Builder, Tables};
-use crate::shortest::COUNT_LIMIT;
-
-type Reach = fn(u64, PlanInput, usize, ReachTables) -> Answer<()>;
+use crate::reach::{reach_named, Entry, Tables};
+use crate::reach_cases::{exact_plans, Builder};
 
 /// The number and the tables of a reach, with two entries behind each named part.
-fn outcome(reach: Reach, limit: u64, owned: &Owned, source: usize) -> (u8, Tables) {
-    let named = owned.stations * (owned.slots + 1);
-    let mut tables = Tables {
-        appearance_hops: vec![77; named + 2],
-        appearance_counts: vec![77; named + 2],
-        station_hops: vec![77; owned.stations + 2],
-        station_counts: vec![77; owned.stations + 2],
-    };
-    let lent = ReachTables {
-        appearance_hops: &mut tables.appearance_hops,
-        appearance_counts: &mut tables.appearance_counts,
-        station_hops: &mut tables.station_hops,
-        station_counts: &mut tables.station_counts,
-    };
-    let answer = reach(limit, owned.input(), source, lent);
+fn outcome(means: Means, owned: &Owned, source: usize) -> (u8, Tables) {
+    let named = reach_named(owned.stations, owned.slots);
+    let mut tables = Tables::marked(named.map(|length| length + 2), 77);
+    let answer = means.reach(owned.input(), source, tables.lend());
     (number(&answer), tables)
 }
 
 /// Asserts that both reaches answer alike, and gives the number.
 fn assert_alike(limit: u64, owned: &Owned, source: usize) -> u8 {
-    let listed = outcome(reach_within, limit, owned, source);
-    let counted = outcome(fast::reach_within, limit, owned, source);
+    let listed = outcome(LISTED.within(limit), owned, source);
+    let counted = outcome(COUNTED.within(limit), owned, source);
     assert_eq!(listed, counted, "limit {limit}, source {source}, {owned:?}");
     listed.0
 }
@@ -110,7 +96,7 @@ fn numbers_over_128_bits_are_held() {
     let entry = builder.entries().station(last[0]);
     assert_eq!((entry.hops, entry.count), (84, u128::MAX));
     let owned = Owned::built(&builder);
-    let (number, _) = outcome(fast::reach_within, COUNT_LIMIT, &owned, 0);
+    let (number, _) = outcome(COUNTED, &owned, 0);
     assert_eq!(number, 9);
 }
 

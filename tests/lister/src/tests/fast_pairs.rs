@@ -1,18 +1,14 @@
 //! Pair, loads and busiest by numbers of walks, compared with the plain lister and closed forms.
 
-use super::support::{random_plan, small_exact_plans, tiny_plans, Owned};
+use super::support::{pairs, random_plan, small_exact_plans, tiny_plans, Owned};
 use crate::answer::{number, Answer};
 use crate::cases::plan_bytes;
-use crate::fast_pairs;
-use crate::loads::{busiest_within, loads_within, Busiest, Load};
-use crate::pair::{pair_within, PairValues};
-use crate::plan::PlanInput;
+use crate::loads::{Busiest, Load};
+use crate::means::{Means, COUNTED, COUNT_LIMIT, LISTED};
+use crate::pair::PairValues;
+use crate::plan::Ends;
 use crate::random::Random;
-use crate::reach_cases::Builder;
-use crate::shortest::COUNT_LIMIT;
-
-type Pair = fn(u64, PlanInput, usize, usize, &mut [u64], &mut [u64]) -> Answer<PairValues>;
-type Loads = fn(u64, PlanInput, &mut [u64], &mut [u64], &mut [u64]) -> Answer<()>;
+use crate::reach_cases::{self, Builder};
 
 /// Two tables of a plan's stations and a scratch, lent with so many entries more or fewer.
 type Lengths = [isize; 3];
@@ -29,45 +25,45 @@ fn lend(owned: &Owned, change: Lengths) -> [Vec<u64>; 3] {
 
 /// The answer of a pair, and its memory after the call.
 fn paired(
-    pair: Pair,
-    limit: u64,
+    means: Means,
     owned: &Owned,
-    (source, destination): (usize, usize),
+    ends: Ends,
     change: Lengths,
 ) -> (Answer<PairValues>, [Vec<u64>; 3]) {
     let mut lent = lend(owned, change);
     let [through, _, scratch] = &mut lent;
-    let answer = pair(limit, owned.input(), source, destination, through, scratch);
+    let answer = means.pair(owned.input(), ends, through, scratch);
     (answer, lent)
 }
 
 /// Asserts that both pairs answer alike, and gives the number.
-fn assert_pair(limit: u64, owned: &Owned, ends: (usize, usize), change: Lengths) -> u8 {
-    let listed = paired(pair_within, limit, owned, ends, change);
-    let counted = paired(fast_pairs::pair_within, limit, owned, ends, change);
+fn assert_pair(limit: u64, owned: &Owned, ends: Ends, change: Lengths) -> u8 {
+    let listed = paired(LISTED.within(limit), owned, ends, change);
+    let counted = paired(COUNTED.within(limit), owned, ends, change);
     assert_eq!(listed, counted, "limit {limit}, {ends:?}, {owned:?}");
     number(&listed.0)
 }
 
 /// The answer of loads, and its memory after the call.
-fn loaded(loads: Loads, limit: u64, owned: &Owned, change: Lengths) -> (Answer<()>, [Vec<u64>; 3]) {
+fn loaded(means: Means, owned: &Owned, change: Lengths) -> (Answer<()>, [Vec<u64>; 3]) {
     let mut lent = lend(owned, change);
     let [pairs, sums, scratch] = &mut lent;
-    let answer = loads(limit, owned.input(), pairs, sums, scratch);
+    let answer = means.loads(owned.input(), pairs, sums, scratch);
     (answer, lent)
 }
 
 /// Asserts that both loads, both busiest and the largest load agree, and gives the number of loads.
 fn assert_loads(limit: u64, owned: &Owned, change: Lengths) -> u8 {
-    let listed = loaded(loads_within, limit, owned, change);
-    let counted = loaded(fast_pairs::loads_within, limit, owned, change);
+    let (lister, counter) = (LISTED.within(limit), COUNTED.within(limit));
+    let listed = loaded(lister, owned, change);
+    let counted = loaded(counter, owned, change);
     assert_eq!(listed, counted, "limit {limit}, {owned:?}");
     let input = owned.input();
     let [mut one, mut other, mut third] = [2; 3].map(|_| lend(owned, change)[2].clone());
-    let busiest = busiest_within(limit, input, &mut one);
-    let counted = fast_pairs::busiest_within(limit, input, &mut other);
+    let busiest = lister.busiest(input, &mut one);
+    let counted = counter.busiest(input, &mut other);
     assert_eq!(busiest, counted, "limit {limit}, {owned:?}");
-    let largest = fast_pairs::largest_load_within(limit, input, &mut third);
+    let largest = counter.largest_load(input, &mut third);
     let expected = busiest.map(|Busiest { stations }| match number(&listed.0) {
         0 => listed.1[1][stations[0]],
         _ => largest.unwrap(),
@@ -79,11 +75,9 @@ fn assert_loads(limit: u64, owned: &Owned, change: Lengths) -> u8 {
 
 /// Asserts agreement on every pair and of the loads; adds up the numbers 9.
 fn assert_alike(limit: u64, owned: &Owned, refused: &mut [usize; 2]) {
-    for source in 0..owned.stations {
-        for destination in (0..owned.stations).filter(|station| *station != source) {
-            let number = assert_pair(limit, owned, (source, destination), LONGER);
-            refused[0] += usize::from(number == 9);
-        }
+    for ends in pairs(owned.stations) {
+        let number = assert_pair(limit, owned, ends, LONGER);
+        refused[0] += usize::from(number == 9);
     }
     refused[1] += usize::from(assert_loads(limit, owned, LONGER) == 9);
 }
@@ -178,20 +172,13 @@ fn refused_calls_are_answered_alike() {
 
 /// A ladder's plan.
 fn ladder(layers: usize, width: usize) -> Owned {
-    let mut builder = Builder::start();
-    builder.ladder(layers, width);
-    Owned::built(&builder)
+    Owned::built(&reach_cases::ladder(layers, width))
 }
 
 /// Values and through counts of a pair, or the number.
 fn pair(owned: &Owned, source: usize, destination: usize) -> Result<(PairValues, Vec<u64>), u8> {
-    let (answer, [mut through, _, scratch]) = paired(
-        fast_pairs::pair_within,
-        COUNT_LIMIT,
-        owned,
-        (source, destination),
-        [0; 3],
-    );
+    let ends = (source, destination);
+    let (answer, [mut through, _, scratch]) = paired(COUNTED, owned, ends, [0; 3]);
     assert!(scratch.iter().all(|entry| *entry == 0));
     through.truncate(owned.stations);
     let values = answer.map_err(|refusal| refusal.number())?;
@@ -200,7 +187,7 @@ fn pair(owned: &Owned, source: usize, destination: usize) -> Result<(PairValues,
 
 /// Pairs and load of each station, or the number.
 fn loads(owned: &Owned) -> Result<Vec<Load>, u8> {
-    let (answer, [pairs, sums, _]) = loaded(fast_pairs::loads_within, COUNT_LIMIT, owned, [0; 3]);
+    let (answer, [pairs, sums, _]) = loaded(COUNTED, owned, [0; 3]);
     answer.map_err(|refusal| refusal.number())?;
     let entry = |(pairs, load)| Load { pairs, load };
     Ok(pairs.into_iter().zip(sums).map(entry).collect())
@@ -252,9 +239,9 @@ fn loads_of_ladders() {
         }
         let largest = loads.iter().map(|entry| entry.load).max();
         let mut scratch = vec![7; owned.scratch_length()];
-        let counted = fast_pairs::largest_load(owned.input(), &mut scratch);
+        let counted = COUNTED.largest_load(owned.input(), &mut scratch);
         assert_eq!(counted.ok(), largest);
-        let busiest = fast_pairs::busiest(owned.input(), &mut scratch).unwrap();
+        let busiest = COUNTED.busiest(owned.input(), &mut scratch).unwrap();
         for (station, entry) in loads.iter().enumerate() {
             let is_largest = Some(entry.load) == largest;
             assert_eq!(busiest.stations.contains(&station), is_largest);

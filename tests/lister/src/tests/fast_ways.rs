@@ -1,47 +1,38 @@
 //! First way and next way by numbers of walks, compared with the plain lister and ladders.
 
-use super::support::{random_plan, small_exact_plans, tiny_plans, Owned};
+use super::support::{pairs, random_plan, small_exact_plans, tiny_plans, Owned};
 use crate::answer::{number, Answer};
-use crate::fast_ways;
-use crate::plan::PlanInput;
+use crate::means::{Means, COUNTED, COUNT_LIMIT, LISTED};
+use crate::plan::Ends;
 use crate::random::Random;
 use crate::reach_cases::Builder;
-use crate::shortest::COUNT_LIMIT;
 use crate::traces::contents;
-use crate::ways::{first_way_within, next_way_within, Found};
-
-type Way = fn(u64, PlanInput, usize, usize, &mut [u16], &mut [u64]) -> Answer<Found>;
+use crate::way_cases::ladder_path;
+use crate::ways::{Found, Way};
 
 /// Answer, buffer and scratch of a call; two entries more than named are lent of the scratch.
 fn outcome(
+    means: Means,
     way: Way,
-    limit: u64,
     owned: &Owned,
-    (source, destination): (usize, usize),
+    ends: Ends,
     offered: &[u16],
 ) -> (Answer<Found>, Vec<u16>, Vec<u64>) {
     let mut buffer = offered.to_vec();
     let mut scratch = vec![77; owned.scratch_length() + 2];
-    let input = owned.input();
-    let answer = way(limit, input, source, destination, &mut buffer, &mut scratch);
+    let answer = means.way(way, owned.input(), ends, &mut buffer, &mut scratch);
     (answer, buffer, scratch)
 }
 
 /// Asserts that both operations answer alike on a buffer; gives the number of next way.
-fn assert_alike(limit: u64, owned: &Owned, ends: (usize, usize), offered: &[u16]) -> u8 {
-    let first = outcome(first_way_within, limit, owned, ends, offered);
-    let counted = outcome(fast_ways::first_way_within, limit, owned, ends, offered);
-    assert_eq!(first, counted, "first, {limit}, {ends:?}, {owned:?}");
-    let next = outcome(next_way_within, limit, owned, ends, offered);
-    let counted = outcome(fast_ways::next_way_within, limit, owned, ends, offered);
-    assert_eq!(next, counted, "next, {limit}, {ends:?}, {owned:?}");
-    number(&next.0)
-}
-
-/// The ordered pairs of two stations.
-fn pairs(stations: usize) -> impl Iterator<Item = (usize, usize)> {
-    let all = (0..stations).flat_map(move |source| (0..stations).map(move |other| (source, other)));
-    all.filter(|(source, destination)| source != destination)
+fn assert_alike(limit: u64, owned: &Owned, ends: Ends, offered: &[u16]) -> u8 {
+    let [_, next] = [Way::First, Way::Next].map(|way| {
+        let listed = outcome(LISTED.within(limit), way, owned, ends, offered);
+        let counted = outcome(COUNTED.within(limit), way, owned, ends, offered);
+        assert_eq!(listed, counted, "{way:?}, {limit}, {ends:?}, {owned:?}");
+        number(&listed.0)
+    });
+    next
 }
 
 #[test]
@@ -105,36 +96,24 @@ fn refused_calls_are_answered_alike() {
     assert_eq!(next(&few_slots, (5, 5), 3), 3);
 }
 
-/// Path `index` of a ladder of two stations a layer, to the first station of the last layer: the
-/// binary digits of the index are the stations of the layers before, the highest the first's.
-fn ladder_path(layers: usize, index: u64) -> Vec<u16> {
-    let digit = |layer: usize| match layer {
-        layer if layer == layers => 0,
-        _ => (index >> (layers - 1 - layer) & 1) as usize,
-    };
-    let position = |layer: usize| match layer {
-        1 => digit(1),
-        _ => 4 * layer - 6 + 2 * digit(layer - 1) + digit(layer),
-    };
-    (1..=layers).map(|layer| position(layer) as u16).collect()
-}
-
 #[test]
 fn paths_of_a_ladder() {
     let mut builder = Builder::start();
     let last = builder.ladder(64, 2)[0];
     let owned = Owned::built(&builder);
-    let ways: [Way; 2] = [fast_ways::first_way_within, fast_ways::next_way_within];
-    let answer = |way: usize, offered: &[u16]| {
-        let (answer, buffer, _) = outcome(ways[way], COUNT_LIMIT, &owned, (0, last), offered);
+    let answer = |way: Way, offered: &[u16]| {
+        let (answer, buffer, _) = outcome(COUNTED, way, &owned, (0, last), offered);
         (answer, buffer)
     };
-    let given = |index: u64| (Ok(Found::Path(64)), ladder_path(64, index));
-    assert_eq!(answer(0, &[9; 64]), given(0));
+    let given = |index: u64| (Ok(Found::Path(64)), ladder_path(64, 0, index));
+    assert_eq!(answer(Way::First, &[9; 64]), given(0));
     let (half, end) = (1 << 62, (1 << 63) - 1);
     for index in [0, 1, 2, 12345, half - 1, half, end - 1] {
-        assert_eq!(answer(1, &ladder_path(64, index)), given(index + 1));
+        assert_eq!(
+            answer(Way::Next, &ladder_path(64, 0, index)),
+            given(index + 1)
+        );
     }
-    let path = ladder_path(64, end);
-    assert_eq!(answer(1, &path), (Ok(Found::Last), path));
+    let path = ladder_path(64, 0, end);
+    assert_eq!(answer(Way::Next, &path), (Ok(Found::Last), path));
 }

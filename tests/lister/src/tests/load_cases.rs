@@ -3,13 +3,14 @@
 use std::collections::BTreeSet;
 use std::sync::OnceLock;
 
+use super::read_back::{assert_labels, take, take_number};
+use crate::files::{stdin_bytes, stdout_text};
 use crate::load_cases::{
-    all_cases, rare_path, stdin_bytes, stdout_text, Case, LONGEST_INPUT, LONGEST_LABEL,
-    LONGEST_TEXT, RARE_PATHS,
+    all_cases, rare_path, Case, LONGEST_INPUT, LONGEST_LABEL, LONGEST_TEXT, RARE_PATHS,
 };
 use crate::load_program::{accepted_plan, is_listed, load_text, load_text_by};
 use crate::loads::share;
-use crate::{fast_pairs, loads};
+use crate::means::{COUNTED, LISTED};
 
 /// All cases and their texts, made once.
 fn cases() -> &'static [(Case, String)] {
@@ -74,13 +75,8 @@ fn texts_have_their_form() {
 
 #[test]
 fn labels_are_short_printable_and_distinct() {
-    let labels: BTreeSet<&str> = cases().iter().map(|case| case.0.label.as_str()).collect();
-    assert_eq!(labels.len(), cases().len());
-    for label in labels {
-        assert!((1..=LONGEST_LABEL).contains(&label.len()), "{label}");
-        let printable = |byte: u8| (32..127).contains(&byte);
-        assert!(label.bytes().all(printable), "{label}");
-    }
+    let labels = cases().iter().map(|(case, _)| case.label.as_str());
+    assert_labels(labels, LONGEST_LABEL);
 }
 
 #[test]
@@ -147,18 +143,11 @@ fn listed_and_counted_cases() {
             continue;
         }
         listed += 1;
-        for loads in [loads::loads, fast_pairs::loads] {
-            assert_eq!(load_text_by(loads, &case.bytes), *text, "{}", case.label);
+        for means in [LISTED, COUNTED] {
+            assert_eq!(load_text_by(means, &case.bytes), *text, "{}", case.label);
         }
     }
     assert!(listed > 100 && counted > 60, "{listed} {counted}");
-}
-
-/// Takes `length` bytes off the front.
-fn take<'a>(bytes: &mut &'a [u8], length: usize) -> &'a [u8] {
-    let (front, rest) = bytes.split_at(length);
-    *bytes = rest;
-    front
 }
 
 #[test]
@@ -170,9 +159,7 @@ fn stdin_read_back_gives_stdout() {
     let mut stdout = Vec::new();
     let mut read = 0;
     while !rest.is_empty() {
-        let head = take(&mut rest, 4);
-        let label_length = usize::from(head[0]) * 256 + usize::from(head[1]);
-        let input_length = usize::from(head[2]) * 256 + usize::from(head[3]);
+        let [label_length, input_length] = [2; 2].map(|length| take_number(&mut rest, length));
         stdout.extend(take(&mut rest, label_length));
         stdout.extend(b":\n");
         stdout.extend(load_text(take(&mut rest, input_length)).bytes());

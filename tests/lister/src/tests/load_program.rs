@@ -3,10 +3,10 @@
 use super::support::{random_plan, tiny_plans, Owned};
 use crate::cases::{plan_bytes, Record, PLAN_A};
 use crate::load_program::{accepted_plan, is_listed, load_text, load_text_by, number_of_walks};
+use crate::means::{COUNTED, LISTED};
 use crate::random::Random;
 use crate::show::{loads_text, text_of};
 use crate::walk::walks_from;
-use crate::{fast_pairs, loads};
 
 fn text(records: &[Record]) -> String {
     load_text(&plan_bytes(records))
@@ -72,12 +72,12 @@ fn walks_are_numbered_as_listed() {
 fn tiny_plans_are_printed_alike() {
     for owned in tiny_plans() {
         let bytes = &owned.bytes;
-        let listed = load_text_by(loads::loads, bytes);
-        assert_eq!(load_text_by(fast_pairs::loads, bytes), listed, "{owned:?}");
+        let listed = load_text_by(LISTED, bytes);
+        assert_eq!(load_text_by(COUNTED, bytes), listed, "{owned:?}");
         assert_eq!(load_text(bytes), listed, "{owned:?}");
         let plan = accepted_plan(bytes).unwrap();
         if (plan.stations, plan.slots) == (owned.stations, owned.slots) {
-            assert_eq!(text_of(loads_text(owned.input())), listed);
+            assert_eq!(text_of(loads_text(LISTED, owned.input())), listed);
         }
     }
 }

@@ -4,12 +4,13 @@ use std::collections::BTreeMap;
 use std::sync::OnceLock;
 
 use super::read_back::{assert_labels, entries_of, take, take_number};
-use crate::loads::busiest;
+use crate::call_cases::Called;
+use crate::files::{stdin_bytes, stdout_text};
+use crate::means::{Counting, LISTED};
 use crate::pair_cases::{
-    all_cases, mixed_ladders, stdin_bytes, stdout_text, Case, Operation, Outcome, BLOCKS,
-    LONGEST_LABEL, LONGEST_TABLES,
+    all_cases, mixed_ladders, Case, Operation, Outcome, BLOCKS, LONGEST_LABEL, LONGEST_TABLES,
 };
-use crate::reach_cases::{Counting, LONGEST_PLAN};
+use crate::reach_cases::LONGEST_PLAN;
 
 /// All cases with their outcomes, made once.
 fn cases() -> &'static [(Case, Outcome)] {
@@ -31,11 +32,7 @@ fn labelled(label: &str) -> &'static (Case, Outcome) {
 
 /// The place of an operation in the kinds of the program.
 fn kind(operation: Operation) -> usize {
-    match operation {
-        Operation::Pair(..) => 0,
-        Operation::Loads => 1,
-        Operation::Busiest => 2,
-    }
+    operation.kind().into()
 }
 
 #[test]
@@ -285,7 +282,7 @@ fn busiest_gives_the_largest_load() {
             let loads = &loads.buffers[1][..case.stations.into()];
             assert_eq!(Some(&outcome.values[0]), loads.iter().max());
             let mut scratch = vec![0; case.lengths[2]];
-            let given = busiest(case.input(), &mut scratch).unwrap();
+            let given = LISTED.busiest(case.input(), &mut scratch).unwrap();
             let equal = |station: &usize| loads[*station] == outcome.values[0];
             assert!(given.stations.iter().all(equal), "{}", case.label);
             seen += 1;

@@ -5,12 +5,12 @@ use std::sync::OnceLock;
 
 use super::read_back::{assert_labels, entries_of, take, take_number};
 use crate::answer::number;
-use crate::fast;
+use crate::files::{stdin_bytes, stdout_text};
+use crate::means::Counting;
 use crate::plan::PlanInput;
-use crate::reach::{reach, ReachTables};
+use crate::reach::Tables;
 use crate::reach_cases::{
-    all_cases, stdin_bytes, stdout_text, Case, Counting, Operation, Tables, LONGEST_LABEL,
-    LONGEST_PLAN, LONGEST_TABLES,
+    all_cases, Case, Operation, Outcome, LONGEST_LABEL, LONGEST_PLAN, LONGEST_TABLES,
 };
 use crate::row::{row, row_number};
 
@@ -20,24 +20,16 @@ fn cases() -> &'static [Case] {
     CASES.get_or_init(all_cases)
 }
 
-/// The number of a case's line.
-fn number_of(case: &Case) -> u8 {
-    match case.operation {
-        Operation::Reach => case.reached().0,
-        Operation::Row => case.part().0,
-    }
-}
-
 #[test]
 fn stated_numbers_are_those_of_the_lister() {
     let mut reached = [0; 10];
     let mut rows = [0; 10];
     for case in cases().iter().filter(|case| case.stated.is_some()) {
-        let number = number_of(case);
+        let number = case.outcome().number();
         assert_eq!(Some(number), case.stated, "{}", case.label);
         match case.operation {
-            Operation::Reach => reached[usize::from(number)] += 1,
-            Operation::Row => rows[usize::from(number)] += 1,
+            Operation::Reach(_) => reached[usize::from(number)] += 1,
+            Operation::Row(_) => rows[usize::from(number)] += 1,
         }
     }
     for number in [0, 1, 2, 3, 4, 5, 6, 8, 9] {
@@ -123,22 +115,8 @@ fn assert_line(stdin: &mut &[u8], line: &str, counting: Counting) {
         station_hops: hops(parts[3], lengths[2]),
         station_counts: entries_of(parts[4], lengths[3], 0),
     };
-    let mut tables = Tables {
-        appearance_hops: vec![mark as u16; lengths[0]],
-        appearance_counts: vec![mark as u64; lengths[1]],
-        station_hops: vec![mark as u16; lengths[2]],
-        station_counts: vec![mark as u64; lengths[3]],
-    };
-    let lent = ReachTables {
-        appearance_hops: &mut tables.appearance_hops,
-        appearance_counts: &mut tables.appearance_counts,
-        station_hops: &mut tables.station_hops,
-        station_counts: &mut tables.station_counts,
-    };
-    let answer = match counting {
-        Counting::Listed => reach(input, station, lent),
-        Counting::Fast => fast::reach(input, station, lent),
-    };
+    let mut tables = Tables::marked(lengths, mark as u16);
+    let answer = counting.means().reach(input, station, tables.lend());
     assert_eq!(parts[0], number(&answer).to_string(), "{label}");
     assert_eq!(written, tables, "{label}");
 }
@@ -190,14 +168,13 @@ fn walks_are_counted_for_ladders_alone() {
 
 #[test]
 fn listed_cases_are_counted_alike() {
-    let reaches =
-        |case: &Case| case.operation == Operation::Reach && case.counting == Counting::Listed;
-    for case in cases().iter().filter(|case| reaches(case)) {
+    let listed = |case: &&Case| case.counting == Counting::Listed;
+    for case in cases().iter().filter(listed) {
         let counted = Case {
             counting: Counting::Fast,
             ..case.clone()
         };
-        assert_eq!(counted.reached(), case.reached(), "{}", case.label);
+        assert_eq!(counted.outcome(), case.outcome(), "{}", case.label);
     }
 }
 
@@ -208,11 +185,17 @@ fn small_plans_vary() {
         .filter(|case| case.label.starts_with("small "));
     let small: Vec<&Case> = small.collect();
     assert_eq!(small.len(), 300);
-    let refused = small.iter().filter(|case| number_of(case) == 8).count();
+    let refused = small
+        .iter()
+        .filter(|case| case.outcome().number() == 8)
+        .count();
     assert!((5..60).contains(&refused), "{refused}");
     let marks: BTreeSet<u16> = small.iter().map(|case| case.mark).collect();
     assert!(marks.len() > 250);
-    let largest = |case: &&Case| case.reached().1.station_counts.into_iter().max();
+    let largest = |case: &&Case| match case.outcome() {
+        Outcome::Reached(_, tables) => tables.station_counts.into_iter().max(),
+        Outcome::Part(..) => None,
+    };
     let several = small.iter().copied().filter(|case| largest(case) > Some(1));
     assert!(several.count() > 30);
 }

@@ -1,72 +1,21 @@
 //! The table of refusals: every set of causes, for every operation.
 
 use super::support::Owned;
-use crate::answer::{beside, number};
+use crate::answer::{number, Answer};
 use crate::cases::{plan_bytes, Record, PLAN_A};
-use crate::loads::{busiest_within, loads_within, Busiest};
-use crate::pair::{pair_within, PairValues};
-use crate::plan::{check, PlanInput};
-use crate::reach::{reach_within, ReachTables};
-use crate::row::{row, row_number};
-use crate::ways::{first_way_within, hops_beside, next_way_within};
+use crate::means::LISTED;
+use crate::operation::{Answered, Lent, Operation, OPERATIONS};
+use crate::plan::{Ends, PlanInput};
+use crate::ways::{Found, Way};
 
-#[derive(Clone, Copy, Debug, PartialEq, Eq)]
-enum Operation {
-    Check,
-    Reach,
-    Row,
-    Pair,
-    Loads,
-    Busiest,
-    FirstWay,
-    NextWay,
-}
-
-const OPERATIONS: [Operation; 8] = [
-    Operation::Check,
-    Operation::Reach,
-    Operation::Row,
-    Operation::Pair,
-    Operation::Loads,
-    Operation::Busiest,
-    Operation::FirstWay,
-    Operation::NextWay,
-];
+/// n and T of plan A.
+const SIZES: (usize, usize) = (5, 4);
 
 impl Operation {
-    /// The causes that the operation knows, in order.
-    fn causes(self) -> &'static [u8] {
-        match self {
-            Operation::Check => &[1, 2, 3, 4, 5],
-            Operation::Reach => &[1, 2, 3, 4, 5, 6, 8, 9],
-            Operation::Row => &[1, 6, 8],
-            Operation::Pair => &[1, 2, 3, 4, 5, 6, 7, 8, 9],
-            Operation::Loads => &[1, 2, 3, 4, 5, 8, 9],
-            Operation::Busiest => &[1, 2, 3, 4, 5, 8, 9],
-            Operation::FirstWay => &[1, 2, 3, 4, 5, 6, 7, 8, 9],
-            Operation::NextWay => &[1, 2, 3, 4, 5, 6, 7, 8, 9, 10],
-        }
-    }
-
-    /// The named lengths of its 16-bit tables at n 5, T 4.
-    fn narrow(self) -> &'static [usize] {
-        match self {
-            Operation::Reach => &[25, 5],
-            Operation::FirstWay | Operation::NextWay => &[4],
-            _ => &[],
-        }
-    }
-
-    /// The named lengths of its 64-bit tables at n 5, T 4; the scratch is the last.
-    fn wide(self) -> &'static [usize] {
-        match self {
-            Operation::Check => &[],
-            Operation::Reach => &[25, 5],
-            Operation::Row => &[25],
-            Operation::Pair => &[5, 100],
-            Operation::Loads => &[5, 5, 100],
-            Operation::Busiest | Operation::FirstWay | Operation::NextWay => &[100],
-        }
+    /// The named lengths of its 16-bit tables, then of its 64-bit tables.
+    fn named(self) -> [Vec<usize>; 2] {
+        let (stations, slots) = SIZES;
+        [self.narrow(stations, slots), self.wide(stations, slots)]
     }
 
     fn takes_way_buffer(self) -> bool {
@@ -74,15 +23,25 @@ impl Operation {
     }
 
     fn takes_scratch(self) -> bool {
-        !matches!(self, Operation::Check | Operation::Reach | Operation::Row)
+        self.wide(1, 1).last() == Some(&8)
     }
 }
 
-/// The lent memory of one call.
-#[derive(Clone, Debug, PartialEq, Eq)]
-struct Lent {
-    narrow: Vec<Vec<u16>>,
-    wide: Vec<Vec<u64>>,
+#[test]
+fn named_lengths_of_plan_a() {
+    for (operation, narrow, wide) in [
+        (Operation::Check, vec![], vec![]),
+        (Operation::Reach, vec![25, 5], vec![25, 5]),
+        (Operation::Row, vec![], vec![25]),
+        (Operation::RowNumber, vec![], vec![25]),
+        (Operation::Pair, vec![], vec![5, 100]),
+        (Operation::Loads, vec![], vec![5, 5, 100]),
+        (Operation::Busiest, vec![], vec![100]),
+        (Operation::FirstWay, vec![4], vec![100]),
+        (Operation::NextWay, vec![4], vec![100]),
+    ] {
+        assert_eq!(operation.named(), [narrow, wide], "{operation:?}");
+    }
 }
 
 /// The arguments of one call but the lent memory.
@@ -152,7 +111,7 @@ impl Arguments {
 
 /// Memory with 3 entries past each named part; `short` names a table that lacks one entry.
 fn lend(operation: Operation, short: Option<usize>, offered: &[u16]) -> Lent {
-    let narrow = operation.narrow();
+    let [narrow, wide] = operation.named();
     let length = |table: usize, named: &usize| match short {
         Some(other) if other == table => named - 1,
         _ => named + 3,
@@ -163,7 +122,7 @@ fn lend(operation: Operation, short: Option<usize>, offered: &[u16]) -> Lent {
         narrow: (narrow.iter().enumerate())
             .map(|entry| filled(entry).map(|value| value as u16).collect())
             .collect(),
-        wide: (operation.wide().iter().enumerate())
+        wide: (wide.iter().enumerate())
             .map(|(table, named)| filled((wide_from + table, named)).collect())
             .collect(),
     };
@@ -174,87 +133,29 @@ fn lend(operation: Operation, short: Option<usize>, offered: &[u16]) -> Lent {
 }
 
 /// Makes the call; gives its number, and whether zeros are beside it.
-fn run(operation: Operation, arguments: &Arguments, lent: &mut Lent) -> (u8, bool) {
-    let input = arguments.input();
-    let limit = arguments.limit;
-    let (source, destination) = (arguments.source, arguments.destination);
-    let wide = &mut lent.wide;
-    let narrow = &mut lent.narrow;
-    match operation {
-        Operation::Check => (number(&check(input)), true),
-        Operation::Reach => {
-            let [appearance_hops, station_hops] = narrow.as_mut_slice() else {
-                unreachable!()
-            };
-            let [appearance_counts, station_counts] = wide.as_mut_slice() else {
-                unreachable!()
-            };
-            let tables = ReachTables {
-                appearance_hops,
-                appearance_counts,
-                station_hops,
-                station_counts,
-            };
-            let answer = reach_within(limit, input, arguments.station(), tables);
-            (number(&answer), true)
-        }
-        Operation::Row => {
-            let (stations, slots) = (arguments.stations, arguments.slots);
-            let station = arguments.station();
-            let number = row_number(stations, slots, station, &wide[0]);
-            let part = row(stations, slots, station, &mut wide[0]);
-            (number, part.is_empty())
-        }
-        Operation::Pair => {
-            let [through, scratch] = wide.as_mut_slice() else {
-                unreachable!()
-            };
-            let answer = pair_within(limit, input, source, destination, through, scratch);
-            let zeros = PairValues { hops: 0, count: 0 };
-            (number(&answer), beside(&answer) == zeros)
-        }
-        Operation::Loads => {
-            let [pairs, loads, scratch] = wide.as_mut_slice() else {
-                unreachable!()
-            };
-            let answer = loads_within(limit, input, pairs, loads, scratch);
-            (number(&answer), true)
-        }
-        Operation::Busiest => {
-            let answer = busiest_within(limit, input, &mut wide[0]);
-            let zeros = Busiest { stations: vec![0] };
-            (number(&answer), beside(&answer) == zeros)
-        }
-        Operation::FirstWay | Operation::NextWay => {
-            let run = match operation {
-                Operation::FirstWay => first_way_within,
-                _ => next_way_within,
-            };
-            let (buffer, scratch) = (&mut narrow[0], &mut wide[0]);
-            let answer = run(limit, input, source, destination, buffer, scratch);
-            (number(&answer), hops_beside(&answer) == Some(0))
-        }
-    }
+fn run(operation: Operation, arguments: &Arguments, lent: &mut Lent) -> (u32, bool) {
+    let stations = match operation.stations() {
+        1 => [arguments.station(), 0],
+        _ => [arguments.source, arguments.destination],
+    };
+    let listed = LISTED.within(arguments.limit);
+    let Answered { number, values } = listed.call(operation, arguments.input(), stations, lent);
+    (number, values.iter().all(|value| *value == [0]))
 }
 
 /// The memory after a call with a cause of refusal.
-fn memory_after(operation: Operation, refusal: u8, before: &Lent) -> Lent {
+fn memory_after(operation: Operation, refusal: u32, before: &Lent) -> Lent {
     let mut after = before.clone();
-    let zero_wide = |after: &mut Lent, table: usize| {
-        after.wide[table][..operation.wide()[table]].fill(0);
-    };
-    if refusal == 9 {
-        for table in 0..operation.wide().len() {
-            zero_wide(&mut after, table);
-        }
-        if !operation.takes_way_buffer() {
-            for (table, named) in operation.narrow().iter().enumerate() {
-                after.narrow[table][..*named].fill(0);
-            }
+    let [narrow, wide] = operation.named();
+    if refusal == 9 || refusal == 10 {
+        for (table, named) in after.wide.iter_mut().zip(wide) {
+            table[..named].fill(0);
         }
     }
-    if refusal == 10 {
-        zero_wide(&mut after, 0);
+    if refusal == 9 && !operation.takes_way_buffer() {
+        for (table, named) in after.narrow.iter_mut().zip(narrow) {
+            table[..named].fill(0);
+        }
     }
     after
 }
@@ -271,7 +172,7 @@ fn sets_of_causes() -> Vec<Vec<u8>> {
 
 /// The tables that may be short: each in turn with cause 8, none without.
 fn short_tables(operation: Operation, causes: &[u8]) -> Vec<Option<usize>> {
-    let tables = operation.narrow().len() + operation.wide().len();
+    let tables = operation.named().concat().len();
     if causes.contains(&8) && tables > 0 {
         (0..tables).map(Some).collect()
     } else {
@@ -291,14 +192,15 @@ fn every_set_of_causes_gives_its_first() {
         };
         for operation in OPERATIONS {
             let known = operation.causes().iter();
-            let expected = known.copied().find(|cause| causes.contains(cause));
+            let holds = |cause: &u32| causes.contains(&(*cause as u8));
+            let expected = known.copied().find(holds);
             for short in short_tables(operation, &causes) {
                 let before = lend(operation, short, &offered);
                 let mut after = before.clone();
                 let (number, zeros) = run(operation, &arguments, &mut after);
                 let place = format!("{operation:?} {causes:?} {short:?}");
                 assert_eq!(number, expected.unwrap_or(0), "{place}");
-                calls[usize::from(number)] += 1;
+                calls[number as usize] += 1;
                 if number > 0 {
                     assert!(zeros, "{place}");
                     let expected = memory_after(operation, number, &before);
@@ -317,14 +219,12 @@ fn accepted_calls_leave_unnamed_parts() {
         let before = lend(operation, None, &[0, 2, 5]);
         let mut after = before.clone();
         assert_eq!(run(operation, &arguments, &mut after).0, 0);
-        for (table, named) in operation.narrow().iter().enumerate() {
-            assert_eq!(
-                after.narrow[table][*named..],
-                before.narrow[table][*named..]
-            );
+        let [narrow, wide] = operation.named();
+        for (table, named) in narrow.into_iter().enumerate() {
+            assert_eq!(after.narrow[table][named..], before.narrow[table][named..]);
         }
-        for (table, named) in operation.wide().iter().enumerate() {
-            assert_eq!(after.wide[table][*named..], before.wide[table][*named..]);
+        for (table, named) in wide.into_iter().enumerate() {
+            assert_eq!(after.wide[table][named..], before.wide[table][named..]);
         }
         if operation.takes_scratch() {
             let scratch = &after.wide[after.wide.len() - 1];
@@ -344,18 +244,26 @@ fn exact_lengths_are_accepted() {
     assert!(owned.loads(u64::MAX).is_ok());
     assert!(owned.busiest(u64::MAX).is_ok());
     let (mut buffer, mut scratch) = ([9; 4], [9; 100]);
-    let input = owned.input();
-    assert!(first_way_within(u64::MAX, input, 0, 4, &mut buffer, &mut scratch).is_ok());
-    assert!(next_way_within(u64::MAX, input, 0, 4, &mut buffer, &mut scratch).is_ok());
+    assert!(first(&owned, (0, 4), &mut buffer, &mut scratch).is_ok());
+    assert!(next(&owned, (0, 4), &mut buffer, &mut scratch).is_ok());
+}
+
+/// First way by the plain lister.
+fn first(owned: &Owned, ends: Ends, buffer: &mut [u16], scratch: &mut [u64]) -> Answer<Found> {
+    LISTED.way(Way::First, owned.input(), ends, buffer, scratch)
+}
+
+/// Next way by the plain lister.
+fn next(owned: &Owned, ends: Ends, buffer: &mut [u16], scratch: &mut [u64]) -> Answer<Found> {
+    LISTED.way(Way::Next, owned.input(), ends, buffer, scratch)
 }
 
 #[test]
 fn short_way_buffer_is_8_without_a_path() {
     let owned = Owned::plan_a();
     let (mut buffer, mut scratch) = ([9; 3], [9; 100]);
-    let input = owned.input();
-    let first = first_way_within(u64::MAX, input, 2, 1, &mut buffer, &mut scratch);
-    let next = next_way_within(u64::MAX, input, 2, 1, &mut buffer, &mut scratch);
+    let first = first(&owned, (2, 1), &mut buffer, &mut scratch);
+    let next = next(&owned, (2, 1), &mut buffer, &mut scratch);
     assert_eq!((number(&first), number(&next)), (8, 8));
     assert_eq!((buffer, scratch), ([9; 3], [9; 100]));
 }
@@ -363,14 +271,13 @@ fn short_way_buffer_is_8_without_a_path() {
 #[test]
 fn none_and_last_leave_the_way_buffer() {
     let owned = Owned::plan_a();
-    let input = owned.input();
     let (mut buffer, mut scratch) = ([9; 6], [9; 103]);
-    assert!(first_way_within(u64::MAX, input, 2, 1, &mut buffer, &mut scratch).is_ok());
+    assert!(first(&owned, (2, 1), &mut buffer, &mut scratch).is_ok());
     assert_eq!(buffer, [9; 6]);
     assert!(scratch[..100].iter().all(|entry| *entry == 0));
     assert_eq!(scratch[100..], [9; 3]);
     let (mut buffer, mut scratch) = ([1, 4, 5, 9, 9, 9], [9; 103]);
-    assert!(next_way_within(u64::MAX, input, 0, 4, &mut buffer, &mut scratch).is_ok());
+    assert!(next(&owned, (0, 4), &mut buffer, &mut scratch).is_ok());
     assert_eq!(buffer, [1, 4, 5, 9, 9, 9]);
     assert!(scratch[..100].iter().all(|entry| *entry == 0));
 }

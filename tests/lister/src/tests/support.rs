@@ -2,13 +2,14 @@
 
 use crate::answer::Answer;
 use crate::cases::PLAN_A;
-use crate::loads::{busiest_within, loads_within, Busiest, Load};
-use crate::pair::{pair_within, PairValues};
+use crate::loads::{Busiest, Load};
+use crate::means::LISTED;
+use crate::pair::Paired;
 use crate::plan::{read, Plan};
-use crate::reach::{reach_within, ReachTables};
+use crate::reach::{reach_named, Tables};
 use crate::reach_cases::{exact_plans, Exact};
 
-pub use crate::plans::{all_plans, random_plan, Owned};
+pub use crate::plans::{all_plans, pairs, random_plan, Owned};
 
 impl Owned {
     pub fn plan_a() -> Owned {
@@ -21,36 +22,19 @@ impl Owned {
 
     /// Reach on tables of exactly the named lengths.
     pub fn reach(&self, limit: u64, source: usize) -> Answer<Reached> {
-        let named = self.stations * (self.slots + 1);
-        let mut reached = Reached {
-            slots: self.slots,
-            appearance_hops: vec![7; named],
-            appearance_counts: vec![7; named],
-            station_hops: vec![7; self.stations],
-            station_counts: vec![7; self.stations],
-        };
-        let tables = ReachTables {
-            appearance_hops: &mut reached.appearance_hops,
-            appearance_counts: &mut reached.appearance_counts,
-            station_hops: &mut reached.station_hops,
-            station_counts: &mut reached.station_counts,
-        };
-        reach_within(limit, self.input(), source, tables)?;
-        Ok(reached)
+        let mut tables = Tables::marked(reach_named(self.stations, self.slots), 7);
+        let listed = LISTED.within(limit);
+        listed.reach(self.input(), source, tables.lend())?;
+        let slots = self.slots;
+        Ok(Reached { slots, tables })
     }
 
     /// Pair on tables of exactly the named lengths.
     pub fn pair(&self, limit: u64, source: usize, destination: usize) -> Answer<Paired> {
         let mut through = vec![7; self.stations];
         let mut scratch = vec![7; self.scratch_length()];
-        let values = pair_within(
-            limit,
-            self.input(),
-            source,
-            destination,
-            &mut through,
-            &mut scratch,
-        )?;
+        let (listed, ends) = (LISTED.within(limit), (source, destination));
+        let values = listed.pair(self.input(), ends, &mut through, &mut scratch)?;
         assert!(scratch.iter().all(|entry| *entry == 0));
         Ok(Paired { values, through })
     }
@@ -60,19 +44,17 @@ impl Owned {
         let mut pairs = vec![7; self.stations];
         let mut loads = vec![7; self.stations];
         let mut scratch = vec![7; self.scratch_length()];
-        loads_within(limit, self.input(), &mut pairs, &mut loads, &mut scratch)?;
+        let listed = LISTED.within(limit);
+        listed.loads(self.input(), &mut pairs, &mut loads, &mut scratch)?;
         assert!(scratch.iter().all(|entry| *entry == 0));
-        let entry = |v: usize| Load {
-            pairs: pairs[v],
-            load: loads[v],
-        };
-        Ok((0..self.stations).map(entry).collect())
+        let entry = |(pairs, load)| Load { pairs, load };
+        Ok(pairs.into_iter().zip(loads).map(entry).collect())
     }
 
     /// Busiest on scratch of exactly the named length.
     pub fn busiest(&self, limit: u64) -> Answer<Busiest> {
         let mut scratch = vec![7; self.scratch_length()];
-        let answer = busiest_within(limit, self.input(), &mut scratch);
+        let answer = LISTED.within(limit).busiest(self.input(), &mut scratch);
         assert!(scratch.iter().all(|entry| *entry == 0));
         answer
     }
@@ -81,31 +63,30 @@ impl Owned {
 /// The four tables that reach fills.
 #[derive(Debug, PartialEq, Eq)]
 pub struct Reached {
-    pub slots: usize,
-    pub appearance_hops: Vec<u16>,
-    pub appearance_counts: Vec<u64>,
-    pub station_hops: Vec<u16>,
-    pub station_counts: Vec<u64>,
+    slots: usize,
+    tables: Tables,
 }
 
 impl Reached {
     /// Hops and count of a station.
     pub fn station(&self, station: usize) -> (u16, u64) {
-        (self.station_hops[station], self.station_counts[station])
+        let Tables {
+            station_hops,
+            station_counts,
+            ..
+        } = &self.tables;
+        (station_hops[station], station_counts[station])
     }
 
     /// Hops and count of an appearance.
     pub fn appearance(&self, station: usize, slot: usize) -> (u16, u64) {
         let place = station * (self.slots + 1) + slot;
-        (self.appearance_hops[place], self.appearance_counts[place])
+        let tables = &self.tables;
+        (
+            tables.appearance_hops[place],
+            tables.appearance_counts[place],
+        )
     }
-}
-
-/// The values of pair and its through counts.
-#[derive(Debug, PartialEq, Eq)]
-pub struct Paired {
-    pub values: PairValues,
-    pub through: Vec<u64>,
 }
 
 /// All plans with n up to 3 and T up to 3, and those with n 4 and T 2.

@@ -1,18 +1,18 @@
 //! Properties of all tiny plans.
 
-use super::support::{tiny_plans, Owned};
+use super::support::{pairs, tiny_plans, Owned};
 use crate::answer::number;
-use crate::shortest::{shortest_paths, walks_to_station, COUNT_LIMIT};
+use crate::means::{COUNT_LIMIT, LISTED};
+use crate::plans::all_lists;
+use crate::shortest::{shortest_paths, walks_to_station};
 use crate::walk::{walks_from, Walk};
-use crate::ways::{first_way, next_way, Found};
+use crate::ways::{Found, Way};
 
 /// Runs a property on every ordered pair of two stations of every tiny plan.
 fn for_all_pairs(property: impl Fn(&Owned, usize, usize)) {
     for owned in tiny_plans() {
-        for source in 0..owned.stations {
-            for destination in (0..owned.stations).filter(|station| *station != source) {
-                property(&owned, source, destination);
-            }
+        for (source, destination) in pairs(owned.stations) {
+            property(&owned, source, destination);
         }
     }
 }
@@ -114,13 +114,11 @@ fn exact_sum(shares: &[(u64, u64)]) -> (u128, u128) {
 /// For each station, through and count of every pair with it interior to some shortest path.
 fn shares_of(owned: &Owned) -> Vec<Vec<(u64, u64)>> {
     let mut shares = vec![Vec::new(); owned.stations];
-    for source in 0..owned.stations {
-        for destination in (0..owned.stations).filter(|station| *station != source) {
-            let paired = owned.pair(COUNT_LIMIT, source, destination).unwrap();
-            for (station, through) in paired.through.iter().enumerate() {
-                if *through > 0 {
-                    shares[station].push((*through, paired.values.count));
-                }
+    for (source, destination) in pairs(owned.stations) {
+        let paired = owned.pair(COUNT_LIMIT, source, destination).unwrap();
+        for (station, through) in paired.through.iter().enumerate() {
+            if *through > 0 {
+                shares[station].push((*through, paired.values.count));
             }
         }
     }
@@ -207,16 +205,17 @@ fn first_and_next_way_give_the_list() {
         let list = owned.list(source, destination);
         let mut buffer = vec![60000; owned.slots + 2];
         let mut scratch = vec![9; owned.scratch_length()];
-        let mut answer = first_way(input, source, destination, &mut buffer, &mut scratch);
+        let ends = (source, destination);
+        let mut answer = LISTED.way(Way::First, input, ends, &mut buffer, &mut scratch);
         for path in &list {
             assert_eq!(answer, Ok(Found::Path(path.len() as u16)), "{owned:?}");
             assert!(buffer.starts_with(path), "{owned:?}");
             assert!(buffer[path.len()..].iter().all(|entry| *entry == 60000));
-            answer = next_way(input, source, destination, &mut buffer, &mut scratch);
+            answer = LISTED.way(Way::Next, input, ends, &mut buffer, &mut scratch);
         }
         if list.is_empty() {
             assert_eq!(answer, Ok(Found::NoPath), "{owned:?}");
-            let next = next_way(input, source, destination, &mut buffer, &mut scratch);
+            let next = LISTED.way(Way::Next, input, ends, &mut buffer, &mut scratch);
             assert_eq!(number(&next), 10, "{owned:?}");
             assert!(buffer.iter().all(|entry| *entry == 60000));
         } else {
@@ -225,28 +224,16 @@ fn first_and_next_way_give_the_list() {
     });
 }
 
-/// All buffers of a length with entries up to a bound.
-fn all_buffers(length: usize, bound: u16) -> Vec<Vec<u16>> {
-    let mut buffers = vec![Vec::new()];
-    for _ in 0..length {
-        let longer = |buffer: &Vec<u16>| {
-            let buffer = buffer.clone();
-            (0..=bound).map(move |entry| [buffer.as_slice(), &[entry]].concat())
-        };
-        buffers = buffers.iter().flat_map(longer).collect();
-    }
-    buffers
-}
-
 #[test]
 fn next_way_takes_the_shortest_paths_alone() {
     let owned = Owned::plan_a();
     let list = owned.list(0, 4);
     let mut accepted = Vec::new();
-    for offered in all_buffers(3, 6) {
+    for offered in all_lists(3, 7) {
         let mut buffer = [offered.as_slice(), &[65535]].concat();
         let mut scratch = vec![9; owned.scratch_length()];
-        let answer = next_way(owned.input(), 0, 4, &mut buffer, &mut scratch);
+        let input = owned.input();
+        let answer = LISTED.way(Way::Next, input, (0, 4), &mut buffer, &mut scratch);
         assert!(scratch.iter().all(|entry| *entry == 0));
         match number(&answer) {
             0 => accepted.push(offered),

@@ -1,25 +1,16 @@
 //! Random traces against the cursor.
 
 use super::support::{random_plan, Owned};
-use super::way_cases::steps_of;
 use crate::answer::number;
 use crate::cases::PLAN_A;
-use crate::cursor::{first_difference, Cursor, Operation, Step};
+use crate::cursor::{first_difference, Cursor, Step};
+use crate::means::COUNT_LIMIT;
 use crate::random::Random;
-use crate::shortest::COUNT_LIMIT;
-use crate::way_cases::{mixed, Case};
-use crate::ways::Found;
+use crate::traces::random_trace;
+use crate::ways::{Found, Way};
 
 /// The seed of the random traces.
 const SEED: u64 = 2;
-
-/// A trace on one pair: calls, refused calls, and writes behind the pair's hops.
-fn random_trace(random: &mut Random, owned: &Owned, source: usize, destination: usize) -> Case {
-    let sizes = (owned.stations as u16, owned.slots as u16);
-    let stations = (source as u16, destination as u16);
-    let case = Case::on_bytes("", sizes, owned.bytes.clone(), stations);
-    mixed(random, case, 30)
-}
 
 #[test]
 fn answers_and_buffers_are_the_cursors() {
@@ -29,10 +20,10 @@ fn answers_and_buffers_are_the_cursors() {
         let owned = random_plan(&mut random);
         let source = random.below(owned.stations);
         let destination = (source + random.between(1, owned.stations - 1)) % owned.stations;
-        let case = random_trace(&mut random, &owned, source, destination);
+        let case = random_trace(&mut random, &owned, (source, destination));
         lengths[case.list.len().min(3)] += 1;
         let list = owned.list(source, destination);
-        let difference = first_difference(COUNT_LIMIT, list, &case.contents, &steps_of(&case));
+        let difference = first_difference(COUNT_LIMIT, list, &case.contents, &case.trace());
         assert_eq!(difference, None, "seed {SEED} round {round} {owned:?}");
     }
     assert!(lengths.iter().all(|rounds| *rounds > 100), "{lengths:?}");
@@ -44,16 +35,16 @@ fn count_limit_refuses_every_call_of_a_trace() {
     let owned = Owned::plan_a();
     let list = owned.list(0, 4);
     for _ in 0..200 {
-        let case = random_trace(&mut random, &owned, 0, 4);
-        let trace = steps_of(&case);
+        let case = random_trace(&mut random, &owned, (0, 4));
+        let trace = case.trace();
         let start = case.contents.as_slice();
         assert_eq!(first_difference(2, list.clone(), start, &trace), None);
         let mut cursor = Cursor::start(2, list.clone(), start);
         let mut written = start.to_vec();
         for step in &trace {
             match step {
-                Step::Call(operation, call) => {
-                    assert!((1..=9).contains(&number(&cursor.call(*operation, call))));
+                Step::Call(way, call) => {
+                    assert!((1..=9).contains(&number(&cursor.call(*way, call))));
                 }
                 Step::Write(entry, value) => {
                     cursor.write(*entry, *value);
@@ -71,21 +62,21 @@ fn cursor_on_plan_a() {
     let call = owned.path_call(0, 4);
     let list = owned.list(0, 4);
     let mut cursor = Cursor::start(COUNT_LIMIT, list.clone(), &[1, 3, 5, 8]);
-    assert_eq!(cursor.call(Operation::Next, &call), Ok(Found::Path(3)));
+    assert_eq!(cursor.call(Way::Next, &call), Ok(Found::Path(3)));
     assert_eq!(cursor.buffer(), [1, 4, 5, 8]);
-    assert_eq!(cursor.call(Operation::Next, &call), Ok(Found::Last));
-    assert_eq!(cursor.call(Operation::Next, &call), Ok(Found::Last));
+    assert_eq!(cursor.call(Way::Next, &call), Ok(Found::Last));
+    assert_eq!(cursor.call(Way::Next, &call), Ok(Found::Last));
     assert_eq!(cursor.buffer(), [1, 4, 5, 8]);
     cursor.write(3, 9);
-    assert_eq!(cursor.call(Operation::First, &call), Ok(Found::Path(3)));
+    assert_eq!(cursor.call(Way::First, &call), Ok(Found::Path(3)));
     assert_eq!(cursor.buffer(), [0, 2, 5, 9]);
     let mut short = call;
     short.buffer_length = 3;
-    assert_eq!(number(&cursor.call(Operation::Next, &short)), 8);
-    assert_eq!(cursor.call(Operation::Next, &call), Ok(Found::Path(3)));
+    assert_eq!(number(&cursor.call(Way::Next, &short)), 8);
+    assert_eq!(cursor.call(Way::Next, &call), Ok(Found::Path(3)));
     assert_eq!(cursor.buffer(), [1, 3, 5, 9]);
     let mut off = Cursor::start(COUNT_LIMIT, list, &[0, 3, 5, 8]);
-    assert_eq!(number(&off.call(Operation::Next, &call)), 10);
+    assert_eq!(number(&off.call(Way::Next, &call)), 10);
     assert_eq!(off.buffer(), [0, 3, 5, 8]);
 }
 
@@ -94,8 +85,8 @@ fn cursor_without_a_path() {
     let owned = Owned::plan_a();
     let call = owned.path_call(2, 1);
     let mut cursor = Cursor::start(COUNT_LIMIT, owned.list(2, 1), &[4, 4, 4, 4]);
-    assert_eq!(cursor.call(Operation::First, &call), Ok(Found::NoPath));
-    assert_eq!(number(&cursor.call(Operation::Next, &call)), 10);
+    assert_eq!(cursor.call(Way::First, &call), Ok(Found::NoPath));
+    assert_eq!(number(&cursor.call(Way::Next, &call)), 10);
     assert_eq!(cursor.buffer(), [4, 4, 4, 4]);
 }
 
@@ -104,9 +95,9 @@ fn a_wrong_list_is_told() {
     let owned = Owned::new(5, 4, &PLAN_A);
     let call = owned.path_call(0, 4);
     let trace = [
-        Step::Call(Operation::First, call),
-        Step::Call(Operation::Next, call),
-        Step::Call(Operation::Next, call),
+        Step::Call(Way::First, call),
+        Step::Call(Way::Next, call),
+        Step::Call(Way::Next, call),
     ];
     let differs = |list: Vec<Vec<u16>>| first_difference(COUNT_LIMIT, list, &[0; 4], &trace);
     let list = owned.list(0, 4);

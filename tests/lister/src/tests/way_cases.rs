@@ -6,14 +6,15 @@ use std::sync::OnceLock;
 use super::read_back::{assert_labels, take, take_number};
 use super::support::Owned;
 use crate::answer::number;
-use crate::cursor::{self, first_difference, Operation};
-use crate::reach_cases::{ladder, Counting};
-use crate::shortest::COUNT_LIMIT;
+use crate::cursor::first_difference;
+use crate::files::{stdin_bytes, stdout_text, Filed};
+use crate::means::{Counting, COUNT_LIMIT, LISTED};
+use crate::reach_cases::ladder;
 use crate::way_cases::{
-    all_cases, ladder_path, stdin_bytes, stdout_text, Arguments, Case, Outcome, Step,
-    LONGEST_BUFFER, LONGEST_LABEL, LONGEST_PLAN, LONGEST_SCRATCH,
+    all_cases, ladder_path, Arguments, Case, Outcome, Step, LONGEST_BUFFER, LONGEST_LABEL,
+    LONGEST_PLAN, LONGEST_SCRATCH,
 };
-use crate::ways::{first_way, next_way, paths_of_call, Found};
+use crate::ways::{paths_of_call, Found, Way};
 
 /// All cases with what their calls answer and leave, made once.
 fn cases() -> &'static [(Case, Vec<Outcome>)] {
@@ -25,17 +26,6 @@ fn cases() -> &'static [(Case, Vec<Outcome>)] {
         };
         all_cases().into_iter().map(with_outcomes).collect()
     })
-}
-
-/// The steps of a case as those of a trace.
-pub fn steps_of(case: &Case) -> Vec<cursor::Step<'_>> {
-    let step = |step: &Step| match step {
-        Step::Call(operation, arguments) => {
-            cursor::Step::Call(*operation, arguments.call(&case.bytes))
-        }
-        Step::Write(entry, value) => cursor::Step::Write((*entry).into(), *value),
-    };
-    case.steps.iter().map(step).collect()
 }
 
 /// How often each reply occurs; the hops of a path are left out.
@@ -82,7 +72,7 @@ fn generated_traces_meet_every_reply() {
     let starts = |case: &Case| case.list.iter().any(|path| case.contents.starts_with(path));
     let on_a_path = generated.clone().filter(|(case, _)| starts(case)).count();
     assert!(on_a_path > 100, "{on_a_path}");
-    let next_at_once = |case: &Case| matches!(case.steps[0], Step::Call(Operation::Next, _));
+    let next_at_once = |case: &Case| matches!(case.steps[0], Step::Call(Way::Next, _));
     let at_once = generated.filter(|(case, _)| starts(case) && next_at_once(case));
     assert!(at_once.count() > 30);
 }
@@ -156,7 +146,7 @@ fn texts_by_hand() {
 /// The text of the case with a label.
 fn text_of(label: &str) -> String {
     let case = cases().iter().find(|(case, _)| case.label == label);
-    case.map(|(case, _)| case.text()).unwrap_or_default()
+    case.map(|(case, _)| case.stdout()).unwrap_or_default()
 }
 
 #[test]
@@ -169,16 +159,11 @@ fn the_plain_operations_answer_as_the_cursor() {
         for step in &case.steps {
             match step {
                 Step::Write(entry, value) => buffer[usize::from(*entry)] = *value,
-                Step::Call(operation, arguments) => {
-                    let run = match operation {
-                        Operation::First => first_way,
-                        Operation::Next => next_way,
-                    };
+                Step::Call(way, arguments) => {
                     let call = arguments.call(&case.bytes);
                     let mut scratch = vec![case.mark.into(); call.scratch_length];
                     let lent = &mut buffer[..call.buffer_length];
-                    let (source, destination) = (call.source, call.destination);
-                    let answer = run(call.input, source, destination, lent, &mut scratch);
+                    let answer = LISTED.way(*way, call.input, call.ends(), lent, &mut scratch);
                     let outcome = Outcome {
                         answer,
                         buffer: buffer.clone(),
@@ -190,7 +175,7 @@ fn the_plain_operations_answer_as_the_cursor() {
         }
         assert_eq!(outcomes.next(), None);
         let list = case.list.clone();
-        let difference = first_difference(COUNT_LIMIT, list, &case.contents, &steps_of(case));
+        let difference = first_difference(COUNT_LIMIT, list, &case.contents, &case.trace());
         assert_eq!(difference, None, "{}", case.label);
     }
 }
@@ -274,7 +259,7 @@ fn parts_of_lists_are_not_left() {
         let is_first = *first == whole(ladder_path(layers, end, 0));
         let last = (1 << (layers - 1).min(63)) - 1;
         let is_last = case.list.last() == Some(&whole(ladder_path(layers, end, last)));
-        let calls_first = |step: &Step| matches!(step, Step::Call(Operation::First, _));
+        let calls_first = |step: &Step| matches!(step, Step::Call(Way::First, _));
         assert!(
             is_first || !case.steps.iter().any(calls_first),
             "{}",
@@ -294,9 +279,9 @@ fn take_word(bytes: &mut &[u8]) -> u16 {
 fn take_step(bytes: &mut &[u8]) -> Step {
     let numbers = [(); 8].map(|_| take_word(bytes));
     let scratch_length = take_number(bytes, 4);
-    let operation = match numbers[0] {
-        0 => Operation::First,
-        1 => Operation::Next,
+    let way = match numbers[0] {
+        0 => Way::First,
+        1 => Way::Next,
         _ => return Step::Write(numbers[1], numbers[2]),
     };
     let arguments = Arguments {
@@ -309,7 +294,7 @@ fn take_step(bytes: &mut &[u8]) -> Step {
         buffer_length: numbers[7],
         scratch_length,
     };
-    Step::Call(operation, arguments)
+    Step::Call(way, arguments)
 }
 
 #[test]

@@ -1,8 +1,8 @@
 //! Ladders: few layers listed entire, parts of the list of 64 layers, and 65 layers, which give 9.
 
 use super::{marks, Arguments, Case, Step};
-use crate::cursor::Operation;
 use crate::reach_cases;
+use crate::ways::Way;
 
 pub fn cases() -> Vec<Case> {
     let mut cases = whole_ladders();
@@ -116,7 +116,7 @@ fn too_many() -> Vec<Case> {
     let on_a_path = bare
         .beginning(&ladder_path(65, 0, 3), 65)
         .next(2)
-        .then(Step::Call(Operation::Next, short))
+        .then(Step::Call(Way::Next, short))
         .first();
     vec![
         on_marks.stating(&["refused 9"; 3]),

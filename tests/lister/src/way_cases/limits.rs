@@ -2,8 +2,8 @@
 
 use super::{marks, Arguments, Case, Step};
 use crate::cases::{plan_bytes, Record};
-use crate::cursor::Operation;
 use crate::reach_cases::{star, CORNERS};
+use crate::ways::Way;
 
 const SIZES: (u16, u16) = (256, 255);
 
@@ -24,9 +24,9 @@ fn corners() -> Case {
         ..case.pair
     };
     case.first()
-        .then(Step::Call(Operation::Next, scratch_short))
+        .then(Step::Call(Way::Next, scratch_short))
         .next(1)
-        .then(Step::Call(Operation::Next, buffer_short))
+        .then(Step::Call(Way::Next, buffer_short))
         .next(2)
         .stating(&[
             "path 2",
@@ -56,7 +56,7 @@ fn all_slots() -> Case {
         .next(1)
         .first()
         .then(Step::Write(255, 65535))
-        .then(Step::Call(Operation::Next, exact))
+        .then(Step::Call(Way::Next, exact))
         .next(1)
         .stating(&["refused 10", "path 255", "last", "last"])
 }
@@ -79,8 +79,8 @@ fn most_records() -> Case {
     case.beginning(&[4096], 255)
         .next(1)
         .first()
-        .then(Step::Call(Operation::First, too_long))
-        .then(Step::Call(Operation::Next, too_long))
+        .then(Step::Call(Way::First, too_long))
+        .then(Step::Call(Way::Next, too_long))
         .next(1)
         .stating(&["refused 10", "path 1", "refused 2", "refused 2", "last"])
 }

@@ -4,8 +4,8 @@ use super::examples::plan_a;
 use super::ladders::ladder;
 use super::{marks, Arguments, Case, Step};
 use crate::cases::{plan_bytes, Record, PLAN_A};
-use crate::cursor::Operation;
-use crate::reach_cases::Counting;
+use crate::means::Counting;
+use crate::ways::Way;
 
 pub fn cases() -> Vec<Case> {
     let mut cases: Vec<Case> = (1..=9).flat_map(interrupted).collect();
@@ -130,8 +130,8 @@ fn interrupted(number: u8) -> Vec<Case> {
         .first();
         for (_, call) in calls {
             case = case
-                .then(Step::Call(Operation::First, *call))
-                .then(Step::Call(Operation::Next, *call))
+                .then(Step::Call(Way::First, *call))
+                .then(Step::Call(Way::Next, *call))
                 .next(1);
         }
         let refused = format!("refused {number}");
@@ -151,7 +151,7 @@ fn before_not_offered() -> Case {
     let mut stated = Vec::new();
     for number in 1..=9 {
         for (_, call) in refused_calls(&mut case, number) {
-            case = case.then(Step::Call(Operation::Next, call));
+            case = case.then(Step::Call(Way::Next, call));
             stated.push(format!("refused {number}"));
         }
     }
@@ -222,7 +222,7 @@ fn two_causes() -> Case {
     ];
     let mut stated = vec!["path 3".to_string()];
     for (number, call) in calls {
-        case = case.then(Step::Call(Operation::Next, call));
+        case = case.then(Step::Call(Way::Next, call));
         stated.push(format!("refused {number}"));
     }
     stated.push("path 3".to_string());

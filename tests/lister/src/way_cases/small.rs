@@ -2,9 +2,10 @@
 
 use super::{marks, Arguments, Case, Step};
 use crate::cases::{plan_bytes, Record};
-use crate::cursor::Operation;
 use crate::random::Random;
 use crate::reach_cases::{self, small_cases};
+use crate::traces::contents;
+use crate::ways::Way;
 
 /// The seed of the mixed traces; each label names it.
 pub const SEED: u64 = 3;
@@ -50,19 +51,6 @@ pub fn listing(case: Case, index: usize) -> Case {
     case.first().next(times)
 }
 
-/// Contents of a buffer: a path of the list, a path with one entry changed, or any numbers.
-fn contents(random: &mut Random, list: &[Vec<u16>], length: usize) -> Vec<u16> {
-    let mut buffer: Vec<u16> = (0..length).map(|_| random.below(9) as u16).collect();
-    if !list.is_empty() && random.below(3) > 0 {
-        let path = &list[random.below(list.len())];
-        buffer[..path.len()].copy_from_slice(path);
-        if random.below(2) == 0 {
-            buffer[random.below(path.len())] = random.below(65536) as u16;
-        }
-    }
-    buffer
-}
-
 /// Records with cause 3 (the first), 4 (the second) and 5 (the last two) at every n above 1.
 const DAMAGED: [Record; 4] = [(0, 0, 1), (1, 1, 1), (1, 0, 1), (1, 0, 1)];
 
@@ -94,14 +82,14 @@ fn refused_call(random: &mut Random, pair: Arguments) -> Arguments {
 fn mixed_step(random: &mut Random, case: &Case) -> Step {
     let length = case.contents.len();
     let hops = case.list.first().map_or(0, Vec::len);
-    let operation = if random.below(4) == 0 {
-        Operation::First
+    let way = if random.below(4) == 0 {
+        Way::First
     } else {
-        Operation::Next
+        Way::Next
     };
     let mut call = case.pair;
     match random.below(5) {
-        0 => Step::Call(operation, refused_call(random, call)),
+        0 => Step::Call(way, refused_call(random, call)),
         1 if hops < length => {
             let most = [9, 65536][random.below(2)];
             Step::Write(
@@ -112,7 +100,7 @@ fn mixed_step(random: &mut Random, case: &Case) -> Step {
         _ => {
             call.buffer_length = random.between(call.slots.into(), length) as u16;
             call.scratch_length += random.below(3);
-            Step::Call(operation, call)
+            Step::Call(way, call)
         }
     }
 }

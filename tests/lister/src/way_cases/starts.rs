@@ -5,7 +5,7 @@ use std::ops::Range;
 use super::examples::plan_a;
 use super::{marks, Arguments, Case, Step};
 use crate::cases::{plan_bytes, PLAN_A};
-use crate::cursor::Operation;
+use crate::ways::Way;
 
 pub fn cases() -> Vec<Case> {
     let mut cases = on_a_path();
@@ -181,18 +181,18 @@ fn behind_the_hops() -> Vec<Case> {
 
 /// Each call is lent another beginning of the buffer: T entries, more, and too few.
 fn lent_beginnings() -> Vec<Case> {
-    let on = |label: &str, stations: (u16, u16), calls: &[(Operation, u16)]| {
+    let on = |label: &str, stations: (u16, u16), calls: &[(Way, u16)]| {
         let case = plan_a(label, stations).holding(marks(9));
-        let lend = |case: Case, (operation, buffer_length): &(Operation, u16)| {
+        let lend = |case: Case, (way, buffer_length): &(Way, u16)| {
             let arguments = Arguments {
                 buffer_length: *buffer_length,
                 ..case.pair
             };
-            case.then(Step::Call(*operation, arguments))
+            case.then(Step::Call(*way, arguments))
         };
         calls.iter().fold(case, lend)
     };
-    let (first, next) = (Operation::First, Operation::Next);
+    let (first, next) = (Way::First, Way::Next);
     vec![
         on(
             "plan A, 0 to 4, lent beginnings",

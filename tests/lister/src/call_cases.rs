@@ -1,0 +1,88 @@
+//! Cases of one call on lent tables, for programs that run several operations.
+
+use crate::files::case_bytes;
+use crate::means::Counting;
+use crate::plan::PlanInput;
+
+/// What a case runs.
+pub trait Called: Copy {
+    /// Its kind in the program.
+    fn kind(self) -> u16;
+
+    /// The stations in the head of a case, 0 for one that the operation does not name.
+    fn stations(self) -> Vec<u16>;
+
+    /// The places, among the lengths, of the operation's tables.
+    fn tables(self) -> Vec<usize>;
+}
+
+/// One call on lent tables.
+#[derive(Clone, Debug, PartialEq, Eq)]
+pub struct CallCase<O, const TABLES: usize> {
+    pub label: String,
+    pub operation: O,
+    /// n
+    pub stations: u16,
+    /// T
+    pub slots: u16,
+    pub bytes: Vec<u8>,
+    /// What the tables hold before the call.
+    pub mark: u16,
+    /// The lent entries of each table.
+    pub lengths: [usize; TABLES],
+    pub counting: Counting,
+    /// The number stated by hand; none for a generated case.
+    pub stated: Option<u8>,
+}
+
+impl<O: Called, const TABLES: usize> CallCase<O, TABLES> {
+    /// The case with other lengths.
+    pub fn lent(self, lengths: [usize; TABLES]) -> Self {
+        CallCase { lengths, ..self }
+    }
+
+    /// The case with the length of one table as given.
+    pub fn with_length(mut self, table: usize, length: usize) -> Self {
+        self.lengths[table] = length;
+        self
+    }
+
+    /// The case with entries behind those of the tables that the operation has.
+    pub fn longer(mut self, more: [usize; TABLES]) -> Self {
+        for table in self.operation.tables() {
+            self.lengths[table] += more[table];
+        }
+        self
+    }
+
+    /// The case with another mark.
+    pub fn marked(self, mark: u16) -> Self {
+        CallCase { mark, ..self }
+    }
+
+    /// The case with its number stated by hand.
+    pub fn stating(self, number: u8) -> Self {
+        CallCase {
+            stated: Some(number),
+            ..self
+        }
+    }
+
+    pub fn input(&self) -> PlanInput<'_> {
+        PlanInput {
+            bytes: &self.bytes,
+            stations: self.stations.into(),
+            slots: self.slots.into(),
+        }
+    }
+
+    /// The bytes on standard input: the kind, n, T, the stations, the length of the plan, the length of
+    /// the label and the mark; the lengths; the label; the plan.
+    pub fn stdin_bytes(&self) -> Vec<u8> {
+        let mut words = vec![self.operation.kind(), self.stations, self.slots];
+        words.extend(self.operation.stations());
+        words.extend([self.bytes.len(), self.label.len()].map(|length| length as u16));
+        words.push(self.mark);
+        case_bytes(&words, &self.lengths, &self.label, &self.bytes)
+    }
+}

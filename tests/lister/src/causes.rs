@@ -1,0 +1,35 @@
+//! The causes of the call from 6 to 9; those of the plan are in `plan`, 10 in `ways`.
+
+use crate::answer::{Answer, CallFault};
+use crate::plan::Ends;
+
+/// The cause, if it holds.
+fn unless(holds: bool, cause: CallFault) -> Answer<()> {
+    match holds {
+        true => Err(cause.into()),
+        false => Ok(()),
+    }
+}
+
+/// Cause 6: a named station is below n.
+pub fn known_station(stations: usize, station: usize) -> Answer<()> {
+    unless(station >= stations, CallFault::Station)
+}
+
+/// Causes 6 and 7: both stations are below n, and they differ.
+pub fn known_pair(stations: usize, (source, destination): Ends) -> Answer<()> {
+    known_station(stations, source)?;
+    known_station(stations, destination)?;
+    unless(source == destination, CallFault::SameStation)
+}
+
+/// Cause 8: a lent table has at least its named entries.
+pub fn long_enough(length: usize, named: usize) -> Answer<()> {
+    unless(length < named, CallFault::TooShort)
+}
+
+/// Cause 9: none of the counts of a source is over the limit.
+pub fn few_enough(limit: u64, mut counts: impl Iterator<Item = u128>) -> Answer<()> {
+    let over = |count: u128| count > u128::from(limit);
+    unless(counts.any(over), CallFault::TooMany)
+}

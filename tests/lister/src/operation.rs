@@ -1,0 +1,209 @@
+//! The operations as calls on lists of tables: what each lends, names and answers.
+
+use crate::answer::{beside, number, Answer};
+use crate::lent::{appearances, scratch_length};
+use crate::means::Means;
+use crate::pair::PairValues;
+use crate::plan::{check, PlanInput};
+use crate::reach::ReachTables;
+use crate::row::{row, row_number};
+use crate::ways::{hops_beside, Found, Way};
+
+/// The operations, row's sister among them.
+#[derive(Clone, Copy, Debug, PartialEq, Eq, PartialOrd, Ord)]
+pub enum Operation {
+    Check,
+    Reach,
+    Row,
+    RowNumber,
+    Pair,
+    Loads,
+    Busiest,
+    FirstWay,
+    NextWay,
+}
+
+use Operation::*;
+
+/// All operations.
+pub const OPERATIONS: [Operation; 9] = [
+    Check, Reach, Row, RowNumber, Pair, Loads, Busiest, FirstWay, NextWay,
+];
+
+/// The C interface's number of first way's answer "none".
+pub const NONE: u32 = 100;
+/// The C interface's number of next way's answer "last".
+pub const LAST: u32 = 101;
+
+impl Operation {
+    /// The causes of refusal that the operation knows, in order.
+    pub fn causes(self) -> &'static [u32] {
+        match self {
+            Check => &[1, 2, 3, 4, 5],
+            Reach => &[1, 2, 3, 4, 5, 6, 8, 9],
+            Row | RowNumber => &[1, 6, 8],
+            Pair | FirstWay => &[1, 2, 3, 4, 5, 6, 7, 8, 9],
+            Loads | Busiest => &[1, 2, 3, 4, 5, 8, 9],
+            NextWay => &[1, 2, 3, 4, 5, 6, 7, 8, 9, 10],
+        }
+    }
+
+    /// The numbers that the operation can answer.
+    pub fn numbers(self) -> Vec<u32> {
+        let further = match self {
+            FirstWay => Some(NONE),
+            NextWay => Some(LAST),
+            _ => None,
+        };
+        let refused = self.causes().iter().copied();
+        [0].into_iter().chain(refused).chain(further).collect()
+    }
+
+    /// How many stations a call names.
+    pub fn stations(self) -> usize {
+        match self {
+            Check | Loads | Busiest => 0,
+            Reach | Row | RowNumber => 1,
+            Pair | FirstWay | NextWay => 2,
+        }
+    }
+
+    /// The named lengths of its 16-bit tables.
+    pub fn narrow(self, stations: usize, slots: usize) -> Vec<usize> {
+        match self {
+            Reach => vec![appearances(stations, slots), stations],
+            FirstWay | NextWay => vec![slots],
+            _ => Vec::new(),
+        }
+    }
+
+    /// The named lengths of its 64-bit tables; the scratch is the last.
+    pub fn wide(self, stations: usize, slots: usize) -> Vec<usize> {
+        let table = appearances(stations, slots);
+        let scratch = scratch_length(stations, slots);
+        match self {
+            Check => Vec::new(),
+            Reach => vec![table, stations],
+            Row | RowNumber => vec![table],
+            Pair => vec![stations, scratch],
+            Loads => vec![stations, stations, scratch],
+            Busiest | FirstWay | NextWay => vec![scratch],
+        }
+    }
+
+    /// The names of the values beside the number.
+    pub fn values(self) -> &'static [&'static str] {
+        match self {
+            Check | Reach | RowNumber | Loads => &[],
+            Row => &["offset", "length"],
+            Pair => &["hops", "count"],
+            Busiest => &["station"],
+            FirstWay | NextWay => &["hops"],
+        }
+    }
+}
+
+/// The tables that a call lends, by the width of their entries.
+#[derive(Clone, Debug, PartialEq, Eq)]
+pub struct Lent {
+    pub narrow: Vec<Vec<u16>>,
+    pub wide: Vec<Vec<u64>>,
+}
+
+/// The number of a call, and for each value beside it those that may stand there: one, but for
+/// busiest's station.
+#[derive(Clone, Debug, PartialEq, Eq)]
+pub struct Answered {
+    pub number: u32,
+    pub values: Vec<Vec<u64>>,
+}
+
+impl Answered {
+    /// The number of an answer with one value in each place.
+    fn new<V>(answer: &Answer<V>, values: &[u64]) -> Answered {
+        Answered {
+            number: number(answer).into(),
+            values: values.iter().map(|value| vec![*value]).collect(),
+        }
+    }
+}
+
+/// The number of an answer of first way or next way.
+pub fn way_number(answer: &Answer<Found>) -> u32 {
+    match answer {
+        Ok(Found::NoPath) => NONE,
+        Ok(Found::Last) => LAST,
+        _ => number(answer).into(),
+    }
+}
+
+/// The hops beside the number; 0 beside "none" and "last".
+pub fn way_hops(answer: &Answer<Found>) -> u64 {
+    hops_beside(answer).unwrap_or(0).into()
+}
+
+impl Means {
+    /// Makes a call on lent tables.
+    pub fn call(
+        self,
+        operation: Operation,
+        input: PlanInput,
+        stations: [usize; 2],
+        lent: &mut Lent,
+    ) -> Answered {
+        let [station, destination] = stations;
+        let ends = (station, destination);
+        match (operation, &mut lent.narrow[..], &mut lent.wide[..]) {
+            (Check, [], []) => Answered::new(&check(input), &[]),
+            (Reach, [appearance_hops, station_hops], [appearance_counts, station_counts]) => {
+                let tables = ReachTables {
+                    appearance_hops,
+                    appearance_counts,
+                    station_hops,
+                    station_counts,
+                };
+                Answered::new(&self.reach(input, station, tables), &[])
+            }
+            (Row | RowNumber, [], [table]) => {
+                let number = row_number(input.stations, input.slots, station, table);
+                let start = table.as_ptr();
+                let part = row(input.stations, input.slots, station, table);
+                let offset = (part.as_ptr() as usize - start as usize) / size_of::<u64>();
+                let values = [offset, part.len()].map(|value| vec![value as u64]);
+                Answered {
+                    number: number.into(),
+                    values: values[..operation.values().len()].to_vec(),
+                }
+            }
+            (Pair, [], [through, scratch]) => {
+                let answer = self.pair(input, ends, through, scratch);
+                let PairValues { hops, count } = beside(&answer);
+                Answered::new(&answer, &[hops.into(), count])
+            }
+            (Loads, [], [pairs, loads, scratch]) => {
+                Answered::new(&self.loads(input, pairs, loads, scratch), &[])
+            }
+            (Busiest, [], [scratch]) => {
+                let answer = self.busiest(input, scratch);
+                let stations = beside(&answer).stations.into_iter();
+                let any = stations.map(|station| station as u64).collect();
+                Answered {
+                    number: number(&answer).into(),
+                    values: vec![any],
+                }
+            }
+            (FirstWay | NextWay, [buffer], [scratch]) => {
+                let way = match operation {
+                    FirstWay => Way::First,
+                    _ => Way::Next,
+                };
+                let answer = self.way(way, input, ends, buffer, scratch);
+                Answered {
+                    number: way_number(&answer),
+                    values: vec![vec![way_hops(&answer)]],
+                }
+            }
+            (operation, _, _) => panic!("{operation:?} lends other tables"),
+        }
+    }
+}
