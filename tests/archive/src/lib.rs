@@ -1,9 +1,36 @@
-//! The functions of libjoftaki_c.a, as include/joftaki.h declares them.
+//! The functions of libjoftaki_c.a, as include/joftaki.h declares them, and each with slices in the
+//! place of pointers and lengths.
+
+use lister::plan::{Ends, PlanInput};
+use lister::reach::ReachTables;
+use lister::ways::Way;
+
+/// A slot of size_t has 64 bits.
+const _: () = assert!(usize::BITS == u64::BITS);
+
+/// First way and next way have the same arguments.
+macro_rules! way_function {
+    ($name:ident) => {
+        fn $name(
+            plan: *const u8,
+            plan_length: usize,
+            n: usize,
+            t: usize,
+            s: usize,
+            z: usize,
+            hops: *mut usize,
+            way: *mut u16,
+            way_length: usize,
+            work: *mut u64,
+            work_length: usize,
+        ) -> u32;
+    };
+}
 
 #[link(name = "joftaki_c", kind = "static")]
 extern "C" {
-    pub fn joftaki_check(plan: *const u8, plan_length: usize, n: usize, t: usize) -> u32;
-    pub fn joftaki_reach(
+    fn joftaki_check(plan: *const u8, plan_length: usize, n: usize, t: usize) -> u32;
+    fn joftaki_reach(
         plan: *const u8,
         plan_length: usize,
         n: usize,
@@ -18,7 +45,7 @@ extern "C" {
         station_counts: *mut u64,
         station_counts_length: usize,
     ) -> u32;
-    pub fn joftaki_row(
+    fn joftaki_row(
         table: *const u64,
         table_length: usize,
         n: usize,
@@ -27,14 +54,14 @@ extern "C" {
         offset: *mut usize,
         length: *mut usize,
     ) -> u32;
-    pub fn joftaki_row_number(
+    fn joftaki_row_number(
         table: *const u64,
         table_length: usize,
         n: usize,
         t: usize,
         v: usize,
     ) -> u32;
-    pub fn joftaki_pair(
+    fn joftaki_pair(
         plan: *const u8,
         plan_length: usize,
         n: usize,
@@ -48,7 +75,7 @@ extern "C" {
         work: *mut u64,
         work_length: usize,
     ) -> u32;
-    pub fn joftaki_loads(
+    fn joftaki_loads(
         plan: *const u8,
         plan_length: usize,
         n: usize,
@@ -60,7 +87,7 @@ extern "C" {
         work: *mut u64,
         work_length: usize,
     ) -> u32;
-    pub fn joftaki_busiest(
+    fn joftaki_busiest(
         plan: *const u8,
         plan_length: usize,
         n: usize,
@@ -69,30 +96,150 @@ extern "C" {
         work: *mut u64,
         work_length: usize,
     ) -> u32;
-    pub fn joftaki_first_way(
-        plan: *const u8,
-        plan_length: usize,
-        n: usize,
-        t: usize,
-        s: usize,
-        z: usize,
-        hops: *mut usize,
-        way: *mut u16,
-        way_length: usize,
-        work: *mut u64,
-        work_length: usize,
-    ) -> u32;
-    pub fn joftaki_next_way(
-        plan: *const u8,
-        plan_length: usize,
-        n: usize,
-        t: usize,
-        s: usize,
-        z: usize,
-        hops: *mut usize,
-        way: *mut u16,
-        way_length: usize,
-        work: *mut u64,
-        work_length: usize,
-    ) -> u32;
+    way_function!(joftaki_first_way);
+    way_function!(joftaki_next_way);
+}
+
+/// A slot of size_t.
+fn size(slot: &mut u64) -> *mut usize {
+    (slot as *mut u64).cast()
+}
+
+// SAFETY of each call below: each pointer comes with the length of its own slice, or is of a slot that
+// the caller lends.
+
+/// Operation 1.
+pub fn check(input: PlanInput) -> u32 {
+    let PlanInput {
+        bytes,
+        stations: n,
+        slots: t,
+    } = input;
+    unsafe { joftaki_check(bytes.as_ptr(), bytes.len(), n, t) }
+}
+
+/// Operation 2.
+pub fn reach(input: PlanInput, source: usize, tables: ReachTables) -> u32 {
+    unsafe {
+        joftaki_reach(
+            input.bytes.as_ptr(),
+            input.bytes.len(),
+            input.stations,
+            input.slots,
+            source,
+            tables.appearance_hops.as_mut_ptr(),
+            tables.appearance_hops.len(),
+            tables.appearance_counts.as_mut_ptr(),
+            tables.appearance_counts.len(),
+            tables.station_hops.as_mut_ptr(),
+            tables.station_hops.len(),
+            tables.station_counts.as_mut_ptr(),
+            tables.station_counts.len(),
+        )
+    }
+}
+
+/// Operation 3, on the n and T of an input.
+pub fn row(
+    input: PlanInput,
+    station: usize,
+    offset: &mut u64,
+    length: &mut u64,
+    table: &[u64],
+) -> u32 {
+    let (n, t) = (input.stations, input.slots);
+    let (offset, length) = (size(offset), size(length));
+    unsafe { joftaki_row(table.as_ptr(), table.len(), n, t, station, offset, length) }
+}
+
+/// The sister of operation 3, on the n and T of an input.
+pub fn row_number(input: PlanInput, station: usize, table: &[u64]) -> u32 {
+    let (n, t) = (input.stations, input.slots);
+    unsafe { joftaki_row_number(table.as_ptr(), table.len(), n, t, station) }
+}
+
+/// Operation 4.
+pub fn pair(
+    input: PlanInput,
+    (source, destination): Ends,
+    hops: &mut u64,
+    count: &mut u64,
+    through: &mut [u64],
+    work: &mut [u64],
+) -> u32 {
+    unsafe {
+        joftaki_pair(
+            input.bytes.as_ptr(),
+            input.bytes.len(),
+            input.stations,
+            input.slots,
+            source,
+            destination,
+            hops,
+            count,
+            through.as_mut_ptr(),
+            through.len(),
+            work.as_mut_ptr(),
+            work.len(),
+        )
+    }
+}
+
+/// Operation 5.
+pub fn loads(input: PlanInput, pairs: &mut [u64], loads: &mut [u64], work: &mut [u64]) -> u32 {
+    unsafe {
+        joftaki_loads(
+            input.bytes.as_ptr(),
+            input.bytes.len(),
+            input.stations,
+            input.slots,
+            pairs.as_mut_ptr(),
+            pairs.len(),
+            loads.as_mut_ptr(),
+            loads.len(),
+            work.as_mut_ptr(),
+            work.len(),
+        )
+    }
+}
+
+/// Operation 6.
+pub fn busiest(input: PlanInput, station: &mut u64, work: &mut [u64]) -> u32 {
+    let PlanInput {
+        bytes,
+        stations: n,
+        slots: t,
+    } = input;
+    let (station, area, length) = (size(station), work.as_mut_ptr(), work.len());
+    unsafe { joftaki_busiest(bytes.as_ptr(), bytes.len(), n, t, station, area, length) }
+}
+
+/// Operations 7 and 8.
+pub fn way(
+    way: Way,
+    input: PlanInput,
+    (source, destination): Ends,
+    hops: &mut u64,
+    buffer: &mut [u16],
+    work: &mut [u64],
+) -> u32 {
+    let function = match way {
+        Way::First => joftaki_first_way,
+        Way::Next => joftaki_next_way,
+    };
+    unsafe {
+        function(
+            input.bytes.as_ptr(),
+            input.bytes.len(),
+            input.stations,
+            input.slots,
+            source,
+            destination,
+            size(hops),
+            buffer.as_mut_ptr(),
+            buffer.len(),
+            work.as_mut_ptr(),
+            work.len(),
+        )
+    }
 }

@@ -3,9 +3,11 @@
 use std::collections::BTreeMap;
 use std::fmt::{Debug, Write};
 
-use crate::call::{Call, Lent, Operation, LAST, NONE, OPERATIONS};
+use lister::means::Means;
+use lister::operation::{Answered, Operation, LAST, NONE, OPERATIONS};
+
+use crate::call::{function, Call};
 use crate::native::{self, Seen};
-use crate::reference::{Expected, Reference};
 
 /// The text of a difference.
 pub type Difference = String;
@@ -18,15 +20,17 @@ pub struct Comparison {
 
 impl Comparison {
     /// Makes a call and compares all of it with the reference; gives what the library left.
-    pub fn compare(&mut self, call: &Call, reference: &Reference) -> Result<Seen, Difference> {
+    pub fn compare(&mut self, call: &Call, means: Means) -> Result<Seen, Difference> {
         let seen = native::run(call);
-        let expected = reference.run(call);
-        let told = differences(call, &expected, &seen);
+        let (expected, lent) = call.expected(means);
+        let mut told = differences(call, &expected, &seen);
+        told += &tables_text("16-bit", &lent.narrow, &seen.lent.narrow);
+        told += &tables_text("64-bit", &lent.wide, &seen.lent.wide);
         if !told.is_empty() {
-            let values: Vec<Vec<u64>> = seen.lent.values.iter().map(|value| vec![*value]).collect();
+            let values: Vec<Vec<u64>> = seen.values.iter().map(|value| vec![*value]).collect();
             let given = answer_text(call.operation, seen.number, &values);
             let asked = answer_text(call.operation, expected.number, &expected.values);
-            let name = reference.name;
+            let name = means.name();
             return Err(format!("{call}{name}: {asked}\nlibrary: {given}\n{told}"));
         }
         let answer = (call.operation, seen.number);
@@ -43,9 +47,9 @@ impl Comparison {
     pub fn never_answered(&self) -> Vec<(&'static str, u32)> {
         let mut never = Vec::new();
         for operation in OPERATIONS {
-            let numbers = operation.numbers().iter().copied();
+            let numbers = operation.numbers().into_iter();
             let unseen = numbers.filter(|number| self.answered(operation, *number) == 0);
-            never.extend(unseen.map(|number| (operation.function(), number)));
+            never.extend(unseen.map(|number| (function(operation), number)));
         }
         never
     }
@@ -55,13 +59,13 @@ impl Comparison {
         let mut text = String::new();
         let mut total = 0;
         for operation in OPERATIONS {
-            let numbers = operation.numbers().iter();
+            let numbers = operation.numbers();
             let answered = |number: &u32| self.answered(operation, *number);
-            let calls: u64 = numbers.clone().map(answered).sum();
+            let calls: u64 = numbers.iter().map(answered).sum();
             total += calls;
-            let _ = write!(text, "{:18} {calls:>8}:", operation.function());
+            let _ = write!(text, "{:18} {calls:>8}:", function(operation));
             for number in numbers {
-                let _ = write!(text, " {} {}", number_name(*number), answered(number));
+                let _ = write!(text, " {} {}", number_name(number), answered(&number));
             }
             text.push('\n');
         }
@@ -87,32 +91,25 @@ fn answer_text(operation: Operation, number: u32, values: &[Vec<u64>]) -> String
     format!("number {number}{}", texts.collect::<String>())
 }
 
-/// A line for each part that differs, with its first differing entry; empty where nothing does.
-fn differences(call: &Call, expected: &Expected, seen: &Seen) -> String {
+/// A line for each part of the answer that differs, and for what is written outside of what is lent.
+fn differences(call: &Call, expected: &Answered, seen: &Seen) -> String {
     let mut text = String::new();
     if expected.number != seen.number {
         let _ = writeln!(text, "numbers differ");
     }
-    let Lent {
-        narrow,
-        wide,
-        values,
-    } = &seen.lent;
     for (place, name) in call.operation.values().iter().enumerate() {
-        let (any, value) = (&expected.values[place], values[place]);
+        let (any, value) = (&expected.values[place], seen.values[place]);
         if !any.contains(&value) {
             let _ = writeln!(text, "{name}: one of {any:?}, and the library {value}");
         }
     }
-    text += &tables_text("16-bit", &expected.narrow, narrow);
-    text += &tables_text("64-bit", &expected.wide, wide);
     if !seen.outside_kept {
         text += "the library wrote outside of what is lent, or to the plan\n";
     }
     text
 }
 
-/// A line for each table that differs.
+/// A line for each table that differs, with its first differing entry.
 fn tables_text<N: Debug + PartialEq>(width: &str, expected: &[Vec<N>], seen: &[Vec<N>]) -> String {
     let mut text = String::new();
     for (table, (one, other)) in expected.iter().zip(seen).enumerate() {

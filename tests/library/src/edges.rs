@@ -1,14 +1,14 @@
 //! Plans at the edges of the limits: most stations, slots and records, and counts around 2^64.
 
 use lister::cases::Record;
+use lister::means::COUNTED;
+use lister::operation::{Operation, OPERATIONS};
 use lister::plans::Owned;
 use lister::random::Random;
-use lister::reach_cases::{exact_plans, Builder};
+use lister::reach_cases::{exact_plans, ladder};
 
-use crate::call::{Operation, OPERATIONS};
 use crate::compare::{Comparison, Difference};
 use crate::lend::{self, Lengths};
-use crate::reference::COUNTED;
 use crate::rounds::{draw_loads, some_calls};
 
 /// The number of cause 9.
@@ -19,16 +19,9 @@ pub fn compare(comparison: &mut Comparison, seed: u64) -> Result<(), Difference>
     let random = &mut Random::new(seed);
     for owned in plans() {
         ends(comparison, random, &owned)?;
-        some_calls(comparison, random, &owned, &COUNTED, 2)?;
+        some_calls(comparison, random, &owned, COUNTED, 2)?;
     }
     Ok(())
-}
-
-/// A ladder as document 01 describes it, of layers of any width.
-fn ladder(layers: usize, width: usize) -> Owned {
-    let mut builder = Builder::start();
-    builder.ladder(layers, width);
-    Owned::built(&builder)
 }
 
 /// So many contacts in the first slots, each slot's between the first stations.
@@ -49,7 +42,7 @@ fn plans() -> Vec<Owned> {
     let mut plans = vec![Owned::new(1, 1, &[]), Owned::new(256, 255, &[]), line()];
     plans.extend([4095, 4096, 4097].map(packed));
     for (layers, width) in [(63, 2), (64, 2), (65, 2), (41, 3), (42, 3)] {
-        plans.push(ladder(layers, width));
+        plans.push(Owned::built(&ladder(layers, width)));
     }
     let exact = exact_plans(64);
     plans.extend(exact.iter().map(|plan| Owned::built(&plan.builder)));
@@ -71,7 +64,7 @@ fn ends(comparison: &mut Comparison, random: &mut Random, owned: &Owned) -> Resu
         if operation == Operation::NextWay {
             call.lent.narrow.clone_from(&way);
         }
-        let seen = comparison.compare(&call, &COUNTED)?;
+        let seen = comparison.compare(&call, COUNTED)?;
         refused |= seen.number == TOO_MANY;
         way = seen.lent.narrow;
     }

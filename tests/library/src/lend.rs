@@ -1,9 +1,10 @@
 //! What the calls lend: lengths, and arbitrary contents.
 
+use lister::operation::{Lent, Operation};
 use lister::plan::{PlanInput, MOST_SLOTS, MOST_STATIONS};
 use lister::random::Random;
 
-use crate::call::{Call, Lent, Operation};
+use crate::call::Call;
 
 /// How many entries of a table are lent.
 #[derive(Clone, Copy, Debug, PartialEq, Eq)]
@@ -57,7 +58,7 @@ pub fn wide(random: &mut Random, length: usize) -> Vec<u64> {
 }
 
 /// Memory of given lengths for a call, with arbitrary contents.
-pub fn of_lengths(random: &mut Random, operation: Operation, lengths: &[Vec<usize>; 2]) -> Lent {
+pub fn of_lengths(random: &mut Random, lengths: &[Vec<usize>; 2]) -> Lent {
     let [narrow_lengths, wide_lengths] = lengths;
     Lent {
         narrow: (narrow_lengths.iter())
@@ -66,7 +67,6 @@ pub fn of_lengths(random: &mut Random, operation: Operation, lengths: &[Vec<usiz
         wide: (wide_lengths.iter())
             .map(|length| wide(random, *length))
             .collect(),
-        values: wide(random, operation.values().len()),
     }
 }
 
@@ -87,6 +87,7 @@ pub fn call<'a>(
         operation,
         input,
         stations,
-        lent: of_lengths(random, operation, &tables),
+        lent: of_lengths(random, &tables),
+        values: wide(random, operation.values().len()),
     }
 }

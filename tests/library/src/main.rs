@@ -6,7 +6,6 @@ mod edges;
 mod lend;
 mod native;
 mod plans;
-mod reference;
 mod rounds;
 mod tiny;
 

@@ -1,14 +1,11 @@
 //! Calls of the library's functions.
 
-use archive::{
-    joftaki_busiest, joftaki_check, joftaki_first_way, joftaki_loads, joftaki_next_way,
-    joftaki_pair, joftaki_reach, joftaki_row, joftaki_row_number,
-};
+use lister::operation::{Lent, Operation};
+use lister::plan::PlanInput;
+use lister::reach::ReachTables;
+use lister::ways::Way;
 
-use crate::call::{Call, Lent, Operation};
-
-/// A value of size_t has a place of 64 bits.
-const _: () = assert!(usize::BITS == u64::BITS);
+use crate::call::Call;
 
 /// The entries before and behind each lent part that nothing may write.
 const GUARD: usize = 4;
@@ -32,14 +29,10 @@ impl<N: Copy + PartialEq> Guarded<N> {
         self.all.len() - 2 * GUARD
     }
 
-    /// The address of an entry of the lent part, or of the end.
-    fn entry(&mut self, entry: usize) -> *mut N {
-        self.all[GUARD + entry..].as_mut_ptr()
-    }
-
-    /// The address of the lent part.
-    fn start(&mut self) -> *mut N {
-        self.entry(0)
+    /// The lent part, for a call.
+    fn lent(&mut self) -> &mut [N] {
+        let length = self.length();
+        &mut self.all[GUARD..][..length]
     }
 
     /// The lent part.
@@ -60,6 +53,7 @@ impl<N: Copy + PartialEq> Guarded<N> {
 pub struct Seen {
     pub number: u32,
     pub lent: Lent,
+    pub values: Vec<u64>,
     /// The plan, and all entries before and behind the lent parts, are as before.
     pub outside_kept: bool,
 }
@@ -72,127 +66,75 @@ pub fn run(call: &Call) -> Seen {
     let mut wide: Vec<Guarded<u64>> = wide
         .map(|table| Guarded::new(table, 0xA5C3_0F69_1E2D_B487))
         .collect();
-    let mut values = Guarded::new(&call.lent.values, 0x5A3C_F096);
+    let mut values = Guarded::new(&call.values, 0x5A3C_F096);
     let mut plan = Guarded::new(call.input.bytes, 0xA5);
-    let number = unsafe { answer(call, &mut plan, &mut narrow, &mut wide, &mut values) };
+    let input = PlanInput {
+        bytes: plan.lent(),
+        ..call.input
+    };
+    let number = answer(call, input, &mut narrow, &mut wide, values.lent());
     let outside_kept = plan.entries() == call.input.bytes
         && plan.kept()
         && values.kept()
         && narrow.iter().all(Guarded::kept)
         && wide.iter().all(Guarded::kept);
-    let lent = Lent {
-        narrow: narrow
-            .iter()
-            .map(|table| table.entries().to_vec())
-            .collect(),
-        wide: wide.iter().map(|table| table.entries().to_vec()).collect(),
-        values: values.entries().to_vec(),
-    };
     Seen {
         number,
-        lent,
+        lent: Lent {
+            narrow: entries_of(&narrow),
+            wide: entries_of(&wide),
+        },
+        values: values.entries().to_vec(),
         outside_kept,
     }
 }
 
+/// The lent parts of tables.
+fn entries_of<N: Copy + PartialEq>(tables: &[Guarded<N>]) -> Vec<Vec<N>> {
+    let entries = tables.iter().map(|table| table.entries().to_vec());
+    entries.collect()
+}
+
 /// The number that the library answers.
-///
-/// # Safety
-///
-/// The tables and values are as many as the operation lends.
-unsafe fn answer(
+fn answer(
     call: &Call,
-    plan: &mut Guarded<u8>,
+    input: PlanInput,
     narrow: &mut [Guarded<u16>],
     wide: &mut [Guarded<u64>],
-    values: &mut Guarded<u64>,
+    values: &mut [u64],
 ) -> u32 {
-    let (bytes, length) = (plan.start(), plan.length());
-    let (n, t) = (call.input.stations, call.input.slots);
     let [s, z] = call.stations;
-    match (call.operation, narrow, wide) {
-        (Operation::Check, [], []) => joftaki_check(bytes, length, n, t),
-        (Operation::Reach, [hops, station_hops], [counts, station_counts]) => joftaki_reach(
-            bytes,
-            length,
-            n,
-            t,
-            s,
-            hops.start(),
-            hops.length(),
-            counts.start(),
-            counts.length(),
-            station_hops.start(),
-            station_hops.length(),
-            station_counts.start(),
-            station_counts.length(),
-        ),
-        (Operation::Row, [], [table]) => joftaki_row(
-            table.start(),
-            table.length(),
-            n,
-            t,
-            s,
-            values.entry(0).cast(),
-            values.entry(1).cast(),
-        ),
-        (Operation::RowNumber, [], [table]) => {
-            joftaki_row_number(table.start(), table.length(), n, t, s)
-        }
-        (Operation::Pair, [], [through, work]) => joftaki_pair(
-            bytes,
-            length,
-            n,
-            t,
-            s,
-            z,
-            values.entry(0).cast(),
-            values.entry(1),
-            through.start(),
-            through.length(),
-            work.start(),
-            work.length(),
-        ),
-        (Operation::Loads, [], [pairs, loads, work]) => joftaki_loads(
-            bytes,
-            length,
-            n,
-            t,
-            pairs.start(),
-            pairs.length(),
-            loads.start(),
-            loads.length(),
-            work.start(),
-            work.length(),
-        ),
-        (Operation::Busiest, [], [work]) => joftaki_busiest(
-            bytes,
-            length,
-            n,
-            t,
-            values.start().cast(),
-            work.start(),
-            work.length(),
-        ),
-        (operation @ (Operation::FirstWay | Operation::NextWay), [way], [work]) => {
-            let run = match operation {
-                Operation::FirstWay => joftaki_first_way,
-                _ => joftaki_next_way,
+    match (call.operation, narrow, wide, values) {
+        (Operation::Check, [], [], []) => archive::check(input),
+        (Operation::Reach, [hops, station_hops], [counts, station_counts], []) => {
+            let tables = ReachTables {
+                appearance_hops: hops.lent(),
+                appearance_counts: counts.lent(),
+                station_hops: station_hops.lent(),
+                station_counts: station_counts.lent(),
             };
-            run(
-                bytes,
-                length,
-                n,
-                t,
-                s,
-                z,
-                values.start().cast(),
-                way.start(),
-                way.length(),
-                work.start(),
-                work.length(),
-            )
+            archive::reach(input, s, tables)
         }
-        (operation, _, _) => panic!("{operation:?} lends other tables"),
+        (Operation::Row, [], [table], [offset, length]) => {
+            archive::row(input, s, offset, length, table.lent())
+        }
+        (Operation::RowNumber, [], [table], []) => archive::row_number(input, s, table.lent()),
+        (Operation::Pair, [], [through, work], [hops, count]) => {
+            let (through, work) = (through.lent(), work.lent());
+            archive::pair(input, (s, z), hops, count, through, work)
+        }
+        (Operation::Loads, [], [pairs, loads, work], []) => {
+            archive::loads(input, pairs.lent(), loads.lent(), work.lent())
+        }
+        (Operation::Busiest, [], [work], [station]) => {
+            archive::busiest(input, station, work.lent())
+        }
+        (Operation::FirstWay, [way], [work], [hops]) => {
+            archive::way(Way::First, input, (s, z), hops, way.lent(), work.lent())
+        }
+        (Operation::NextWay, [way], [work], [hops]) => {
+            archive::way(Way::Next, input, (s, z), hops, way.lent(), work.lent())
+        }
+        (operation, ..) => panic!("{operation:?} lends other tables"),
     }
 }

@@ -1,19 +1,19 @@
 //! Generated calls and traces, a round a seed.
 
-use lister::cases::plan_bytes;
-use lister::cursor::{Cursor, Operation as Way, Step};
+use lister::cursor::{Cursor, Step};
 use lister::lent::appearances;
+use lister::means::{Means, COUNTED, COUNT_LIMIT, LISTED};
+use lister::operation::{way_hops, way_number, Operation, OPERATIONS};
 use lister::plan::{check, MOST_SLOTS, MOST_STATIONS, RECORD_BYTES};
-use lister::plans::Owned;
+use lister::plans::{pairs, Owned};
 use lister::random::Random;
-use lister::shortest::COUNT_LIMIT;
-use lister::traces::{contents, random_trace};
+use lister::traces::random_trace;
+use lister::ways::Way;
 
-use crate::call::{Call, Operation, OPERATIONS};
+use crate::call::Call;
 use crate::compare::{Comparison, Difference};
 use crate::lend::{self, Lengths};
 use crate::plans;
-use crate::reference::{way_hops, way_number, Reference, COUNTED, LISTED};
 
 /// One round: a plan, calls of every operation on it, and traces.
 pub fn compare(comparison: &mut Comparison, seed: u64) -> Result<(), Difference> {
@@ -21,16 +21,16 @@ pub fn compare(comparison: &mut Comparison, seed: u64) -> Result<(), Difference>
     match random.below(64) {
         0 => {
             let owned = plans::full(random);
-            some_calls(comparison, random, &owned, &COUNTED, 1)
+            some_calls(comparison, random, &owned, COUNTED, 1)
         }
         1..=4 => {
             let owned = plans::large(random);
-            some_calls(comparison, random, &owned, &COUNTED, 3)
+            some_calls(comparison, random, &owned, COUNTED, 3)
         }
         5 | 6 => {
             let owned = plans::sparse(random);
             let owned = changed(random, owned);
-            some_calls(comparison, random, &owned, &COUNTED, 2)
+            some_calls(comparison, random, &owned, COUNTED, 2)
         }
         _ => {
             let owned = plans::small(random);
@@ -57,21 +57,21 @@ fn small_plan(
 ) -> Result<(), Difference> {
     let fits = owned.stations <= MOST_STATIONS && owned.slots <= MOST_SLOTS;
     if fits && appearances(owned.stations, owned.slots) > 2000 {
-        return some_calls(comparison, random, owned, &COUNTED, 2);
+        return some_calls(comparison, random, owned, COUNTED, 2);
     }
-    some_calls(comparison, random, owned, &LISTED, 2)?;
+    some_calls(comparison, random, owned, LISTED, 2)?;
     if check(owned.input()).is_err() || !(2..=6).contains(&owned.stations) {
         return Ok(());
     }
-    for source in 0..owned.stations {
-        for destination in (0..owned.stations).filter(|station| *station != source) {
-            for operation in [Operation::Pair, Operation::FirstWay, Operation::NextWay] {
-                let stations = [source, destination];
-                one_call(comparison, random, owned, operation, stations, &LISTED)?;
-            }
+    for (source, destination) in pairs(owned.stations) {
+        for operation in [Operation::Pair, Operation::FirstWay, Operation::NextWay] {
+            let stations = [source, destination];
+            one_call(comparison, random, owned, operation, stations, LISTED)?;
         }
+    }
+    for source in 0..owned.stations {
         for operation in [Operation::Reach, Operation::Row, Operation::RowNumber] {
-            one_call(comparison, random, owned, operation, [source, 0], &LISTED)?;
+            one_call(comparison, random, owned, operation, [source, 0], LISTED)?;
         }
     }
     trace(comparison, random, owned)?;
@@ -105,7 +105,7 @@ pub fn some_calls(
     comparison: &mut Comparison,
     random: &mut Random,
     owned: &Owned,
-    reference: &Reference,
+    means: Means,
     times: usize,
 ) -> Result<(), Difference> {
     for operation in OPERATIONS {
@@ -116,7 +116,7 @@ pub fn some_calls(
         };
         for _ in 0..times {
             let stations = [0; 2].map(|_| station(random, owned.stations));
-            one_call(comparison, random, owned, operation, stations, reference)?;
+            one_call(comparison, random, owned, operation, stations, means)?;
         }
     }
     Ok(())
@@ -129,24 +129,24 @@ fn one_call(
     owned: &Owned,
     operation: Operation,
     stations: [usize; 2],
-    reference: &Reference,
+    means: Means,
 ) -> Result<(), Difference> {
     let mut call = lend::call(random, operation, owned.input(), stations, Lengths::Any);
     if operation == Operation::NextWay {
-        offer(random, &mut call, reference);
+        offer(random, &mut call, means);
     }
-    comparison.compare(&call, reference)?;
+    comparison.compare(&call, means)?;
     Ok(())
 }
 
 /// Writes a path of the pair to the way buffer, if there is one; sometimes with an entry changed.
-fn offer(random: &mut Random, call: &mut Call, reference: &Reference) {
+fn offer(random: &mut Random, call: &mut Call, means: Means) {
     let mut hops = 0;
     call.operation = Operation::FirstWay;
     for _ in 0..random.between(1, 4) {
-        let given = reference.run(call);
+        let (given, lent) = call.expected(means);
         if given.number == 0 {
-            call.lent.narrow = given.narrow;
+            call.lent.narrow = lent.narrow;
             hops = given.values[0][0] as usize;
         }
         call.operation = Operation::NextWay;
@@ -161,14 +161,12 @@ fn offer(random: &mut Random, call: &mut Call, reference: &Reference) {
 fn trace_text(steps: &[Step]) -> String {
     let line = |step: &Step| match step {
         Step::Write(entry, value) => format!("write {value} to entry {entry}\n"),
-        Step::Call(operation, call) => {
+        Step::Call(way, call) => {
             let input = call.input;
             let sizes = format!("n {} T {}", input.stations, input.slots);
-            let stations = [call.source, call.destination];
+            let stations = call.ends();
             let lengths = [input.bytes.len(), call.buffer_length, call.scratch_length];
-            format!(
-                "{operation:?} {sizes}, stations {stations:?}, plan, buffer, scratch {lengths:?}\n"
-            )
+            format!("{way:?} {sizes}, stations {stations:?}, plan, buffer, scratch {lengths:?}\n")
         }
     };
     steps.iter().map(line).collect()
@@ -182,42 +180,39 @@ fn trace(
 ) -> Result<(), Difference> {
     let source = random.below(owned.stations);
     let destination = (source + random.between(1, owned.stations - 1)) % owned.stations;
-    let list = owned.list(source, destination);
-    let hops = list.first().map_or(0, Vec::len);
-    let length = owned.slots + random.below(3);
-    let bad_bytes = plan_bytes(&[(1, 1, 1), (1, 0, 1)]);
-    let mut buffer = contents(random, &list, length);
-    let pair = owned.path_call(source, destination);
-    let steps = random_trace(random, pair, hops, length, &bad_bytes);
-    let mut cursor = Cursor::start(COUNT_LIMIT, list, &buffer);
+    let case = random_trace(random, owned, (source, destination));
+    let steps = case.trace();
+    let mut buffer = case.contents.clone();
+    let mut cursor = Cursor::start(COUNT_LIMIT, case.list.clone(), &buffer);
     for (at, step) in steps.iter().enumerate() {
-        let (operation, call) = match step {
+        let (way, call) = match step {
             Step::Write(entry, value) => {
                 buffer[*entry] = *value;
                 cursor.write(*entry, *value);
                 continue;
             }
-            Step::Call(operation, call) => (*operation, call),
+            Step::Call(way, call) => (*way, call),
         };
         let lengths = [vec![call.buffer_length], vec![call.scratch_length]];
-        let function = match operation {
+        let operation = match way {
             Way::First => Operation::FirstWay,
             Way::Next => Operation::NextWay,
         };
-        let mut lent = lend::of_lengths(random, function, &lengths);
+        let mut lent = lend::of_lengths(random, &lengths);
         lent.narrow[0].copy_from_slice(&buffer[..call.buffer_length]);
         let made = Call {
-            operation: function,
+            operation,
             input: call.input,
-            stations: [call.source, call.destination],
+            stations: call.ends().into(),
             lent,
+            values: lend::wide(random, operation.values().len()),
         };
         let told = |text: String| format!("{text}trace so far:\n{}", trace_text(&steps[..=at]));
-        let seen = comparison.compare(&made, &LISTED).map_err(told)?;
+        let seen = comparison.compare(&made, LISTED).map_err(told)?;
         buffer[..call.buffer_length].copy_from_slice(&seen.lent.narrow[0]);
-        let answer = cursor.call(operation, call);
+        let answer = cursor.call(way, call);
         let expected = (way_number(&answer), way_hops(&answer), cursor.buffer());
-        let answered = (seen.number, seen.lent.values[0], buffer.as_slice());
+        let answered = (seen.number, seen.values[0], buffer.as_slice());
         if expected != answered {
             let text = format!("{made}cursor: {expected:?}\nlibrary: {answered:?}\n");
             return Err(told(text));

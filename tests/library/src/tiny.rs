@@ -1,14 +1,14 @@
 //! All plans of tiny sizes, in all calls.
 
 use lister::cases::{plan_bytes, Record, PLAN_A};
+use lister::means::LISTED;
+use lister::operation::{Operation, OPERATIONS};
 use lister::plan::PlanInput;
-use lister::plans::{all_plans, possible_records, Owned};
+use lister::plans::{all_lists, all_plans, pairs, possible_records, Owned};
 use lister::random::Random;
 
-use crate::call::{Operation, OPERATIONS};
 use crate::compare::{Comparison, Difference};
 use crate::lend::{self, Lengths};
-use crate::reference::LISTED;
 
 /// Compares all of them; the seed is of what the tables hold before.
 pub fn compare(comparison: &mut Comparison, seed: u64) -> Result<(), Difference> {
@@ -42,24 +42,11 @@ fn every_call(
                 let stations = [source, destination];
                 let input = owned.input();
                 let call = lend::call(random, operation, input, stations, Lengths::Named);
-                comparison.compare(&call, &LISTED)?;
+                comparison.compare(&call, LISTED)?;
             }
         }
     }
     Ok(())
-}
-
-/// All lists of a length with entries below a bound.
-fn all_lists(length: usize, bound: u16) -> Vec<Vec<u16>> {
-    let mut lists = vec![Vec::new()];
-    for _ in 0..length {
-        let longer = |list: &Vec<u16>| {
-            let list = list.clone();
-            (0..bound).map(move |entry| [list.as_slice(), &[entry]].concat())
-        };
-        lists = lists.iter().flat_map(longer).collect();
-    }
-    lists
 }
 
 /// Next way on every buffer of T positions, one of them no record's, for every pair.
@@ -70,15 +57,13 @@ fn every_buffer(
 ) -> Result<(), Difference> {
     let contacts = owned.bytes.len() / 6;
     let buffers = all_lists(owned.slots, contacts as u16 + 1);
-    for source in 0..owned.stations {
-        for destination in (0..owned.stations).filter(|station| *station != source) {
-            let (operation, stations) = (Operation::NextWay, [source, destination]);
-            let input = owned.input();
-            let mut call = lend::call(random, operation, input, stations, Lengths::Named);
-            for buffer in &buffers {
-                call.lent.narrow[0].copy_from_slice(buffer);
-                comparison.compare(&call, &LISTED)?;
-            }
+    for (source, destination) in pairs(owned.stations) {
+        let (operation, stations) = (Operation::NextWay, [source, destination]);
+        let input = owned.input();
+        let mut call = lend::call(random, operation, input, stations, Lengths::Named);
+        for buffer in &buffers {
+            call.lent.narrow[0].copy_from_slice(buffer);
+            comparison.compare(&call, LISTED)?;
         }
     }
     Ok(())
@@ -92,7 +77,7 @@ fn each_operation(
 ) -> Result<(), Difference> {
     for operation in OPERATIONS {
         let call = lend::call(random, operation, input, [0, 1], Lengths::Named);
-        comparison.compare(&call, &LISTED)?;
+        comparison.compare(&call, LISTED)?;
     }
     Ok(())
 }
@@ -167,8 +152,8 @@ fn every_length(comparison: &mut Comparison, random: &mut Random) -> Result<(), 
                     lengths[width][table] = length;
                     let input = owned.input();
                     let mut call = lend::call(random, operation, input, [0, 4], Lengths::Named);
-                    call.lent = lend::of_lengths(random, operation, &lengths);
-                    comparison.compare(&call, &LISTED)?;
+                    call.lent = lend::of_lengths(random, &lengths);
+                    comparison.compare(&call, LISTED)?;
                 }
             }
         }

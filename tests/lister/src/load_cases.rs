@@ -68,15 +68,17 @@ fn on_table(table: &[(&str, &[Record], u8)]) -> Vec<Case> {
 
 /// All cases, in the order of the files.
 pub fn all_cases() -> Vec<Case> {
-    let mut cases = examples::cases();
-    cases.extend(lengths::cases());
-    cases.extend(sizes::cases());
-    cases.extend(records::cases());
-    cases.extend(causes::cases());
-    cases.extend(digits::cases());
-    cases.extend(ladders::cases());
-    cases.extend(generated::cases());
-    cases
+    [
+        examples::cases(),
+        lengths::cases(),
+        sizes::cases(),
+        records::cases(),
+        causes::cases(),
+        digits::cases(),
+        ladders::cases(),
+        generated::cases(),
+    ]
+    .concat()
 }
 
 impl Filed for Case {

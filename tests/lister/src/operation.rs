@@ -91,6 +91,11 @@ impl Operation {
         }
     }
 
+    /// Whether a 16-bit table is the way buffer, which only a path given is written to.
+    pub fn takes_way_buffer(self) -> bool {
+        matches!(self, FirstWay | NextWay)
+    }
+
     /// The names of the values beside the number.
     pub fn values(self) -> &'static [&'static str] {
         match self {

@@ -243,11 +243,13 @@ impl LabelledPlan {
 
 /// All cases, in the order of the files.
 pub fn all_cases() -> Vec<Case> {
-    let mut cases = examples::cases();
-    cases.extend(refusals::cases());
-    cases.extend(limits::cases());
-    cases.extend(ladders::cases());
-    cases.extend(shares::cases());
-    cases.extend(small::cases());
-    cases
+    [
+        examples::cases(),
+        refusals::cases(),
+        limits::cases(),
+        ladders::cases(),
+        shares::cases(),
+        small::cases(),
+    ]
+    .concat()
 }

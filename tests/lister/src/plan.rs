@@ -21,11 +21,13 @@ pub struct Contact {
 
 impl Contact {
     /// The direction of a contact: from which station to which it leads. It leads both ways.
+    #[inline]
     pub fn directions(&self) -> [(usize, usize); 2] {
         [(self.a, self.b), (self.b, self.a)]
     }
 
     /// The station to which this contact leads from a given one.
+    #[inline]
     pub fn leads_from(&self, station: usize) -> Option<usize> {
         let directions = self.directions().into_iter();
         let mut from = directions.filter(|(from, _)| *from == station);
@@ -33,8 +35,9 @@ impl Contact {
     }
 
     /// The 6 bytes of a record, each field high byte first.
+    #[inline]
     pub fn from_record(record: &[u8]) -> Contact {
-        let field = |at: usize| 256 * usize::from(record[at]) + usize::from(record[at + 1]);
+        let field = |at: usize| usize::from(u16::from_be_bytes([record[at], record[at + 1]]));
         Contact {
             slot: field(0),
             a: field(2),
@@ -44,6 +47,7 @@ impl Contact {
 }
 
 /// The rule of following: whether a contact in a slot may follow an appearance in another.
+#[inline]
 pub fn follows(reached: usize, slot: usize) -> bool {
     reached < slot
 }
@@ -65,6 +69,7 @@ impl Appearance {
     }
 
     /// The appearance that a contact brings after this one.
+    #[inline]
     pub fn step(self, contact: Contact) -> Option<Appearance> {
         let station = contact.leads_from(self.station)?;
         follows(self.slot, contact.slot).then_some(Appearance {
@@ -118,6 +123,7 @@ pub fn whole_records(bytes: &[u8], most: usize) -> Answer<()> {
 }
 
 /// The contacts that bytes hold, in order.
+#[inline]
 pub fn contacts(bytes: &[u8]) -> impl DoubleEndedIterator<Item = Contact> + '_ {
     bytes.chunks_exact(RECORD_BYTES).map(Contact::from_record)
 }

@@ -207,12 +207,14 @@ fn runs_text(table: &[u64], left_out: u64) -> String {
 
 /// All cases, in the order of the files.
 pub fn all_cases() -> Vec<Case> {
-    let mut cases = examples::cases();
-    cases.extend(refusals::cases());
-    cases.extend(rows::cases());
-    cases.extend(limits::cases());
-    cases.extend(ladders::cases());
-    cases.extend(exact::cases());
-    cases.extend(small::cases());
-    cases
+    [
+        examples::cases(),
+        refusals::cases(),
+        rows::cases(),
+        limits::cases(),
+        ladders::cases(),
+        exact::cases(),
+        small::cases(),
+    ]
+    .concat()
 }

@@ -361,12 +361,14 @@ fn step_bytes(step: &Step) -> Vec<u8> {
 
 /// All cases, in the order of the files.
 pub fn all_cases() -> Vec<Case> {
-    let mut cases = examples::cases();
-    cases.extend(starts::cases());
-    cases.extend(refusals::cases());
-    cases.extend(ladders::cases());
-    cases.extend(limits::cases());
-    cases.extend(layered::cases());
-    cases.extend(small::cases());
-    cases
+    [
+        examples::cases(),
+        starts::cases(),
+        refusals::cases(),
+        ladders::cases(),
+        limits::cases(),
+        layered::cases(),
+        small::cases(),
+    ]
+    .concat()
 }

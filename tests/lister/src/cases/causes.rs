@@ -3,11 +3,7 @@
 use super::{plan_bytes, Case, Record};
 
 pub fn cases() -> Vec<Case> {
-    let mut cases = sizes_first();
-    cases.extend(length_second());
-    cases.extend(one_record());
-    cases.extend(two_records());
-    cases
+    [sizes_first(), length_second(), one_record(), two_records()].concat()
 }
 
 /// Records at n 5, T 4 that have cause 3, 4 or 5.

@@ -3,12 +3,14 @@
 use super::{plan_bytes, Case, Record, PLAN_A};
 
 pub fn cases() -> Vec<Case> {
-    let mut cases = station_limits();
-    cases.extend(slot_limits());
-    cases.extend(short_lengths());
-    cases.extend(long_lengths());
-    cases.extend(corners());
-    cases
+    [
+        station_limits(),
+        slot_limits(),
+        short_lengths(),
+        long_lengths(),
+        corners(),
+    ]
+    .concat()
 }
 
 /// n at its limits and with a plain low byte, the plan being empty.

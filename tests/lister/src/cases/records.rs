@@ -3,14 +3,16 @@
 use super::{Case, Record, PLAN_A};
 
 pub fn cases() -> Vec<Case> {
-    let mut cases = slots_small();
-    cases.extend(slots_large());
-    cases.extend(stations_small());
-    cases.extend(stations_large());
-    cases.extend(orders());
-    cases.extend(orders_wide());
-    cases.extend(places());
-    cases
+    [
+        slots_small(),
+        slots_large(),
+        stations_small(),
+        stations_large(),
+        orders(),
+        orders_wide(),
+        places(),
+    ]
+    .concat()
 }
 
 /// Slots of a single record at n 5, T 4.

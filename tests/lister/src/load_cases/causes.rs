@@ -5,12 +5,14 @@ use super::{on_table, Case};
 use crate::cases::{plan_bytes, Record};
 
 pub fn cases() -> Vec<Case> {
-    let mut cases = length_first();
-    cases.extend(too_many_first());
-    cases.extend(sizes_second());
-    cases.extend(one_record());
-    cases.extend(two_records());
-    cases
+    [
+        length_first(),
+        too_many_first(),
+        sizes_second(),
+        one_record(),
+        two_records(),
+    ]
+    .concat()
 }
 
 /// Records with one of causes 1, 3, 4, 5 each.

@@ -5,9 +5,7 @@ use crate::plans::Owned;
 use crate::reach_cases::Builder;
 
 pub fn cases() -> Vec<Case> {
-    let mut cases = layers();
-    cases.extend(slots());
-    cases
+    [layers(), slots()].concat()
 }
 
 /// Layers of stations; 16 layers of two have 33 stations.

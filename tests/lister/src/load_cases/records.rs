@@ -4,12 +4,7 @@ use super::{on_table, Case};
 use crate::cases::{Record, PLAN_A};
 
 pub fn cases() -> Vec<Case> {
-    let mut cases = slots();
-    cases.extend(stations());
-    cases.extend(orders());
-    cases.extend(small_slots());
-    cases.extend(small_orders());
-    cases
+    [slots(), stations(), orders(), small_slots(), small_orders()].concat()
 }
 
 /// The index of the last record of plan A.

@@ -5,12 +5,14 @@ use super::{on_table, Case};
 use crate::cases::Record;
 
 pub fn cases() -> Vec<Case> {
-    let mut cases = station_limits();
-    cases.extend(slot_limits());
-    cases.extend(both_limits());
-    cases.extend(places());
-    cases.extend(most_records());
-    cases
+    [
+        station_limits(),
+        slot_limits(),
+        both_limits(),
+        places(),
+        most_records(),
+    ]
+    .concat()
 }
 
 /// One contact with a station number around the limits, and with a plain low byte.

@@ -4,12 +4,14 @@ use super::{Case, LabelledPlan};
 use crate::reach_cases::{exact_plans, ladder, Exact};
 
 pub fn cases() -> Vec<Case> {
-    let mut cases = accepted_ladders();
-    cases.extend(too_many());
-    cases.extend(other_sources());
-    cases.extend(other_widths());
-    cases.extend(exact());
-    cases
+    [
+        accepted_ladders(),
+        too_many(),
+        other_sources(),
+        other_widths(),
+        exact(),
+    ]
+    .concat()
 }
 
 /// A ladder of so many layers of two.

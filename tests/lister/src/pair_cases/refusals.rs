@@ -8,14 +8,16 @@ use crate::plan::within_limits;
 use crate::reach_cases::{bytes_with_cause, ladder, plan_faults};
 
 pub fn cases() -> Vec<Case> {
-    let mut cases = plans();
-    cases.extend(plan_before_call());
-    cases.extend(stations());
-    cases.extend(same_station());
-    cases.extend(two_in_the_call());
-    cases.extend(lengths());
-    cases.extend(before_too_many());
-    cases
+    [
+        plans(),
+        plan_before_call(),
+        stations(),
+        same_station(),
+        two_in_the_call(),
+        lengths(),
+        before_too_many(),
+    ]
+    .concat()
 }
 
 /// A call of each operation.

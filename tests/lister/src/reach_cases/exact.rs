@@ -52,16 +52,18 @@ pub fn cases() -> Vec<Case> {
 /// The plans for a largest count of 2^bits−1.
 pub fn exact_plans(bits: usize) -> Vec<Exact> {
     let scale = Scale { bits };
-    let mut plans = scale.one_slot();
-    plans.extend(scale.several_slots());
-    plans.extend(scale.two_slots_a_hop());
-    plans.extend(scale.undercut_in_the_slot());
-    plans.extend(scale.undercut_later());
-    plans.extend(scale.undercut_after_sending_on());
-    plans.extend(scale.appearance_alone());
-    plans.extend(scale.source_again());
-    plans.extend(scale.last_places());
-    plans
+    [
+        scale.one_slot(),
+        scale.several_slots(),
+        scale.two_slots_a_hop(),
+        scale.undercut_in_the_slot(),
+        scale.undercut_later(),
+        scale.undercut_after_sending_on(),
+        scale.appearance_alone(),
+        scale.source_again(),
+        scale.last_places(),
+    ]
+    .concat()
 }
 
 /// Asserts which appearances (station, slot) and which stations have over `limit` shortest walks.

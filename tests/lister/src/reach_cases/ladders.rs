@@ -127,10 +127,7 @@ pub fn ladder(layers: usize, width: usize) -> Builder {
 }
 
 pub fn cases() -> Vec<Case> {
-    let mut cases = named_ladders();
-    cases.extend(other_sources());
-    cases.extend(other_widths());
-    cases
+    [named_ladders(), other_sources(), other_widths()].concat()
 }
 
 /// 63, 64 and 65 layers, on tables of the named lengths and longer.

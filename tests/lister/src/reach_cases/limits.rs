@@ -6,11 +6,7 @@ use crate::cases::{Record, PLAN_A};
 const SIZES: (u16, u16) = (256, 255);
 
 pub fn cases() -> Vec<Case> {
-    let mut cases = few_records();
-    cases.extend(many_records());
-    cases.extend(lengths());
-    cases.extend(narrow());
-    cases
+    [few_records(), many_records(), lengths(), narrow()].concat()
 }
 
 /// An accepted case at the limits.

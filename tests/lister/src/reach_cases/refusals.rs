@@ -5,15 +5,17 @@ use super::{Case, Operation};
 use crate::cases::{plan_bytes, Record, PLAN_A};
 
 pub fn cases() -> Vec<Case> {
-    let mut cases = limits();
-    cases.extend(plans());
-    cases.extend(stations());
-    cases.extend(lengths());
-    cases.extend(plan_before_call());
-    cases.extend(two_in_the_plan());
-    cases.extend(two_in_the_call());
-    cases.extend(before_too_many());
-    cases
+    [
+        limits(),
+        plans(),
+        stations(),
+        lengths(),
+        plan_before_call(),
+        two_in_the_plan(),
+        two_in_the_call(),
+        before_too_many(),
+    ]
+    .concat()
 }
 
 /// The cases with a cause from 1 to 5 and none of the call.

@@ -3,11 +3,7 @@
 use super::Case;
 
 pub fn cases() -> Vec<Case> {
-    let mut cases = parts();
-    cases.extend(large_parts());
-    cases.extend(refusals());
-    cases.extend(orders());
-    cases
+    [parts(), large_parts(), refusals(), orders()].concat()
 }
 
 /// A case of row; the label names its arguments.

@@ -12,9 +12,7 @@ pub const SEED: u64 = 2;
 const PLANS: usize = 300;
 
 pub fn cases() -> Vec<Case> {
-    let mut cases = checked_plans();
-    cases.extend(further_plans());
-    cases
+    [checked_plans(), further_plans()].concat()
 }
 
 /// The valid plans of check-cases: the small ones from every source, the large ones from two.

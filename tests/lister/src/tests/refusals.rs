@@ -18,10 +18,6 @@ impl Operation {
         [self.narrow(stations, slots), self.wide(stations, slots)]
     }
 
-    fn takes_way_buffer(self) -> bool {
-        matches!(self, Operation::FirstWay | Operation::NextWay)
-    }
-
     fn takes_scratch(self) -> bool {
         self.wide(1, 1).last() == Some(&8)
     }

@@ -4,9 +4,7 @@ use super::Case;
 use crate::cases::{plan_bytes, PLAN_A};
 
 pub fn cases() -> Vec<Case> {
-    let mut cases = named_examples();
-    cases.extend(every_pair());
-    cases
+    [named_examples(), every_pair()].concat()
 }
 
 /// A trace without steps on plan A.

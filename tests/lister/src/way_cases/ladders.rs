@@ -5,10 +5,7 @@ use crate::reach_cases;
 use crate::ways::Way;
 
 pub fn cases() -> Vec<Case> {
-    let mut cases = whole_ladders();
-    cases.extend(neighbours());
-    cases.extend(too_many());
-    cases
+    [whole_ladders(), neighbours(), too_many()].concat()
 }
 
 /// The ladder from the source to the first (0) or second (1) station of the last layer, without its list.

@@ -8,14 +8,16 @@ use crate::cases::{plan_bytes, PLAN_A};
 use crate::ways::Way;
 
 pub fn cases() -> Vec<Case> {
-    let mut cases = on_a_path();
-    cases.extend(on_no_path());
-    cases.extend(no_records());
-    cases.extend(parts_of_plan_a());
-    cases.extend(starting_over());
-    cases.extend(behind_the_hops());
-    cases.extend(lent_beginnings());
-    cases
+    [
+        on_a_path(),
+        on_no_path(),
+        no_records(),
+        parts_of_plan_a(),
+        starting_over(),
+        behind_the_hops(),
+        lent_beginnings(),
+    ]
+    .concat()
 }
 
 /// Plan A from 0 to 4, the buffer beginning with the entries.
