@@ -9,7 +9,7 @@ use crate::side::{Side, LIBRARY, RUST};
 use crate::tables::{print_head, print_row, timed_pair};
 
 /// The questions by name, with the end of the names of the functions that answer them.
-const QUESTIONS: [(&str, &str); 3] = [("loads", "loads"), ("pair", "pair"), ("listing", "_way")];
+const QUESTIONS: [(&str, &str); 3] = [("loads", "loads"), ("pair", "pair"), ("listing", "way")];
 
 fn side_of(name: &str) -> Result<Side, String> {
     let sides = [LIBRARY, RUST];

@@ -11,8 +11,9 @@ mod question;
 mod side;
 mod tables;
 
-use std::env;
 use std::process::ExitCode;
+
+use lister::program;
 
 const USAGE: &str = "usage:
   bench                            all tables of times
@@ -21,15 +22,7 @@ const USAGE: &str = "usage:
   bench once SIDE QUESTION PLAN    one run of one side, for a tool that watches it";
 
 fn main() -> ExitCode {
-    let words: Vec<String> = env::args().skip(1).collect();
-    let words: Vec<&str> = words.iter().map(String::as_str).collect();
-    match run(&words) {
-        Ok(()) => ExitCode::SUCCESS,
-        Err(message) => {
-            eprintln!("{message}");
-            ExitCode::from(2)
-        }
-    }
+    program::exit(run)
 }
 
 fn run(words: &[&str]) -> Result<(), String> {

@@ -3,10 +3,11 @@
 use std::collections::BTreeSet;
 
 use lister::cases::{plan_bytes, Record};
+use lister::plan::{Ends, PlanInput, RECORD_BYTES};
 use lister::random::Random;
+use lister::reach_cases;
 
 use crate::native::pass::{pass, Task};
-use crate::native::plan::{Call, Ends};
 
 /// The seed of every random plan.
 const SEED: u64 = 1;
@@ -33,16 +34,16 @@ impl Plan {
         }
     }
 
-    pub fn call(&self) -> Call<'_> {
-        Call {
-            plan: &self.bytes,
+    pub fn input(&self) -> PlanInput<'_> {
+        PlanInput {
+            bytes: &self.bytes,
             stations: self.stations,
             slots: self.slots,
         }
     }
 
     pub fn records(&self) -> usize {
-        self.bytes.len() / 6
+        self.bytes.len() / RECORD_BYTES
     }
 
     /// A pair with as many shortest paths as some pair has, among those with at most `most`; its
@@ -67,7 +68,7 @@ impl Plan {
             block: 0,
         };
         let mut work = vec![0; 4 * self.stations];
-        let area = pass(&mut work, self.call(), task).expect("counts within 64 bits");
+        let area = pass(&mut work, self.input(), task).expect("counts within 64 bits");
         area.counts.to_vec()
     }
 }
@@ -87,17 +88,16 @@ fn random(name: &str, stations: usize, slots: usize, wanted: usize) -> Plan {
     Plan::new(name, stations, slots, &records)
 }
 
-/// The ladder of document 01: source 0, then layers of two stations, every station of a layer meeting
-/// both of the next in the next slot.
+/// The ladder of document 01.
 fn ladder(name: &str, layers: usize) -> Plan {
-    let layer = |at: usize| if at == 0 { 0..=0 } else { 2 * at - 1..=2 * at };
-    let mut records = BTreeSet::new();
-    for slot in 1..=layers {
-        for a in layer(slot - 1) {
-            records.extend(layer(slot).map(|b| (slot as u16, a as u16, b as u16)));
-        }
+    let builder = reach_cases::ladder(layers, 2);
+    let (stations, slots) = builder.sizes();
+    Plan {
+        name: name.to_string(),
+        stations: stations.into(),
+        slots: slots.into(),
+        bytes: builder.bytes(),
     }
-    Plan::new(name, 2 * layers + 1, layers, &records)
 }
 
 /// The plans of every question: the largest random one, one with few slots, the ladder of document

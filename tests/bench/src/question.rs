@@ -1,8 +1,12 @@
 //! What is asked of a plan, asked of one side for its time, and of both for equal results.
 
-use crate::native::plan::Ends;
+use lister::operation::LAST;
+use lister::plan::Ends;
+use lister::ways::Way;
+
+use crate::native::plan::work_length;
 use crate::plans::Plan;
-use crate::side::{Side, LAST, LIBRARY, RUST};
+use crate::side::{Side, LIBRARY, RUST};
 
 /// A question about a plan.
 #[derive(Clone, Copy, Debug)]
@@ -20,7 +24,7 @@ pub struct Lent {
     pairs: Vec<u64>,
     loads: Vec<u64>,
     through: Vec<u64>,
-    way: Vec<u16>,
+    buffer: Vec<u16>,
     work: Vec<u64>,
 }
 
@@ -31,8 +35,8 @@ impl Lent {
             pairs: vec![0; n],
             loads: vec![0; n],
             through: vec![0; n],
-            way: vec![0; plan.slots],
-            work: vec![0; plan.call().work_length()],
+            buffer: vec![0; plan.slots],
+            work: vec![0; work_length(plan.input())],
         }
     }
 
@@ -42,7 +46,7 @@ impl Lent {
         for table in [&mut lent.pairs, &mut lent.loads, &mut lent.through] {
             table.fill(4321);
         }
-        lent.way.fill(4321);
+        lent.buffer.fill(4321);
         lent.work.fill(4321);
         lent
     }
@@ -50,20 +54,21 @@ impl Lent {
 
 /// Asks one side; an answer that is no acceptance stops the program.
 pub fn ask(side: &Side, plan: &Plan, question: Question, lent: &mut Lent) {
-    let call = plan.call();
+    let input = plan.input();
     match question {
         Question::Loads => {
-            let number = (side.loads)(call, &mut lent.pairs, &mut lent.loads, &mut lent.work);
+            let number = (side.loads)(input, &mut lent.pairs, &mut lent.loads, &mut lent.work);
             assert_eq!(number, 0);
         }
         Question::Pair(ends) => {
-            let (number, ..) = (side.pair)(call, ends, &mut lent.through, &mut lent.work);
+            let (number, ..) = (side.pair)(input, ends, &mut lent.through, &mut lent.work);
             assert_eq!(number, 0);
         }
         Question::Listing(ends) => {
-            let (mut number, _) = (side.first_way)(call, ends, &mut lent.way, &mut lent.work);
+            let (mut number, _) =
+                (side.way)(Way::First, input, ends, &mut lent.buffer, &mut lent.work);
             while number == 0 {
-                (number, _) = (side.next_way)(call, ends, &mut lent.way, &mut lent.work);
+                (number, _) = (side.way)(Way::Next, input, ends, &mut lent.buffer, &mut lent.work);
             }
             assert_eq!(number, LAST);
         }
@@ -98,17 +103,17 @@ pub fn compare(plan: &Plan, question: Question) {
         library: Lent::marked(plan),
         rust: Lent::marked(plan),
     };
-    let call = plan.call();
+    let input = plan.input();
     match question {
         Question::Loads => {
             let number = both.step(|side, lent| {
-                (side.loads)(call, &mut lent.pairs, &mut lent.loads, &mut lent.work)
+                (side.loads)(input, &mut lent.pairs, &mut lent.loads, &mut lent.work)
             });
             assert_eq!(number, 0);
         }
         Question::Pair(ends) => {
             let (number, ..) =
-                both.step(|side, lent| (side.pair)(call, ends, &mut lent.through, &mut lent.work));
+                both.step(|side, lent| (side.pair)(input, ends, &mut lent.through, &mut lent.work));
             assert_eq!(number, 0);
         }
         Question::Listing(ends) => compare_listing(&mut both, ends),
@@ -117,16 +122,17 @@ pub fn compare(plan: &Plan, question: Question) {
 
 /// Compares a whole listing, whose paths are as many as the pair's count says.
 fn compare_listing(both: &mut Both, ends: Ends) {
-    let call = both.plan.call();
+    let input = both.plan.input();
     let (_, _, count) =
-        both.step(|side, lent| (side.pair)(call, ends, &mut lent.through, &mut lent.work));
+        both.step(|side, lent| (side.pair)(input, ends, &mut lent.through, &mut lent.work));
     let mut listed = 0;
-    let (mut number, _) =
-        both.step(|side, lent| (side.first_way)(call, ends, &mut lent.way, &mut lent.work));
+    let (mut number, _) = both
+        .step(|side, lent| (side.way)(Way::First, input, ends, &mut lent.buffer, &mut lent.work));
     while number == 0 {
         listed += 1;
-        (number, _) =
-            both.step(|side, lent| (side.next_way)(call, ends, &mut lent.way, &mut lent.work));
+        (number, _) = both.step(|side, lent| {
+            (side.way)(Way::Next, input, ends, &mut lent.buffer, &mut lent.work)
+        });
     }
     assert_eq!((number, listed), (LAST, count));
 }

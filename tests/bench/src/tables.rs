@@ -2,8 +2,9 @@
 
 use std::time::Duration;
 
+use lister::plan::Ends;
+
 use crate::measure::{measure, Effort, Times};
-use crate::native::plan::Ends;
 use crate::plans::{by_records, by_slots, by_stations, named, Plan};
 use crate::question::Question;
 
@@ -55,6 +56,11 @@ pub fn print_row(cells: &[impl AsRef<str>]) {
     println!("| {} |", cells.join(" | "));
 }
 
+/// The columns of `sizes`.
+const SIZES: [&str; 3] = ["n", "T", "records"];
+/// The columns of `timed`.
+const TIMES: [&str; 3] = ["library, ms", "Rust, ms", "ratio"];
+
 /// The cells of a plan: n, T and records.
 fn sizes(plan: &Plan) -> [String; 3] {
     [plan.stations, plan.slots, plan.records()].map(|size| size.to_string())
@@ -76,16 +82,7 @@ fn timed(times: &Times) -> [String; 3] {
 
 /// The loads of named plans.
 fn loads(effort: Effort, plans: &[Plan]) {
-    let columns = [
-        "plan",
-        "n",
-        "T",
-        "records",
-        "library, ms",
-        "Rust, ms",
-        "ratio",
-    ];
-    print_head("Loads", &columns);
+    print_head("Loads", &[&["plan"], &SIZES[..], &TIMES].concat());
     for plan in plans {
         let times = measure(plan, Question::Loads, effort);
         let mut cells = vec![plan.name.clone()];
@@ -98,8 +95,7 @@ fn loads(effort: Effort, plans: &[Plan]) {
 
 /// A question about a pair of each of the named plans.
 fn of_pairs(title: &str, effort: Effort, plans: &[Plan], question: impl Fn(Ends) -> Question) {
-    let columns = ["plan", "pair", "paths", "library, ms", "Rust, ms", "ratio"];
-    print_head(title, &columns);
+    print_head(title, &[&["plan", "pair", "paths"], &TIMES[..]].concat());
     for plan in plans {
         let (ends, paths) = timed_pair(plan);
         let times = measure(plan, question(ends), effort);
@@ -113,16 +109,7 @@ fn of_pairs(title: &str, effort: Effort, plans: &[Plan], question: impl Fn(Ends)
 
 /// The loads of plans that grow; the last column is the library's time by that of the row before.
 fn growth(title: &str, effort: Effort, plans: &[Plan]) {
-    let columns = [
-        "n",
-        "T",
-        "records",
-        "library, ms",
-        "Rust, ms",
-        "ratio",
-        "growth",
-    ];
-    print_head(title, &columns);
+    print_head(title, &[&SIZES[..], &TIMES, &["growth"]].concat());
     let mut before: Option<Duration> = None;
     for plan in plans {
         let times = measure(plan, Question::Loads, effort);

@@ -29,9 +29,9 @@ impl Contact {
     /// The station to which this contact leads from a given one.
     #[inline]
     pub fn leads_from(&self, station: usize) -> Option<usize> {
-        let directions = self.directions().into_iter();
-        let mut from = directions.filter(|(from, _)| *from == station);
-        from.next().map(|(_, to)| to)
+        let directions = self.directions();
+        let from = directions.iter().find(|(from, _)| *from == station);
+        from.map(|(_, to)| *to)
     }
 
     /// The 6 bytes of a record, each field high byte first.
@@ -71,8 +71,11 @@ impl Appearance {
     /// The appearance that a contact brings after this one.
     #[inline]
     pub fn step(self, contact: Contact) -> Option<Appearance> {
+        if !follows(self.slot, contact.slot) {
+            return None;
+        }
         let station = contact.leads_from(self.station)?;
-        follows(self.slot, contact.slot).then_some(Appearance {
+        Some(Appearance {
             station,
             slot: contact.slot,
         })

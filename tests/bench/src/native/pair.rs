@@ -1,9 +1,10 @@
 //! Operation 4, pair.
 
 use lister::answer::{Answer, CallFault};
+use lister::plan::{Ends, PlanInput};
 
 use super::pass::{blocks, pass, Area, Task, NO_WALK};
-use super::plan::{check, check_pair, Call, Ends};
+use super::plan::{check, check_pair, work_length};
 
 /// Stores the through counts of a block of stations to a destination.
 fn store(through: &mut [u64], area: &Area, task: Task, destination: usize) {
@@ -25,14 +26,14 @@ fn store(through: &mut [u64], area: &Area, task: Task, destination: usize) {
 fn throughs(
     through: &mut [u64],
     work: &mut [u64],
-    call: Call,
+    input: PlanInput,
     (source, destination): Ends,
 ) -> Option<(u64, u64)> {
-    let n = call.stations;
+    let n = input.stations;
     let mut answer = (NO_WALK, 0);
-    for (low, block) in blocks(n, n.min(2 * call.slots)) {
+    for (low, block) in blocks(n, n.min(2 * input.slots)) {
         let task = Task { source, low, block };
-        let area = pass(work, call, task)?;
+        let area = pass(work, input, task)?;
         store(through, &area, task, destination);
         answer = (area.hops[destination], area.counts[destination]);
     }
@@ -40,13 +41,18 @@ fn throughs(
 }
 
 /// Operation 4: hops, count, and in the table how many of the paths have each station inside.
-pub fn pair(call: Call, ends: Ends, through: &mut [u64], work: &mut [u64]) -> Answer<(u64, u64)> {
-    check(call)?;
-    let n = call.stations;
-    check_pair(call, ends, (through.len(), n), work.len())?;
+pub fn pair(
+    input: PlanInput,
+    ends: Ends,
+    through: &mut [u64],
+    work: &mut [u64],
+) -> Answer<(u64, u64)> {
+    check(input)?;
+    let n = input.stations;
+    check_pair(input, ends, (through.len(), n), work.len())?;
     let through = &mut through[..n];
-    let work = &mut work[..call.work_length()];
-    let answer = throughs(through, work, call, ends);
+    let work = &mut work[..work_length(input)];
+    let answer = throughs(through, work, input, ends);
     if answer.is_none() {
         through.fill(0);
     }

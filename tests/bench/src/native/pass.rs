@@ -1,7 +1,9 @@
 //! The blocked forward pass: hops and counts from a source to every station, and for each station of
 //! a block how many shortest paths do not have it inside.
 
-use super::plan::{contacts, Call};
+use lister::plan::PlanInput;
+
+use super::plan::contacts;
 
 /// The hops of a station without a walk.
 pub const NO_WALK: u64 = 65535;
@@ -157,11 +159,11 @@ fn merge(hops: &mut u64, count: &mut u64, new: u64, walks: u64) {
 
 /// The pass: the records slot by slot, a slot's records sent on and then settled. None where an
 /// appearance or a station has a count over 2^64 - 1.
-pub fn pass<'a>(work: &'a mut [u64], call: Call, task: Task) -> Option<Area<'a>> {
-    let mut area = Area::new(work, call.stations, task);
+pub fn pass<'a>(work: &'a mut [u64], input: PlanInput, task: Task) -> Option<Area<'a>> {
+    let mut area = Area::new(work, input.stations, task);
     area.begin();
-    let mut records = contacts(call.plan).peekable();
-    for slot in 1..=call.slots {
+    let mut records = contacts(input.bytes).peekable();
+    for slot in 1..=input.slots {
         while let Some(contact) = records.next_if(|contact| contact.slot == slot) {
             area.send(contact.a, contact.b);
             area.send(contact.b, contact.a);

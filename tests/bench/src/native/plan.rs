@@ -1,27 +1,16 @@
 //! Records, operation 1 (check), and the causes 6 to 8 of a call.
+//!
+//! Reading and checking records is a part of what is timed, so it is written here and not taken from the
+//! lister.
 
-use lister::answer::{Answer, CallFault, PlanFault};
-use lister::lent::{appearances, long_enough};
-use lister::plan::{within_limits, Contact, MOST_CONTACTS, RECORD_BYTES};
+use lister::answer::{Answer, PlanFault};
+use lister::causes::{known_pair, long_enough};
+use lister::lent::scratch_length;
+use lister::plan::{within_limits, Contact, Ends, PlanInput, MOST_CONTACTS, RECORD_BYTES};
 
-/// The source and the destination of a pair.
-pub type Ends = (usize, usize);
-
-/// A plan as a call names it: its bytes, n and T.
-#[derive(Clone, Copy, Debug)]
-pub struct Call<'a> {
-    pub plan: &'a [u8],
-    /// n
-    pub stations: usize,
-    /// T
-    pub slots: usize,
-}
-
-impl Call<'_> {
-    /// The named entries of the work area.
-    pub fn work_length(&self) -> usize {
-        4 * appearances(self.stations, self.slots)
-    }
+/// The named entries of the work area.
+pub fn work_length(input: PlanInput) -> usize {
+    scratch_length(input.stations, input.slots)
 }
 
 /// The contact that 6 bytes hold, each field high byte first.
@@ -40,18 +29,18 @@ pub fn contacts(plan: &[u8]) -> impl DoubleEndedIterator<Item = Contact> + '_ {
 }
 
 /// Operation 1: whether the plan is accepted.
-pub fn check(call: Call) -> Answer<()> {
-    within_limits(call.stations, call.slots)?;
-    let size = call.plan.len();
+pub fn check(input: PlanInput) -> Answer<()> {
+    within_limits(input.stations, input.slots)?;
+    let size = input.bytes.len();
     if !size.is_multiple_of(RECORD_BYTES) || size / RECORD_BYTES > MOST_CONTACTS {
         return Err(PlanFault::Length.into());
     }
     let mut before: Option<Contact> = None;
-    for contact in contacts(call.plan) {
-        if contact.slot == 0 || contact.slot > call.slots {
+    for contact in contacts(input.bytes) {
+        if contact.slot == 0 || contact.slot > input.slots {
             return Err(PlanFault::Slot.into());
         }
-        if contact.a >= contact.b || contact.b >= call.stations {
+        if contact.a >= contact.b || contact.b >= input.stations {
             return Err(PlanFault::Stations.into());
         }
         if before.is_some_and(|before| contact <= before) {
@@ -64,17 +53,12 @@ pub fn check(call: Call) -> Answer<()> {
 
 /// Causes 6 to 8 of a call that names a pair and lends a buffer and a work area.
 pub fn check_pair(
-    call: Call,
-    (source, destination): Ends,
+    input: PlanInput,
+    ends: Ends,
     (lent, named): (usize, usize),
     work: usize,
 ) -> Answer<()> {
-    if source >= call.stations || destination >= call.stations {
-        return Err(CallFault::Station.into());
-    }
-    if source == destination {
-        return Err(CallFault::SameStation.into());
-    }
+    known_pair(input.stations, ends)?;
     long_enough(lent, named)?;
-    long_enough(work, call.work_length())
+    long_enough(work, work_length(input))
 }

@@ -1,10 +1,11 @@
 //! Operation 5, loads: every station's pairs and load, added up over all sources.
 
 use lister::answer::{Answer, CallFault};
-use lister::lent::long_enough;
+use lister::causes::long_enough;
+use lister::plan::PlanInput;
 
 use super::pass::{blocks, pass, Area, Task, NO_WALK};
-use super::plan::{check, Call};
+use super::plan::{check, work_length};
 use super::share::share;
 
 /// Adds a destination to every station of a block; `own` is the destination's place in the block.
@@ -35,9 +36,9 @@ fn add_rows(area: &Area, task: Task, pairs: &mut [u64], loads: &mut [u64]) {
 
 /// Adds up pairs and loads behind the pass's part of the work area. None where a count is over
 /// 2^64 - 1.
-fn tally<'a>(work: &'a mut [u64], call: Call) -> Option<(&'a [u64], &'a [u64])> {
-    let n = call.stations;
-    let most = n.min(2 * call.slots - 1);
+fn tally<'a>(work: &'a mut [u64], input: PlanInput) -> Option<(&'a [u64], &'a [u64])> {
+    let n = input.stations;
+    let most = n.min(2 * input.slots - 1);
     let (work, tallies) = work.split_at_mut(4 * n + 2 * n * most);
     let (pairs, rest) = tallies.split_at_mut(n);
     let loads = &mut rest[..n];
@@ -46,7 +47,7 @@ fn tally<'a>(work: &'a mut [u64], call: Call) -> Option<(&'a [u64], &'a [u64])> 
     for source in 0..n {
         for (low, block) in blocks(n, most) {
             let task = Task { source, low, block };
-            let area = pass(work, call, task)?;
+            let area = pass(work, input, task)?;
             add_rows(&area, task, pairs, loads);
         }
     }
@@ -54,15 +55,20 @@ fn tally<'a>(work: &'a mut [u64], call: Call) -> Option<(&'a [u64], &'a [u64])> 
 }
 
 /// Operation 5.
-pub fn loads(call: Call, pairs: &mut [u64], loads: &mut [u64], work: &mut [u64]) -> Answer<()> {
-    check(call)?;
-    let n = call.stations;
+pub fn loads(
+    input: PlanInput,
+    pairs: &mut [u64],
+    loads: &mut [u64],
+    work: &mut [u64],
+) -> Answer<()> {
+    check(input)?;
+    let n = input.stations;
     long_enough(pairs.len(), n)?;
     long_enough(loads.len(), n)?;
-    long_enough(work.len(), call.work_length())?;
+    long_enough(work.len(), work_length(input))?;
     let (pairs, loads) = (&mut pairs[..n], &mut loads[..n]);
-    let work = &mut work[..call.work_length()];
-    let answer = match tally(work, call) {
+    let work = &mut work[..work_length(input)];
+    let answer = match tally(work, input) {
         Some((pair_sums, load_sums)) => {
             pairs.copy_from_slice(pair_sums);
             loads.copy_from_slice(load_sums);

@@ -1,38 +1,17 @@
 //! The completion table, and the shortest paths of a pair in lexicographic order.
 
-use lister::plan::{Contact, RECORD_BYTES};
+use lister::plan::{Appearance, Contact, PlanInput, RECORD_BYTES};
 
 use super::pass::NO_WALK;
-use super::plan::{contact, contacts, Call};
+use super::plan::{contact, contacts};
 
 /// A pair of stations of an accepted plan, and its hops.
 #[derive(Clone, Copy, Debug)]
 pub struct Pair<'a> {
-    pub call: Call<'a>,
+    pub input: PlanInput<'a>,
     pub source: usize,
     pub destination: usize,
     pub hops: usize,
-}
-
-/// An appearance: a station, reached in a slot.
-#[derive(Clone, Copy, Debug)]
-struct Spot {
-    station: usize,
-    slot: usize,
-}
-
-impl Spot {
-    /// Where a contact leads from here.
-    fn step(self, contact: Contact) -> Option<Spot> {
-        if contact.slot <= self.slot {
-            return None;
-        }
-        let station = contact.other(self.station)?;
-        Some(Spot {
-            station,
-            slot: contact.slot,
-        })
-    }
 }
 
 /// Lowers an entry to one more than another, where that is less.
@@ -43,13 +22,13 @@ fn lower(table: &mut [u64], at: usize, from: usize) {
 }
 
 /// Fills the completion table of a destination: one pass back over the slots and the records.
-pub fn complete(table: &mut [u64], call: Call, destination: usize) {
-    let width = call.slots + 1;
-    let table = &mut table[..call.stations * width];
+pub fn complete(table: &mut [u64], input: PlanInput, destination: usize) {
+    let width = input.slots + 1;
+    let table = &mut table[..input.stations * width];
     table.fill(NO_WALK);
-    table[destination * width + call.slots] = 0;
-    let mut records = contacts(call.plan).rev().peekable();
-    for slot in (0..call.slots).rev() {
+    table[destination * width + input.slots] = 0;
+    let mut records = contacts(input.bytes).rev().peekable();
+    for slot in (0..input.slots).rev() {
         for row in table.chunks_exact_mut(width) {
             row[slot] = row[slot + 1];
         }
@@ -63,26 +42,23 @@ pub fn complete(table: &mut [u64], call: Call, destination: usize) {
 }
 
 /// Where positions lead from the source of a pair. No position is trusted.
-fn end_of(way: &[u16], pair: Pair) -> Option<Spot> {
-    let start = Spot {
-        station: pair.source,
-        slot: 0,
-    };
+fn end_of(way: &[u16], pair: Pair) -> Option<Appearance> {
+    let start = Appearance::start(pair.source);
     way.iter().try_fold(start, |spot, position| {
         let at = usize::from(*position) * RECORD_BYTES;
-        let record = pair.call.plan.get(at..at + RECORD_BYTES)?;
+        let record = pair.input.bytes.get(at..at + RECORD_BYTES)?;
         spot.step(contact(record))
     })
 }
 
 /// The first position from a given one on that leads home with so many hops left behind it.
-fn find(table: &[u64], pair: Pair, spot: Spot, need: u64, from: usize) -> Option<usize> {
-    let width = pair.call.slots + 1;
+fn find(table: &[u64], pair: Pair, spot: Appearance, need: u64, from: usize) -> Option<usize> {
+    let width = pair.input.slots + 1;
     let serves = |contact: Contact| {
         let next = spot.step(contact);
         next.is_some_and(|next| table[next.station * width + next.slot] == need)
     };
-    let later = contacts(pair.call.plan.get(from * RECORD_BYTES..)?);
+    let later = contacts(pair.input.bytes.get(from * RECORD_BYTES..)?);
     let found = { later }.position(serves)?;
     Some(from + found)
 }
