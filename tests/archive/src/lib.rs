@@ -105,38 +105,44 @@ fn size(slot: &mut u64) -> *mut usize {
     (slot as *mut u64).cast()
 }
 
-// SAFETY of each call below: each pointer comes with the length of its own slice, or is of a slot that
-// the caller lends.
+/// Calls a function that reads a plan: the plan, n and T come first.
+///
+/// SAFETY of each call: each pointer comes with the length of its own slice, or is of a slot that the
+/// caller lends.
+macro_rules! on_plan {
+    ($function:expr, $input:expr $(, $argument:expr)*) => {
+        unsafe {
+            $function(
+                $input.bytes.as_ptr(),
+                $input.bytes.len(),
+                $input.stations,
+                $input.slots
+                $(, $argument)*
+            )
+        }
+    };
+}
 
 /// Operation 1.
 pub fn check(input: PlanInput) -> u32 {
-    let PlanInput {
-        bytes,
-        stations: n,
-        slots: t,
-    } = input;
-    unsafe { joftaki_check(bytes.as_ptr(), bytes.len(), n, t) }
+    on_plan!(joftaki_check, input)
 }
 
 /// Operation 2.
 pub fn reach(input: PlanInput, source: usize, tables: ReachTables) -> u32 {
-    unsafe {
-        joftaki_reach(
-            input.bytes.as_ptr(),
-            input.bytes.len(),
-            input.stations,
-            input.slots,
-            source,
-            tables.appearance_hops.as_mut_ptr(),
-            tables.appearance_hops.len(),
-            tables.appearance_counts.as_mut_ptr(),
-            tables.appearance_counts.len(),
-            tables.station_hops.as_mut_ptr(),
-            tables.station_hops.len(),
-            tables.station_counts.as_mut_ptr(),
-            tables.station_counts.len(),
-        )
-    }
+    on_plan!(
+        joftaki_reach,
+        input,
+        source,
+        tables.appearance_hops.as_mut_ptr(),
+        tables.appearance_hops.len(),
+        tables.appearance_counts.as_mut_ptr(),
+        tables.appearance_counts.len(),
+        tables.station_hops.as_mut_ptr(),
+        tables.station_hops.len(),
+        tables.station_counts.as_mut_ptr(),
+        tables.station_counts.len()
+    )
 }
 
 /// Operation 3, on the n and T of an input.
@@ -149,12 +155,14 @@ pub fn row(
 ) -> u32 {
     let (n, t) = (input.stations, input.slots);
     let (offset, length) = (size(offset), size(length));
+    // SAFETY: as above.
     unsafe { joftaki_row(table.as_ptr(), table.len(), n, t, station, offset, length) }
 }
 
 /// The sister of operation 3, on the n and T of an input.
 pub fn row_number(input: PlanInput, station: usize, table: &[u64]) -> u32 {
     let (n, t) = (input.stations, input.slots);
+    // SAFETY: as above.
     unsafe { joftaki_row_number(table.as_ptr(), table.len(), n, t, station) }
 }
 
@@ -167,51 +175,38 @@ pub fn pair(
     through: &mut [u64],
     work: &mut [u64],
 ) -> u32 {
-    unsafe {
-        joftaki_pair(
-            input.bytes.as_ptr(),
-            input.bytes.len(),
-            input.stations,
-            input.slots,
-            source,
-            destination,
-            hops,
-            count,
-            through.as_mut_ptr(),
-            through.len(),
-            work.as_mut_ptr(),
-            work.len(),
-        )
-    }
+    on_plan!(
+        joftaki_pair,
+        input,
+        source,
+        destination,
+        hops,
+        count,
+        through.as_mut_ptr(),
+        through.len(),
+        work.as_mut_ptr(),
+        work.len()
+    )
 }
 
 /// Operation 5.
 pub fn loads(input: PlanInput, pairs: &mut [u64], loads: &mut [u64], work: &mut [u64]) -> u32 {
-    unsafe {
-        joftaki_loads(
-            input.bytes.as_ptr(),
-            input.bytes.len(),
-            input.stations,
-            input.slots,
-            pairs.as_mut_ptr(),
-            pairs.len(),
-            loads.as_mut_ptr(),
-            loads.len(),
-            work.as_mut_ptr(),
-            work.len(),
-        )
-    }
+    on_plan!(
+        joftaki_loads,
+        input,
+        pairs.as_mut_ptr(),
+        pairs.len(),
+        loads.as_mut_ptr(),
+        loads.len(),
+        work.as_mut_ptr(),
+        work.len()
+    )
 }
 
 /// Operation 6.
 pub fn busiest(input: PlanInput, station: &mut u64, work: &mut [u64]) -> u32 {
-    let PlanInput {
-        bytes,
-        stations: n,
-        slots: t,
-    } = input;
-    let (station, area, length) = (size(station), work.as_mut_ptr(), work.len());
-    unsafe { joftaki_busiest(bytes.as_ptr(), bytes.len(), n, t, station, area, length) }
+    let (area, length) = (work.as_mut_ptr(), work.len());
+    on_plan!(joftaki_busiest, input, size(station), area, length)
 }
 
 /// Operations 7 and 8.
@@ -227,19 +222,15 @@ pub fn way(
         Way::First => joftaki_first_way,
         Way::Next => joftaki_next_way,
     };
-    unsafe {
-        function(
-            input.bytes.as_ptr(),
-            input.bytes.len(),
-            input.stations,
-            input.slots,
-            source,
-            destination,
-            size(hops),
-            buffer.as_mut_ptr(),
-            buffer.len(),
-            work.as_mut_ptr(),
-            work.len(),
-        )
-    }
+    on_plan!(
+        function,
+        input,
+        source,
+        destination,
+        size(hops),
+        buffer.as_mut_ptr(),
+        buffer.len(),
+        work.as_mut_ptr(),
+        work.len()
+    )
 }

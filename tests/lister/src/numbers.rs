@@ -95,10 +95,10 @@ impl Appearances {
         let mut summed = row.start;
         let mut sum: u128 = 0;
         row.map(move |at| {
-            for earlier in summed..self.followed[at].end {
-                sum = sum.saturating_add(entries[earlier]);
-            }
-            summed = self.followed[at].end;
+            let end = self.followed[at].end;
+            let more = entries[summed..end].iter().copied();
+            sum = more.fold(sum, u128::saturating_add);
+            summed = end;
             (at, sum)
         })
     }
