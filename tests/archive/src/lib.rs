@@ -180,7 +180,7 @@ pub fn pair(
         input,
         source,
         destination,
-        hops,
+        size(hops),
         count,
         through.as_mut_ptr(),
         through.len(),

@@ -9,7 +9,7 @@ pub fn pair(
     ends: Ends,
     through: &mut [u64],
     work: &mut [u64],
-) -> (u32, usize, u64) {
+) -> (u32, u64, u64) {
     let (mut hops, mut count) = (0, 0);
     let number = archive::pair(input, ends, &mut hops, &mut count, through, work);
     (number, hops, count)

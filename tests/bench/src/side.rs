@@ -8,7 +8,7 @@ use lister::ways::Way;
 use crate::{library, native};
 
 /// Pair: the number, the hops and the count.
-type PairOf = fn(PlanInput, Ends, &mut [u64], &mut [u64]) -> (u32, usize, u64);
+type PairOf = fn(PlanInput, Ends, &mut [u64], &mut [u64]) -> (u32, u64, u64);
 
 /// First way or next way: the number and the hops.
 type WayOf = fn(Way, PlanInput, Ends, &mut [u16], &mut [u64]) -> (u32, usize);
@@ -49,10 +49,10 @@ fn rust_pair(
     ends: Ends,
     through: &mut [u64],
     work: &mut [u64],
-) -> (u32, usize, u64) {
+) -> (u32, u64, u64) {
     let answer = native::pair::pair(input, ends, through, work);
     let (hops, count) = beside(&answer);
-    (number(&answer).into(), hops as usize, count)
+    (number(&answer).into(), hops, count)
 }
 
 #[inline(never)]
