@@ -17,11 +17,13 @@ use Rattle.counting.proofs.Fewest.{fewest-intro}
 use Rattle.counting.proofs.Recurrence.{before, atAppearance, arrivals-zero, before-zero, settle, start-here}
 use Rattle.counting.proofs.Recurrence.{start-other}
 use Rattle.counting.proofs.Through.{avoiding}
+use Rattle.entries.specs.Entry.{stored}
+use Rattle.entries.proofs.CountLaws.{stored-small}
 use Rattle.pass.specs.Row.{filled, rowAt}
 use Rattle.pass.specs.Sweep.{begun, Area}
 use Rattle.pass.proofs.RowLaws.{filled-length, filled-other, filled-at}
 use Rattle.pass.proofs.PlaceLaws.{row-settled, row-before, set-twice-length}
-use Rattle.pass.proofs.BestLaws.{Best, best-same, best-none, stored, stored-small}
+use Rattle.pass.proofs.BestLaws.{Best, best-same, best-none}
 use Rattle.pass.proofs.StateLaws.{State}
 use Rattle.pass.proofs.PlanWalks.{kept, walksAt}
 
@@ -193,7 +195,9 @@ begun-state p s low n block w area inside =
     source =
         let one = kept-source p s everywhere refl in
         record {
-          fewest = fewest-intro (omega arith) (omega arith) (λ k q. absurd (omega arith));
-          count = sym (ap stored one ∙ stored-small 1 (omega arith));
+          entry = record {
+            fewest = fewest-intro (omega arith) (omega arith) (λ k q. absurd (omega arith));
+            count = sym (ap stored one ∙ stored-small 1 (omega arith));
+          };
           row = λ j q g. sym (ap (λ x. x % 2 ^ 64) (kept-source p s (avoiding s (low + j)) (source-open s (low + j))));
         }

@@ -26,9 +26,12 @@ use Rattle.counting.proofs.Fewest.{Fewest, fewest-ext, fewest-unique, fewest-sh
 use Rattle.counting.proofs.Recurrence.{atAppearance, whole-station, start-later}
 use Rattle.counting.proofs.Through.{avoiding, through-avoiding}
 use Rattle.pass.specs.Row.{rowAt}
-use Rattle.pass.specs.Entry.{overflows}
+use Rattle.entries.specs.Entry.{stored}
+use Rattle.entries.proofs.CountLaws.{stored-small}
+use Rattle.entries.proofs.EntryLaws.{Large, Small, overflow-large, overflow-small}
+use Rattle.pass.specs.Entry.{areaOverflows}
 use Rattle.pass.specs.Passed.{Counted}
-use Rattle.pass.proofs.BestLaws.{Best, stored, stored-small, Large, Small, overflow-large, overflow-small}
+use Rattle.pass.proofs.BestLaws.{Best}
 use Rattle.pass.proofs.StateLaws.{State}
 use Rattle.pass.proofs.PlanWalks.{kept, walksAt}
 
@@ -163,20 +166,19 @@ module _ (bs : List ℕ) (n t : ℕ) (ok : planFault bs n t ≡ 0) (s : ℕ) whe
 
     -- a station's settled entry overflows just where its count is over 2^64 - 1
     pub station-overflows : (z : ℕ) → z < n
-        → overflows n w z ≡ ltb 18446744073709551615 (count (shortestPaths (planOf bs n t) s z))
-    unfolding overflows
-    station-overflows z q = go (overflows n w z) refl
+        → areaOverflows n w z ≡ ltb 18446744073709551615 (count (shortestPaths (planOf bs n t) s z))
+    station-overflows z q = go (areaOverflows n w z) refl
       where
-        go : (b : Bool) → overflows n w z ≡ b → b ≡ ltb 18446744073709551615 (count (shortestPaths (planOf bs n t) s z))
+        go : (b : Bool) → areaOverflows n w z ≡ b → b ≡ ltb 18446744073709551615 (count (shortestPaths (planOf bs n t) s z))
         go true e =
-            let large = overflow-large (entry z q) e in
+            let large = overflow-large (entry z q .entry) e in
             let same = fewest-unique (large .fewest) (station-fewest z) in
             let big =
             subst (λ x. 18446744073709551615 < kept (planOf bs n t) s everywhere z (t + 1) x) same (large .large) in
             sym (lt-ltb 18446744073709551615 (count (shortestPaths (planOf bs n t) s z))
             (omega (arith, station-count z)))
         go false e =
-            let small = overflow-small (entry z q) e .small _ (station-fewest z) in
+            let small = overflow-small (entry z q .entry) e .small _ (station-fewest z) in
             sym (le-ltb 18446744073709551615 (count (shortestPaths (planOf bs n t) s z))
             (omega (arith, station-count z)))
 
@@ -188,7 +190,7 @@ module _ (bs : List ℕ) (n t : ℕ) (ok : planFault bs n t ≡ 0) (s : ℕ) whe
           station-hops = at-hops;
           station-counts = λ z q.
               let place : n + z ≡ z + n = omega arith in
-              rw place (entry z q .count
+              rw place (entry z q .entry .count
               ∙ ap (λ h. stored (kept (planOf bs n t) s everywhere z (t + 1) h)) (at-hops z q)
               ∙ ap stored (sym (station-count z))
               ∙ stored-small _ (small z q));
@@ -196,7 +198,7 @@ module _ (bs : List ℕ) (n t : ℕ) (ok : planFault bs n t ≡ 0) (s : ℕ) whe
         }
       where
         at-hops : (z : ℕ) → z < n → getD w z 0 ≡ hops (shortestPaths (planOf bs n t) s z)
-        at-hops z q = fewest-unique (entry z q .fewest) (station-fewest z)
+        at-hops z q = fewest-unique (entry z q .entry .fewest) (station-fewest z)
 
         at-rows : (z c : ℕ) → z < n → c < block → low + c ≢ z → hops (shortestPaths (planOf bs n t) s z) < 65535
             → getD w (4 * n + z * block + c) 0 + through (planOf bs n t) s z (low + c)

@@ -1,8 +1,7 @@
--- what the inner functions leave: rows, entries, places of the work area, a search
+-- what the inner functions leave: rows, entries, places of the work area
 mod RowLaws
 mod EntryLaws
 mod PlaceLaws
-mod SearchLaws
 -- an entry against sequences of numbers of walks, every place after a change, and the state of the work area
 mod BestLaws
 mod TookLaws

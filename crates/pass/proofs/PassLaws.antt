@@ -22,7 +22,7 @@ use Rattle.temporal.proofs.Accepted.{accepted}
 use Rattle.temporal.proofs.CheckLaws.{below-slot}
 use Rattle.temporal.proofs.PlanLaws.{contact-there, contact-inv, contacts-length, slots-within}
 use Rattle.counting.proofs.Weights.{everywhere}
-use Rattle.pass.specs.Entry.{overflows}
+use Rattle.pass.specs.Entry.{areaOverflows}
 use Rattle.pass.specs.Sweep.{folded, sweep, settledFrom, begun, inSlot, Area, Foldable}
 use Rattle.pass.specs.Passed.{areaSize, Ready, Passed}
 use Rattle.pass.proofs.PlaceLaws.{area-kept}
@@ -227,14 +227,14 @@ module _ (bs : List ℕ) (n t s low block : ℕ) (old : List ℕ) (ready : Ready
 
   -- past the last slot the stations' counts are looked at
   pub passed-end : (u j : ℕ) (w : List ℕ) (r : Bool) → Passing bs n t s low block old u j w → t < u
-      → r ≡ any (overflows n w) (below n)
+      → r ≡ any (areaOverflows n w) (below n)
       → Passed bs n t s low block old w r
   passed-end u j w r x past e =
       record {
-        too-many = e ∙ too-many-station bs n t ok s (overflows n w) (λ v y q h. x .small v y q (omega arith)) exact;
+        too-many = e ∙ too-many-station bs n t ok s (areaOverflows n w) (λ v y q h. x .small v y q (omega arith)) exact;
         counted = λ q. counted bs n t ok s low block old w j state (λ z h.
             ltb-false 18446744073709551615 (count (shortestPaths (planOf bs n t) s z))
-            (sym (exact z h) ∙ any-false (overflows n w) (below n) .0 (sym e ∙ q) z (mem-below n .1 h)));
+            (sym (exact z h) ∙ any-false (areaOverflows n w) (below n) .0 (sym e ∙ q) z (mem-below n .1 h)));
         beyond = drop-same (areaSize n block) w old (state .same) (state .beyond);
         same-length = state .same;
       }
@@ -244,7 +244,7 @@ module _ (bs : List ℕ) (n t s low block : ℕ) (old : List ℕ) (ready : Ready
           let end : u ≡ t + 1 = let l = x .last in omega arith in
           subst (λ y. State n block old (walksAt (planOf bs n t) s low y j) w) end (x .state)
 
-      exact : (z : ℕ) → z < n → overflows n w z ≡ ltb 18446744073709551615 (count (shortestPaths (planOf bs n t) s z))
+      exact : (z : ℕ) → z < n → areaOverflows n w z ≡ ltb 18446744073709551615 (count (shortestPaths (planOf bs n t) s z))
       exact = station-overflows bs n t ok s low block old w j state
 
 -- ---- the beginning is not the work area at entry

@@ -16,7 +16,7 @@ use Rattle.pass.specs.Row.{filled, rowAt}
 use Rattle.pass.specs.Entry.{merged, absorbed, Absorbable}
 use Rattle.pass.specs.Sweep.{sent, folded, masked, settledOne, sweep, settledNext, settledFrom, begun, Area}
 use Rattle.pass.specs.Sweep.{Foldable}
-use Rattle.pass.proofs.EntryLaws.{overflows-some, overflows-none}
+use Rattle.entries.proofs.CountLaws.{overflows-some, overflows-none}
 
 -- a row ends where a later one begins, or before
 pub row-before : (block e f : ℕ) → e < f → e * block + block ≤ f * block
@@ -144,7 +144,7 @@ module _ (n block s low : ℕ) (w : List ℕ) (v : ℕ) where
       → sweep true (set (set two (2 * n + v) 65535) (2 * n + v + n) 0) ≡ settledNext n block s low (sweep over w) v
   unfolding settledNext
   settled-over over row from one two a b some first second big =
-      rw (overflows-some n w (2 * n + v) some, eq-eqb (getD w (2 * n + v + n) 0) 0 big, or-true over)
+      rw (overflows-some (getD w (2 * n + v) 0) (getD w (2 * n + v + n) 0) some, eq-eqb (getD w (2 * n + v + n) 0) 0 big, or-true over)
       (ap (sweep true) (settled-some row from one two a b some first second))
 
   -- it is not
@@ -156,7 +156,7 @@ module _ (n block s low : ℕ) (w : List ℕ) (v : ℕ) where
       → sweep over (set (set two (2 * n + v) 65535) (2 * n + v + n) 0) ≡ settledNext n block s low (sweep over w) v
   unfolding settledNext
   settled-within over row from one two a b some first second small =
-      rw (overflows-some n w (2 * n + v) some, ne-eqb (getD w (2 * n + v + n) 0) 0 small, or-false over)
+      rw (overflows-some (getD w (2 * n + v) 0) (getD w (2 * n + v + n) 0) some, ne-eqb (getD w (2 * n + v + n) 0) 0 small, or-false over)
       (ap (sweep over) (settled-some row from one two a b some first second))
 
   -- nothing is pending
@@ -164,7 +164,7 @@ module _ (n block s low : ℕ) (w : List ℕ) (v : ℕ) where
       → sweep over w ≡ settledNext n block s low (sweep over w) v
   unfolding settledNext settledOne
   settled-none over none =
-      rw (overflows-none n w (2 * n + v) none, or-false over, le-ltb (getD w (2 * n + v) 0) 65535 none)
+      rw (overflows-none (getD w (2 * n + v) 0) (getD w (2 * n + v + n) 0) none, or-false over, le-ltb (getD w (2 * n + v) 0) 65535 none)
 
 -- the stations below v of n are settled
 pub record Settling (n block s low : ℕ) (old : List ℕ) (v : ℕ) (over : Bool) (now : List ℕ) : Type 0 where

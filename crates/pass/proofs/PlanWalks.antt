@@ -201,7 +201,7 @@ module _ (p : Plan) (fits : SlotsWithin p) (few : p .slots ≤ 255) (s low n blo
   unfolding folded walksAt walksHalf
   folded-state u j c w there slot ha hb apart state =
       sent-state n block old area (walksHalf p s low u j c) (walksAt p s low u (j + 1)) (sent n block w (c .a) (c .b))
-      (c .b) (c .a) hb ha (sound-half p s low u j c) first (one-more (c .b) u (first .settled (c .b) hb .fewest))
+      (c .b) (c .a) hb ha (sound-half p s low u j c) first (one-more (c .b) u (first .settled (c .b) hb .entry .fewest))
       (λ v k. refl) (λ v x k. refl)
       (whole-a p s everywhere j c u there slot apart)
       (λ x. whole-a p s (avoiding s (low + x)) j c u there slot apart)
@@ -211,7 +211,7 @@ module _ (p : Plan) (fits : SlotsWithin p) (few : p .slots ≤ 255) (s low n blo
       first : State n block old (walksHalf p s low u j c) (sent n block w (c .a) (c .b))
       first =
           sent-state n block old area (walksAt p s low u j) (walksHalf p s low u j c) w (c .a) (c .b) ha hb
-          (sound-at p s low u j) state (one-more (c .a) u (state .settled (c .a) ha .fewest))
+          (sound-at p s low u j) state (one-more (c .a) u (state .settled (c .a) ha .entry .fewest))
           (λ v k. refl) (λ v x k. refl)
           (half-b p s everywhere j c u) (λ x. half-b p s (avoiding s (low + x)) j c u)
           (λ v k. half-other p s everywhere j c u v k)

@@ -12,14 +12,14 @@ use lib.Dec.{ltb}
 use lib.ListN.{getD}
 use Rattle.counting.proofs.Fewest.{plus}
 use Rattle.counting.proofs.Through.{avoiding}
+use Rattle.entries.proofs.EntryLaws.{plus-none, Large, Small, overflow-large, overflow-small}
 use Rattle.pass.specs.Row.{rowAt}
-use Rattle.pass.specs.Entry.{overflows}
+use Rattle.pass.specs.Entry.{areaOverflows}
 use Rattle.pass.specs.Sweep.{settledOne, Sweep, sweep, settledNext, settledFrom, Area}
 use Rattle.pass.proofs.PlaceLaws.{row-before, area-kept}
-use Rattle.pass.proofs.BestLaws.{best-ext, best-same, best-none, best-merge, best-masked, Large, Small}
-use Rattle.pass.proofs.BestLaws.{overflow-large, overflow-small}
+use Rattle.pass.proofs.BestLaws.{best-ext, best-same, best-none, best-merge, best-masked}
 use Rattle.pass.proofs.TookLaws.{Settled, settled-took}
-use Rattle.pass.proofs.StateLaws.{Walks, Sound, State, state-ext, Holds, row-outside, added}
+use Rattle.pass.proofs.StateLaws.{Walks, Sound, State, state-ext, Holds, row-outside}
 
 settled-none : (n block s low : ℕ) (w : List ℕ) (v : ℕ) → 65535 ≤ getD w (2 * n + v) 0
     → settledOne n block s low w v ≡ w
@@ -57,16 +57,16 @@ module _ (n block : ℕ) (old : List ℕ) (area : Area n block old) (s low : ℕ
 
       nothing : 65535 ≤ getD w (2 * n + b) 0 → State n block old y (settledOne n block s low w b)
       nothing q =
-          let f = state .pending b hb .fewest in
+          let f = state .pending b hb .entry .fewest in
           let none : (k : ℕ) → x .pending b k ≡ 0 = f .never (let g = f .bound in omega arith) in
           rw (settled-none n block s low w b q) (state-ext (record {
             settled = λ v i k. by-cases (ℕ-discrete v b)
-                (λ e. rw e (added (x .settled b) (x .pending b) k (none k) ∙ z .settled k))
+                (λ e. rw e (plus-none (x .settled b) (x .pending b) k (none k) ∙ z .settled k))
                 (z .others-settled v k);
             settled-avoiding = λ v i j k. by-cases (ℕ-discrete v b)
                 (λ e. rw e
                 (chosen (avoiding s (low + j) b) _ _
-                (added (x .settled-avoiding b j) (x .pending-avoiding b j) k
+                (plus-none (x .settled-avoiding b j) (x .pending-avoiding b j) k
                 (omega (arith, z .sound .pending b j k, none k)))
                 (z .closed j k)
                 ∙ z .avoids j k))
@@ -226,7 +226,7 @@ or-none false b e = (refl, e)
 module _ (n block : ℕ) (old : List ℕ) (area : Area n block old) (s low : ℕ) (x y : Walks) (z : Settles s low x y) where
   swept : (k v : ℕ) (b : Sweep) → v + k ≡ n → State n block old (between v x y) (b .work)
       → Swept n block old x y v b (settledFrom n block s low b v k)
-  unfolding settledFrom settledNext overflows between
+  unfolding settledFrom settledNext between
   swept zero v b e state =
       record {
         state = state-ext (record {
@@ -263,15 +263,15 @@ module _ (n block : ℕ) (old : List ℕ) (area : Area n block old) (s low : ℕ
             state = r .state;
             over = λ q. ⊎-elim
                 (λ h. ⊎-elim inl
-                (λ o. inr (record { station = v; inside = omega arith; large = overflow-large holds o }))
-                (or-inv (b .over) (overflows n (b .work) (2 * n + v)) h))
+                (λ o. inr (record { station = v; inside = omega arith; large = overflow-large (holds .entry) o }))
+                (or-inv (b .over) (areaOverflows n (b .work) (2 * n + v)) h))
                 inr (r .over q);
             within = λ q.
                 let (a, rest) = r .within q in
-                let (c, d) = or-none (b .over) (overflows n (b .work) (2 * n + v)) a in (
+                let (c, d) = or-none (b .over) (areaOverflows n (b .work) (2 * n + v)) a in (
                   c,
                   λ u from inside. by-cases (ℕ-discrete u v)
-                      (λ same. rw same (overflow-small holds d)) (λ ne. rest u (omega arith) inside),
+                      (λ same. rw same (overflow-small (holds .entry) d)) (λ ne. rest u (omega arith) inside),
                 );
           }
 

@@ -9,7 +9,8 @@ use mathlib.Core.Logic.{_⊎_, inl, inr, by-cases, _≢_}
 use lib.ListN.{length, getD}
 use Rattle.counting.proofs.Fewest.{plus, delayed}
 use Rattle.pass.specs.Row.{mergedRow, rowAt}
-use Rattle.pass.specs.Entry.{mergedCount}
+use Rattle.entries.specs.Entry.{mergedCount}
+use Rattle.entries.proofs.EntryLaws.{delayed-zero, plus-none}
 use Rattle.pass.specs.Sweep.{sent, Area}
 use Rattle.pass.proofs.PlaceLaws.{row-before, absorbable, area-kept, sent-row, sent-pruned, sent-none}
 use Rattle.pass.proofs.BestLaws.{Best, best-ext, best-same, best-merge, best-delayed, row-more}
@@ -46,17 +47,6 @@ pub delayed-less : {N M : ℕ → ℕ} → ((k : ℕ) → M k ≤ N k) → (k : 
 unfolding delayed
 delayed-less h zero = omega arith
 delayed-less h (suc k) = h k
-
--- none are none one hop later
-delayed-zero : {N : ℕ → ℕ} → ((k : ℕ) → N k ≡ 0) → (k : ℕ) → delayed N k ≡ 0
-unfolding delayed
-delayed-zero z zero = refl
-delayed-zero z (suc k) = z k
-
--- adding none changes nothing
-pub added : (N M : ℕ → ℕ) (k : ℕ) → M k ≡ 0 → N k ≡ plus N M k
-unfolding plus
-added N M k z = omega arith
 
 -- sequences that agree for the stations
 pub record Agree (n : ℕ) (x y : Walks) : Type 0 where
@@ -151,17 +141,17 @@ module _ (n block : ℕ) (old : List ℕ) (area : Area n block old) where
 
       nothing : 65535 ≤ getD w a 0 → State n block old y (sent n block w a b)
       nothing q =
-          let f = s .settled a ha .fewest in
+          let f = s .settled a ha .entry .fewest in
           let none : (k : ℕ) → x .settled a k ≡ 0 = f .never (let g = f .bound in omega arith) in
           rw (sent-none n block w a b q) (state-ext (record {
             settled = λ v i. es v;
             settled-avoiding = λ v i. esa v;
             pending = λ v i k. by-cases (ℕ-discrete v b)
-                (λ e. rw e (added (x .pending b) (delayed (x .settled a)) k (delayed-zero none k) ∙ here k))
+                (λ e. rw e (plus-none (x .pending b) (delayed (x .settled a)) k (delayed-zero none k) ∙ here k))
                 (λ d. ep v k d);
             pending-avoiding = λ v i j k. by-cases (ℕ-discrete v b)
                 (λ e. rw e
-                (added (x .pending-avoiding b j) (delayed (x .settled-avoiding a j)) k
+                (plus-none (x .pending-avoiding b j) (delayed (x .settled-avoiding a j)) k
                 (delayed-zero (λ k. omega (arith, sound .settled a j k, none k)) k)
                 ∙ herea j k))
                 (λ d. epa v j k d);

@@ -13,7 +13,8 @@ use lib.ListN.{length, getD, set, length-set}
 use lib.Seq.{getD-set-same, getD-set-other, lt-length-set}
 use Rattle.counting.proofs.Through.{avoiding}
 use Rattle.pass.specs.Row.{combined, mergedRow, rowAt}
-use Rattle.pass.specs.Entry.{mergedCount, merged, absorbed, Absorbable}
+use Rattle.entries.specs.Entry.{mergedCount}
+use Rattle.pass.specs.Entry.{merged, absorbed, Absorbable}
 use Rattle.pass.specs.Sweep.{masked, settledOne, Area}
 use Rattle.pass.proofs.RowLaws.{combined-length, combined-other, combined-at}
 use Rattle.pass.proofs.EntryLaws.{merged-length}

@@ -1,20 +1,11 @@
--- Hops and counts in the work area: an entry has its hops at a place and its count n places later. 65535 hops stand for
--- no walk. A count of 0 beside fewer hops stands for one over 2^64 - 1. Definitions only.
+-- Entries in the work area: an entry has its hops at a place and its count n places later. Definitions only.
 -- Assumes nothing.
-use Prim.Native.Nat.{ℕ, _+_, _-_, _*_, _<_, _≤_, min}
-use mathlib.Core.Bool.{Bool, cond, _&&_, _||_}
+use Prim.Native.Nat.{ℕ, _+_, _*_, _<_, _≤_, min}
+use mathlib.Core.Bool.{Bool}
 use mathlib.Core.List.{List}
-use lib.Dec.{ltb, eqb}
 use lib.ListN.{length, getD, set}
+use Rattle.entries.specs.Entry.{mergedCount, overflows}
 use Rattle.pass.specs.Row.{combined, mergedRow}
-
--- the sum of two counts; one over 2^64 - 1 stays so
-unfoldable pub addCounts : ℕ → ℕ → ℕ
-addCounts a b = cond (eqb a 0 || eqb b 0) 0 (cond (ltb (18446744073709551615 - a) b) 0 (a + b))
-
--- the count beside the fewer of two hops; both counts where the hops are equal
-unfoldable pub mergedCount : ℕ → ℕ → ℕ → ℕ → ℕ
-mergedCount h c l d = cond (ltb l h) d (cond (eqb l h) (addCounts c d) c)
 
 -- d walks of l hops are taken into the entry at a place
 unfoldable pub merged : ℕ → List ℕ → ℕ → ℕ → ℕ → List ℕ
@@ -26,8 +17,8 @@ unfoldable pub absorbed : ℕ → ℕ → List ℕ → ℕ → ℕ → ℕ → �
 absorbed n block w at row from l d = merged n (combined (mergedRow (getD w at 0) l) w row from block) at l d
 
 -- whether the entry at a place has a count over 2^64 - 1
-unfoldable pub overflows : ℕ → List ℕ → ℕ → Bool
-overflows n w at = ltb (getD w at 0) 65535 && eqb (getD w (at + n) 0) 0
+abbrev pub areaOverflows : ℕ → List ℕ → ℕ → Bool
+areaOverflows n w at = overflows (getD w at 0) (getD w (at + n) 0)
 
 -- what taking in asks: the entry lies before the rows, and the rows within the list
 pub record Absorbable (n block : ℕ) (w : List ℕ) (at row from : ℕ) : Type 0 where

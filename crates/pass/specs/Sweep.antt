@@ -10,7 +10,7 @@ use lib.ListN.{length, getD, set}
 use Rattle.temporal.specs.Plan.{Contact}
 use Rattle.temporal.specs.Bytes.{contactAt, records}
 use Rattle.pass.specs.Row.{filled, rowAt}
-use Rattle.pass.specs.Entry.{merged, absorbed, overflows}
+use Rattle.pass.specs.Entry.{merged, absorbed, areaOverflows}
 
 -- What is settled for v goes on over one hop more, to what is pending for x. The row stays where the settled entry of x
 -- has fewer hops: it is not looked at.
@@ -56,7 +56,7 @@ sweep b w = record { over = b; work = w }
 -- station v is settled
 unfoldable pub settledNext : ℕ → ℕ → ℕ → ℕ → Sweep → ℕ → Sweep
 settledNext n block s low x v =
-    sweep (x .over || overflows n (x .work) (2 * n + v)) (settledOne n block s low (x .work) v)
+    sweep (x .over || areaOverflows n (x .work) (2 * n + v)) (settledOne n block s low (x .work) v)
 
 -- k stations from v on are settled
 unfoldable pub settledFrom : ℕ → ℕ → ℕ → ℕ → Sweep → ℕ → ℕ → Sweep

@@ -7,7 +7,7 @@ ghost use lib.ListN.{length, getD};
 ghost use Rattle.temporal.specs.Lists.{any, below};
 ghost use Rattle.temporal.specs.Bytes.{contactAt};
 ghost use Rattle.pass.specs.Row.{combined, second, wrapped, mergedRow, filled, rowAt, Rows};
-ghost use Rattle.pass.specs.Entry.{addCounts, merged, absorbed, overflows, Absorbable};
+ghost use Rattle.pass.specs.Entry.{merged, absorbed, areaOverflows, Absorbable};
 ghost use Rattle.pass.specs.Sweep.{
   sent,
   folded,
@@ -72,22 +72,6 @@ fn fill(work: &mut [u64], to: usize, size: usize, x: u64)
     }
 }
 
-// The sum of two counts. 0 stands for a count over 2^64 - 1 and stays.
-fn add_counts(a: u64, b: u64) -> u64
-    ensures { λ r. ⌜ r ≡ addCounts a b ⌝ }
-{
-    if a == 0 {
-        return 0;
-    }
-    if b == 0 {
-        return 0;
-    }
-    if 18446744073709551615 - a < b {
-        return 0;
-    }
-    a + b
-}
-
 // Takes d walks of l hops into the entry at a place.
 fn merge(work: &mut [u64], n: usize, at: usize, l: u64, d: u64)
     requires { ⌜ at + n < length (now work) ⌝ }
@@ -101,7 +85,7 @@ fn merge(work: &mut [u64], n: usize, at: usize, l: u64, d: u64)
         return;
     }
     if l == old {
-        work[counted] = add_counts(work[counted], d);
+        work[counted] = entries::add_counts(work[counted], d);
     }
 }
 
@@ -251,25 +235,14 @@ fn begin(work: &mut [u64], n: usize, block: usize, source: usize)
     fill(work, row, block, 1);
 }
 
-// Whether the entry at a place has a count over 2^64 - 1.
-fn entry_overflows(work: &[u64], n: usize, at: usize) -> bool
-    requires { ⌜ at + n < length (now work) ⌝ }
-    ensures { λ r. ⌜ r ≡ overflows n (now (work .entry)) at ⌝ }
-{
-    if work[at] < 65535 {
-        return work[at + n] == 0;
-    }
-    false
-}
-
 // Whether the settled entry of some station has a count over 2^64 - 1.
 fn any_overflows(work: &[u64], n: usize) -> bool
     requires { ⌜ 2 * n ≤ length (now work) ⌝ }
-    ensures { λ r. ⌜ r ≡ any (overflows n (now (work .entry))) (below n) ⌝ }
+    ensures { λ r. ⌜ r ≡ any (areaOverflows n (now (work .entry))) (below n) ⌝ }
 {
     let mut v = 0;
     while v < n {
-        if entry_overflows(work, n, v) {
+        if entries::too_many(work[v], work[v + n]) {
             return true;
         }
         v += 1;

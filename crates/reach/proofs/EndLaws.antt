@@ -21,8 +21,11 @@ use Rattle.counting.proofs.Weights.{total, everywhere}
 use Rattle.counting.proofs.Fewest.{Fewest, fewest-intro, fewest-unique, fewest-shortest, count-shortest}
 use Rattle.counting.proofs.Recurrence.{atAppearance, before, before-zero, start-here, start-other, whole-station}
 use Rattle.reach.specs.Table.{Table, Fits}
-use Rattle.reach.specs.Pass.{Tables, begun, stored, Beyond, Holds, Filled}
-use Rattle.reach.proofs.EntryLaws.{Entry, EntryAt, entry-none, entry-ext, stored-small}
+use Rattle.entries.specs.Entry.{stored}
+use Rattle.entries.proofs.CountLaws.{stored-small}
+use Rattle.entries.proofs.EntryLaws.{entry-none, entry-ext}
+use Rattle.reach.specs.Pass.{Tables, begun, Beyond, Holds, Filled}
+use Rattle.reach.proofs.EntryLaws.{EntryAt}
 use Rattle.reach.proofs.TableLaws.{slots-apart, stations-apart}
 use Rattle.reach.proofs.PlaceLaws.{place-below}
 use Rattle.reach.proofs.StateLaws.{State, reaching, ready, pendingWalks, fits-beyond}

@@ -34,7 +34,8 @@ use Rattle.reach.specs.Table.{Table, folded, sent, Fits}
 use Rattle.reach.specs.Pass.{Tables, inSlot, Beyond}
 use Rattle.reach.proofs.PlaceLaws.{place-below}
 use Rattle.reach.proofs.PassLaws.{in-slot-inv}
-use Rattle.reach.proofs.EntryLaws.{EntryAt, entry-ext, entry-sent, sent-other-hops, sent-other-counts}
+use Rattle.entries.proofs.EntryLaws.{entry-ext}
+use Rattle.reach.proofs.EntryLaws.{EntryAt, entry-sent, sent-other-hops, sent-other-counts}
 use Rattle.reach.proofs.TableLaws.{
   slots-apart,
   stations-apart,

@@ -1,4 +1,4 @@
--- what merging an entry leaves, and the loops over entries
+-- what merging an entry leaves, and a fill
 mod MergeLaws
 mod LoopLaws
 pub mod PlaceLaws

@@ -1,62 +1,36 @@
 -- What merging an entry leaves, from comparisons of numbers. Assumes nothing.
 use Prim.Native.Nat.{ℕ, suc, _+_, _-_, _*_, _<_, _≤_, min}
 use native.Mathlib.Omega.{arith}
-use mathlib.Core.Path.{_≡_, refl, sym, ap, ap₂, _∙_}
-use mathlib.Core.Bool.{false}
+use mathlib.Core.Path.{_≡_, refl, sym, ap, _∙_}
 use mathlib.Core.List.{List}
-use mathlib.Core.Logic.{_≢_}
-use borrow.Author.Tests.{lt-ltb, le-ltb, eq-eqb, ne-eqb}
-use lib.Dec.{eqb}
+use borrow.Author.Tests.{lt-ltb, le-ltb}
 use lib.ListN.{length, getD, set, length-set}
 use lib.Seq.{set-getD}
-use Rattle.reach.specs.Table.{
-  Table,
-  table,
-  addCounts,
-  mergedCount,
-  merged,
-  sent,
-  settledFrom,
-  overflows,
-}
-
-pub add-left-over : (a b : ℕ) → a ≡ 0 → addCounts a b ≡ 0
-unfolding addCounts
-add-left-over a b h = rw (eq-eqb a 0 h)
-
-pub add-right-over : (a b : ℕ) → a ≢ 0 → b ≡ 0 → addCounts a b ≡ 0
-unfolding addCounts
-add-right-over a b some h = rw (ne-eqb a 0 some, eq-eqb b 0 h)
-
-pub add-over : (a b : ℕ) → a ≢ 0 → b ≢ 0 → 18446744073709551615 - a < b → addCounts a b ≡ 0
-unfolding addCounts
-add-over a b some other h = rw (ne-eqb a 0 some, ne-eqb b 0 other, lt-ltb (18446744073709551615 - a) b h)
-
-pub add-sum : (a b : ℕ) → a ≢ 0 → b ≢ 0 → b ≤ 18446744073709551615 - a → addCounts a b ≡ a + b
-unfolding addCounts
-add-sum a b some other h = rw (ne-eqb a 0 some, ne-eqb b 0 other, le-ltb (18446744073709551615 - a) b h)
+use Rattle.entries.specs.Entry.{addCounts}
+use Rattle.entries.proofs.CountLaws.{count-fewer, count-equal, count-more}
+use Rattle.reach.specs.Table.{Table, table, merged, sent, settledFrom}
 
 module _ (h c : List ℕ) (at l d : ℕ) where
   -- fewer hops take the place of the entry
   pub merge-fewer : l < getD h at 0 → merged (table h c) at l d ≡ table (set h at l) (set c at d)
-  unfolding merged mergedCount
+  unfolding merged
   merge-fewer less =
       let fewer : min (getD h at 0) l ≡ l = omega arith in
-      rw (lt-ltb l (getD h at 0) less, fewer)
+      rw (fewer, count-fewer (getD h at 0) (getD c at 0) l d less)
 
   -- as many hops add the count
   pub merge-equal : l ≡ getD h at 0 → merged (table h c) at l d ≡ table h (set c at (addCounts (getD c at 0) d))
-  unfolding merged mergedCount
+  unfolding merged
   merge-equal same =
       let kept : min (getD h at 0) l ≡ getD h at 0 = omega arith in
-      rw (le-ltb l (getD h at 0) (omega arith), eq-eqb l (getD h at 0) same, kept, set-getD h at 0)
+      rw (kept, set-getD h at 0, count-equal (getD h at 0) (getD c at 0) l d same)
 
   -- more hops leave the entry
   pub merge-more : getD h at 0 < l → merged (table h c) at l d ≡ table h c
-  unfolding merged mergedCount
+  unfolding merged
   merge-more more =
       let kept : min (getD h at 0) l ≡ getD h at 0 = omega arith in
-      rw (le-ltb l (getD h at 0) (omega arith), ne-eqb l (getD h at 0) (omega arith), kept, set-getD h at 0, set-getD c at 0)
+      rw (kept, set-getD h at 0, count-more (getD h at 0) (getD c at 0) l d more, set-getD c at 0)
 
 module _ (x y : Table) (v at : ℕ) where
   -- a station with walks sends them on
@@ -69,15 +43,6 @@ module _ (x y : Table) (v at : ℕ) where
   pub sent-none : 65535 ≤ getD (y .hops) v 0 → sent x y v at ≡ x
   unfolding sent
   sent-none h = rw (le-ltb (getD (y .hops) v 0) 65535 h)
-
-module _ (x : Table) (j : ℕ) where
-  pub overflows-some : getD (x .hops) j 0 < 65535 → overflows x j ≡ eqb (getD (x .counts) j 0) 0
-  unfolding overflows
-  overflows-some h = rw (lt-ltb (getD (x .hops) j 0) 65535 h)
-
-  pub overflows-none : 65535 ≤ getD (x .hops) j 0 → overflows x j ≡ false
-  unfolding overflows
-  overflows-none h = rw (le-ltb (getD (x .hops) j 0) 65535 h)
 
 -- ---- a table's settling, station by station
 

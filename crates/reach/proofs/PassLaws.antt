@@ -10,7 +10,7 @@ use Rattle.temporal.specs.Bytes.{contactAt, records}
 use Rattle.temporal.specs.Lists.{any, below}
 use Rattle.temporal.specs.Outcome.{over}
 use Rattle.temporal.proofs.Accepted.{accepted}
-use Rattle.reach.specs.Table.{Table, table, folded, settledFrom, overflows, Fits, Foldable}
+use Rattle.reach.specs.Table.{Table, table, folded, settledFrom, tableOverflows, Fits, Foldable}
 use Rattle.reach.specs.Pass.{Tables, tables, begun, emptied, overflowing, inSlot, turned, Turnable}
 
 -- a record of the slot is there
@@ -72,12 +72,12 @@ module _ (n width : ℕ) (x : Tables) (h c sh sc : List ℕ) where
   emptied-by e f g k = cc
 
 module _ (n width : ℕ) (x : Tables) where
-  pub overflowing-appearance : any (overflows (x .appearances)) (below (n * width)) ≡ true → overflowing n width x ≡ true
+  pub overflowing-appearance : any (tableOverflows (x .appearances)) (below (n * width)) ≡ true → overflowing n width x ≡ true
   unfolding overflowing
   overflowing-appearance e = rw e
 
   pub overflowing-station :
-      any (overflows (x .appearances)) (below (n * width)) ≡ false →
-      overflowing n width x ≡ any (overflows (x .stations)) (below n)
+      any (tableOverflows (x .appearances)) (below (n * width)) ≡ false →
+      overflowing n width x ≡ any (tableOverflows (x .stations)) (below n)
   unfolding overflowing
   overflowing-station e = rw e

@@ -31,9 +31,10 @@ use Rattle.temporal.proofs.CauseLaws.{or-false-left, or-false-right}
 use Rattle.temporal.proofs.ListLaws.{any-ext, any-false, mem-below}
 use Rattle.temporal.proofs.PlanLaws.{slots-within}
 use Rattle.temporal.proofs.ShortestLaws.{hops-bound}
-use Rattle.reach.specs.Table.{Table, overflows, Fits}
-use Rattle.reach.specs.Pass.{Tables, lentTables, overflowing, emptied, stored, Holds, Filled}
-use Rattle.reach.proofs.EntryLaws.{stored-small}
+use Rattle.entries.specs.Entry.{stored}
+use Rattle.entries.proofs.CountLaws.{stored-small}
+use Rattle.reach.specs.Table.{Table, tableOverflows, Fits}
+use Rattle.reach.specs.Pass.{Tables, lentTables, overflowing, emptied, Holds, Filled}
 use Rattle.temporal.proofs.BufferLaws.{over-by, fill-beyond, getD-made, length-made}
 use Rattle.reach.proofs.OutcomeLaws.{Few, any-places, overflows-exactly}
 
@@ -61,7 +62,7 @@ module _ (bs : List ℕ) (n t s : ℕ) (ok : planFault bs n t ≡ 0) where
     unfolding overflowing tooMany planOf
     overflow-exactly =
         ap₂ _||_
-        (any-places (overflows (x .appearances)) n (t + 1) (omega arith) ∙
+        (any-places (tableOverflows (x .appearances)) n (t + 1) (omega arith) ∙
         any-ext (below n) (λ v m.
         any-ext (below (t + 1)) (λ u k.
         overflows-exactly (x .appearances) (v * (t + 1) + u) _ (few-walks v u)

@@ -27,7 +27,8 @@ use Rattle.counting.proofs.Recurrence.{
 }
 use Rattle.reach.specs.Table.{Table, settledFrom}
 use Rattle.reach.specs.Pass.{Tables, inSlot, Beyond}
-use Rattle.reach.proofs.EntryLaws.{EntryAt, Entry, entry-none, entry-ext}
+use Rattle.entries.proofs.EntryLaws.{entry-none, entry-ext}
+use Rattle.reach.proofs.EntryLaws.{EntryAt}
 use Rattle.reach.proofs.TableLaws.{beyond-refl, entry-settled, beyond-settled}
 use Rattle.reach.proofs.StateLaws.{State, reaching, ready, pendingWalks, fits-beyond}
 use Rattle.reach.proofs.FoldLaws.{pending-arrivals}

@@ -37,15 +37,7 @@ use Rattle.reach.specs.Table.{Table, folded, settledFrom, sent, Fits}
 use Rattle.reach.specs.Pass.{Tables, inSlot, turned, Beyond}
 use Rattle.reach.proofs.PlaceLaws.{place-below}
 use Rattle.reach.proofs.PassLaws.{in-slot-inv}
-use Rattle.reach.proofs.EntryLaws.{
-  Entry,
-  EntryAt,
-  entry-none,
-  entry-ext,
-  entry-sent,
-  sent-other-hops,
-  sent-other-counts,
-}
+use Rattle.reach.proofs.EntryLaws.{EntryAt}
 use Rattle.reach.proofs.TableLaws.{
   slots-apart,
   stations-apart,

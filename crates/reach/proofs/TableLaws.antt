@@ -13,7 +13,7 @@ use Rattle.counting.proofs.Fewest.{plus}
 use Rattle.reach.specs.Table.{Table, merged, sent, folded, settledFrom}
 use Rattle.reach.specs.Pass.{Beyond}
 use Rattle.reach.proofs.MergeLaws.{sent-some, sent-none, merged-hops-length, merged-counts-length}
-use Rattle.reach.proofs.EntryLaws.{Entry, EntryAt, entry-merged, merged-other-hops, merged-other-counts}
+use Rattle.reach.proofs.EntryLaws.{EntryAt, entry-merged, merged-other-hops, merged-other-counts}
 
 -- ---- places
 

@@ -11,7 +11,8 @@ use Rattle.temporal.specs.Bytes.{contactAt, records, planOf}
 use Rattle.temporal.specs.Cause.{planFault}
 use Rattle.temporal.specs.Shortest.{shortestWalks, shortestPaths, hops, count}
 use Rattle.temporal.specs.Outcome.{ReachTables, over}
-use Rattle.reach.specs.Table.{Table, table, folded, settledFrom, overflows, Fits}
+use Rattle.entries.specs.Entry.{stored}
+use Rattle.reach.specs.Table.{Table, table, folded, settledFrom, tableOverflows, Fits}
 
 -- the appearances' table and the stations' table
 pub record Tables : Type 0 where
@@ -44,7 +45,7 @@ emptied n width x =
 -- whether some entry of the named parts has a count over 2^64 - 1
 unfoldable pub overflowing : ℕ → ℕ → Tables → Bool
 overflowing n width x =
-    any (overflows (x .appearances)) (below (n * width)) || any (overflows (x .stations)) (below n)
+    any (tableOverflows (x .appearances)) (below (n * width)) || any (tableOverflows (x .stations)) (below n)
 
 -- whether there is a record at j and it lies in slot u
 unfoldable pub inSlot : List ℕ → ℕ → ℕ → Bool
@@ -56,10 +57,6 @@ turned bs n width u j x =
     cond (inSlot bs j u)
     (record { appearances = folded width (x .appearances) (x .stations) (contactAt bs j); stations = x .stations })
     (record { appearances = x .appearances; stations = settledFrom width u (x .appearances) (x .stations) 0 n })
-
--- a count as an entry holds it: 0 where it is over 2^64 - 1
-unfoldable pub stored : ℕ → ℕ
-stored c = cond (ltb 18446744073709551615 c) 0 c
 
 -- the entries at j are the hops and the count of the list l
 pub record Holds (x : Table) (j : ℕ) (l : List (List ℕ)) : Type 0 where

@@ -1,11 +1,11 @@
--- Tables of hops and counts as the code holds them, and what the inner functions leave in them. 65535 hops stand for no
--- walk. A count of 0 beside fewer hops stands for one over 2^64 - 1. Definitions only.
+-- Tables of hops and counts as the code holds them, and what the inner functions leave in them. Definitions only.
 -- Assumes nothing.
-use Prim.Native.Nat.{ℕ, zero, suc, _+_, _-_, _*_, _<_, _≤_, min}
-use mathlib.Core.Bool.{Bool, cond, _&&_, _||_}
+use Prim.Native.Nat.{ℕ, zero, suc, _+_, _*_, _<_, _≤_, min}
+use mathlib.Core.Bool.{Bool, cond}
 use mathlib.Core.List.{List}
-use lib.Dec.{ltb, eqb}
+use lib.Dec.{ltb}
 use lib.ListN.{length, getD, set}
+use Rattle.entries.specs.Entry.{mergedCount, overflows}
 use Rattle.temporal.specs.Plan.{Contact}
 use Rattle.temporal.specs.Bytes.{contactAt}
 
@@ -16,14 +16,6 @@ pub record Table : Type 0 where
 
 abbrev pub table : List ℕ → List ℕ → Table
 table h c = record { hops = h; counts = c }
-
--- the sum of two counts; one over 2^64 - 1 stays so
-unfoldable pub addCounts : ℕ → ℕ → ℕ
-addCounts a b = cond (eqb a 0 || eqb b 0) 0 (cond (ltb (18446744073709551615 - a) b) 0 (a + b))
-
--- the count beside the fewer of two hops; both counts where the hops are equal
-unfoldable pub mergedCount : ℕ → ℕ → ℕ → ℕ → ℕ
-mergedCount h c l d = cond (ltb l h) d (cond (eqb l h) (addCounts c d) c)
 
 -- d walks of l hops are taken into the entry at a place
 unfoldable pub merged : Table → ℕ → ℕ → ℕ → Table
@@ -50,8 +42,8 @@ settledFrom width u x y v (suc k) =
     (merged y v (getD (x .hops) (v * width + u) 0) (getD (x .counts) (v * width + u) 0)) (v + 1) k
 
 -- whether the entry at j has a count over 2^64 - 1
-unfoldable pub overflows : Table → ℕ → Bool
-overflows x j = ltb (getD (x .hops) j 0) 65535 && eqb (getD (x .counts) j 0) 0
+abbrev pub tableOverflows : Table → ℕ → Bool
+tableOverflows x j = overflows (getD (x .hops) j 0) (getD (x .counts) j 0)
 
 -- a place of one table and a place of another lie within them
 pub record Places (x y : Table) (at v : ℕ) : Type 0 where

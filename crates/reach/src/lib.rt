@@ -12,12 +12,11 @@ ghost use Rattle.temporal.specs.Cause.{planFault};
 ghost use Rattle.temporal.specs.Outcome.{over, reached, reach, rowNumber, row};
 ghost use Rattle.reach.specs.Table.{
   table,
-  addCounts,
   merged,
   sent,
   folded,
   settledFrom,
-  overflows,
+  tableOverflows,
   Places,
   Fits,
   Foldable,
@@ -45,22 +44,6 @@ pub enum ReachAnswer {
     Refused(Fault),
 }
 
-// The sum of two counts. 0 stands for a count over 2^64 - 1 and stays.
-fn add_counts(a: u64, b: u64) -> u64
-    ensures { λ r. ⌜ r ≡ addCounts a b ⌝ }
-{
-    if a == 0 {
-        return 0;
-    }
-    if b == 0 {
-        return 0;
-    }
-    if 18446744073709551615 - a < b {
-        return 0;
-    }
-    a + b
-}
-
 // Takes c walks of h hops into the entry at a place.
 fn merge(hops: &mut [u16], counts: &mut [u64], at: usize, h: u16, c: u64)
     requires { ⌜ (at < length (now hops)) × (at < length (now counts)) ⌝ }
@@ -73,7 +56,7 @@ fn merge(hops: &mut [u16], counts: &mut [u64], at: usize, h: u16, c: u64)
         return;
     }
     if h == old {
-        counts[at] = add_counts(counts[at], c);
+        counts[at] = entries::add_counts(counts[at], c);
     }
 }
 
@@ -128,21 +111,25 @@ fn in_slot(plan: &[u8], j: usize, u: usize) -> bool
     }
 }
 
+// Hops as a number of 64 bits.
+fn wide(h: u16) -> u64
+    ensures { λ r. ⌜ r ≡ h ⌝ }
+{
+    h as u64
+}
+
 // Whether the entry at j has a count over 2^64 - 1.
 fn entry_overflows(hops: &[u16], counts: &[u64], j: usize) -> bool
     requires { ⌜ (j < length (now hops)) × (j < length (now counts)) ⌝ }
-    ensures { λ r. ⌜ r ≡ overflows (table (now (hops .entry)) (now (counts .entry))) j ⌝ }
+    ensures { λ r. ⌜ r ≡ tableOverflows (table (now (hops .entry)) (now (counts .entry))) j ⌝ }
 {
-    if hops[j] < 65535 {
-        return counts[j] == 0;
-    }
-    false
+    entries::too_many(wide(hops[j]), counts[j])
 }
 
 // Whether one of the first k entries has a count over 2^64 - 1.
 fn any_overflows(hops: &[u16], counts: &[u64], k: usize) -> bool
     requires { ⌜ (k ≤ length (now hops)) × (k ≤ length (now counts)) ⌝ }
-    ensures { λ r. ⌜ r ≡ any (overflows (table (now (hops .entry)) (now (counts .entry)))) (below k) ⌝ }
+    ensures { λ r. ⌜ r ≡ any (tableOverflows (table (now (hops .entry)) (now (counts .entry)))) (below k) ⌝ }
 {
     let mut j = 0;
     while j < k {

@@ -1,31 +1,38 @@
--- `reach::entry_overflows` meets its contract: the count is looked at only where there are walks.
+-- `reach::entry_overflows` meets its contract: the test of the entry's two numbers.
 -- Assumes nothing.
-use native.Mathlib.Omega.{arith}
-use mathlib.Core.Path.{sym}
-use Rattle.reach.proofs.MergeLaws.{overflows-some, overflows-none}
 use borrow.Author.Needs.{needs}
 use Rattle.reach.proofs.entry_overflows.Statement.{statement}
 use Rattle.reach.proofs.entry_overflows.Tie as tie
 
-mul-if1 : tie.Need-mul-if1
-mul-if1 c = search needs
+mul-wide : tie.Need-mul-wide
+mul-wide c = search needs
 
-shared-slice-read-if1 : tie.Need-shared-slice-read-if1
-shared-slice-read-if1 c = search needs
+shared-slice-read-wide : tie.Need-shared-slice-read-wide
+shared-slice-read-wide c = search needs
 
-mul-result : tie.Need-mul-result
-mul-result c = search needs
+wide-requires : tie.Need-wide-requires
+wide-requires c κs = search needs
 
-shared-slice-read-result : tie.Need-shared-slice-read-result
-shared-slice-read-result c = search needs
+mul-too-many : tie.Need-mul-too-many
+mul-too-many c = search needs
+
+shared-slice-read-too-many : tie.Need-shared-slice-read-too-many
+shared-slice-read-too-many c = search needs
+
+too-many-requires : tie.Need-too-many-requires
+too-many-requires c κs = search needs
 
 returns : tie.Need-returns
-returns c = sym (overflows-some _ _ (omega arith))
-
-returns-2 : tie.Need-returns-2
-returns-2 c = sym (overflows-none _ _ (omega arith))
+returns c = cc (c .too-many .ensures, c .before .before .wide .ensures)
 
 pub entry-overflows-spec : {M : Type 1} → statement M
 entry-overflows-spec =
     tie.close
-    (tie.spec mul-if1 shared-slice-read-if1 mul-result shared-slice-read-result returns returns-2)
+    (tie.spec
+    mul-wide
+    shared-slice-read-wide
+    wide-requires
+    mul-too-many
+    shared-slice-read-too-many
+    too-many-requires
+    returns)

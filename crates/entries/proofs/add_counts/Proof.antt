@@ -1,11 +1,11 @@
--- `pass::add_counts` meets its contract: each branch by its comparison.
+-- `entries::add_counts` meets its contract: each branch by its comparison.
 -- Assumes nothing.
 use native.Mathlib.Omega.{arith}
 use mathlib.Core.Path.{sym}
-use Rattle.pass.proofs.EntryLaws.{add-left-over, add-right-over, add-over, add-sum}
+use Rattle.entries.proofs.CountLaws.{add-left-over, add-right-over, add-over, add-sum}
 use borrow.Author.Needs.{needs}
-use Rattle.pass.proofs.add_counts.Statement.{statement}
-use Rattle.pass.proofs.add_counts.Tie as tie
+use Rattle.entries.proofs.add_counts.Statement.{statement}
+use Rattle.entries.proofs.add_counts.Tie as tie
 
 returns : tie.Need-returns
 returns c = sym (add-left-over _ _ (omega arith))
