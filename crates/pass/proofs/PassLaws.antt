@@ -1,14 +1,14 @@
 -- The loop of the pass: what holds whenever its test is reached, and what it makes of the work area. Assumes nothing.
-use Prim.Native.Nat.{ℕ, zero, suc, _+_, _-_, _<_, _≤_}
+use Prim.Native.Nat.{ℕ, suc, _+_, _-_, _<_, _≤_}
 use native.Mathlib.Omega.{arith}
-use native.Mathlib.Decide.{decLe, ℕ-discrete}
+use native.Mathlib.Decide.{ℕ-discrete}
 use native.Mathlib.Numerals.{add-one}
 use mathlib.Core.Path.{_≡_, refl, sym, ap, subst, _∙_}
-use mathlib.Core.Bool.{Bool, true, false, and-eq-true-iff}
+use mathlib.Core.Bool.{Bool, true, false}
 use mathlib.Core.List.{List}
 use mathlib.Core.Logic.{by-cases, _≢_}
 use mathlib.Core.Option.{some as present}
-use borrow.Author.Tests.{ltb-true, ltb-false, eqb-true, lt-ltb, eq-eqb}
+use borrow.Author.Tests.{ltb-false}
 use lib.Dec.{ltb}
 use lib.ListN.{length, getD, drop, getElem?, length-drop}
 use lib.Seq.{ext-getD, getD-drop}
@@ -17,13 +17,14 @@ use Rattle.temporal.specs.Plan.{Contact}
 use Rattle.temporal.specs.Bytes.{contactAt, records, planOf}
 use Rattle.temporal.specs.Cause.{planFault}
 use Rattle.temporal.specs.Shortest.{shortestWalks, shortestPaths, count}
-use Rattle.temporal.proofs.ListLaws.{not-both, any-false, mem-below}
+use Rattle.temporal.proofs.ListLaws.{any-false, mem-below}
 use Rattle.temporal.proofs.Accepted.{accepted}
-use Rattle.temporal.proofs.CheckLaws.{below-slot}
-use Rattle.temporal.proofs.PlanLaws.{contact-there, contact-inv, contacts-length, slots-within}
+use Rattle.temporal.proofs.PlanLaws.{contact-there, contact-inv, contacts-length, slots-within, slots-sorted}
 use Rattle.counting.proofs.Weights.{everywhere}
+use Rattle.plan.specs.Record.{inSlot}
+use Rattle.plan.proofs.SlotLaws.{in-slot-inv, in-slot-none}
 use Rattle.pass.specs.Entry.{areaOverflows}
-use Rattle.pass.specs.Sweep.{folded, sweep, settledFrom, begun, inSlot, Area, Foldable}
+use Rattle.pass.specs.Sweep.{folded, sweep, settledFrom, begun, Area, Foldable}
 use Rattle.pass.specs.Passed.{areaSize, Ready, Passed}
 use Rattle.pass.proofs.PlaceLaws.{area-kept}
 use Rattle.pass.proofs.StateLaws.{State}
@@ -41,31 +42,6 @@ drop-same k a b e h =
     (λ i q. getD-drop k a i 0 ∙ h (k + i) (omega arith) ∙ sym (getD-drop k b i 0))
 
 -- ---- the records
-
--- a record of the slot is there
-pub in-slot-inv : (bs : List ℕ) (j u : ℕ) → inSlot bs j u ≡ true → (j < records bs) × (contactAt bs j .slot ≡ u)
-unfolding inSlot
-in-slot-inv bs j u e =
-    let (there, slot) = and-eq-true-iff _ _ .0 e in
-    (ltb-true _ _ there, eqb-true _ _ slot)
-
--- the record at j is in another slot, if there is one
-in-slot-none : (bs : List ℕ) (j u : ℕ) → inSlot bs j u ≡ false → j < records bs → contactAt bs j .slot ≢ u
-unfolding inSlot
-in-slot-none bs j u e there same =
-    let both : inSlot bs j u ≡ true = rw (lt-ltb j (records bs) there, eq-eqb (contactAt bs j .slot) u same) in
-    not-both both e
-
--- slots rise with positions
-slots-rise : (bs : List ℕ) (n t : ℕ) → planFault bs n t ≡ 0 → (i k : ℕ) → i ≤ k → k < records bs
-    → contactAt bs i .slot ≤ contactAt bs k .slot
-slots-rise bs n t ok i zero h inside = let same : i ≡ 0 = omega arith in rw same (omega arith)
-slots-rise bs n t ok i (suc k) h inside =
-    by-cases (ℕ-discrete i (suc k)) (λ e. rw e (omega arith)) (λ d.
-    let sooner = slots-rise bs n t ok i k (omega arith) (omega arith) in
-    let above = accepted bs n t ok .rising k inside in
-    by-cases (decLe (contactAt bs k .slot) (contactAt bs (suc k) .slot)) (λ q. omega arith)
-    (λ q. absurd (not-both above (below-slot (contactAt bs k) (contactAt bs (suc k)) (omega arith)))))
 
 -- the records below j are in slots up to u, and those from j on in slots from u on
 record Position (bs : List ℕ) (u j : ℕ) : Type 0 where
@@ -141,7 +117,8 @@ module _ (bs : List ℕ) (n t s low block : ℕ) (old : List ℕ) (ready : Ready
     module _ (e : inSlot bs j u ≡ false) where
       ahead : (i : ℕ) → j ≤ i → i < records bs → u < contactAt bs i .slot
       ahead i from q =
-          let rise = slots-rise bs n t ok j i from q in
+          let up : j + (i - j) ≡ i = omega arith in
+          let rise = rw up at (slots-sorted bs n t ok j (i - j) (omega arith)) in
           let here = x .position .ahead j (omega arith) (omega arith) in
           let other = in-slot-none bs j u e (omega arith) in
           omega arith

@@ -3,12 +3,12 @@
 -- Definitions only.
 -- Assumes nothing.
 use Prim.Native.Nat.{ℕ, zero, suc, _+_, _-_, _*_, _<_, _≤_}
-use mathlib.Core.Bool.{Bool, cond, _&&_, _||_}
+use mathlib.Core.Bool.{Bool, cond, _||_}
 use mathlib.Core.List.{List}
 use lib.Dec.{ltb, eqb}
 use lib.ListN.{length, getD, set}
 use Rattle.temporal.specs.Plan.{Contact}
-use Rattle.temporal.specs.Bytes.{contactAt, records}
+use Rattle.temporal.specs.Bytes.{contactAt}
 use Rattle.pass.specs.Row.{filled, rowAt}
 use Rattle.pass.specs.Entry.{merged, absorbed, areaOverflows}
 
@@ -69,10 +69,6 @@ begun n block w s =
     filled
     (set (set (filled (filled (filled (filled w 0 n 65535) n n 0) (2 * n) n 65535) (3 * n) n 0) s 0) (s + n) 1)
     (rowAt n block s) block 1
-
--- whether there is a record at j and it lies in slot u
-unfoldable pub inSlot : List ℕ → ℕ → ℕ → Bool
-inSlot bs j u = ltb j (records bs) && eqb (contactAt bs j .slot) u
 
 -- a work area for n stations and a block fits its list
 pub record Area (n block : ℕ) (w : List ℕ) : Type 0 where

@@ -16,7 +16,6 @@ ghost use Rattle.pass.specs.Sweep.{
   sweep,
   settledFrom,
   begun,
-  inSlot,
   Area,
   Foldable,
 };
@@ -208,18 +207,6 @@ fn settle(work: &mut [u64], n: usize, block: usize, source: usize, low: usize) -
     over
 }
 
-// Whether there is a record at position j and it lies in slot u.
-fn in_slot(plan: &[u8], j: usize, u: usize) -> bool
-    ensures { λ r. ⌜ r ≡ inSlot (now (plan .entry)) j u ⌝ }
-{
-    if j < plan.len() / 6 {
-        let c = plan::contact_at(plan, j);
-        c.slot == u
-    } else {
-        false
-    }
-}
-
 // Clears the work area and settles the empty walk of the source.
 fn begin(work: &mut [u64], n: usize, block: usize, source: usize)
     requires { ⌜ Area n block (now work) × (source < n) ⌝ }
@@ -268,7 +255,7 @@ pub fn pass(
     let mut u = 1;
     let mut j = 0;
     while u <= t {
-        if in_slot(plan, j, u) {
+        if plan::in_slot(plan, j, u) {
             fold_record(work, plan, n, block, j);
             j += 1;
             continue;

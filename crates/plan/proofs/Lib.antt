@@ -1,2 +1,3 @@
 -- laws that belong to no one function
 pub mod Answers
+pub mod SlotLaws

@@ -1,8 +1,17 @@
--- The code's record as a contact of the definitions. Definitions only.
+-- The code's record as a contact of the definitions, and the test for a record of a slot. Definitions only.
 -- Assumes nothing.
+use Prim.Native.Nat.{ℕ}
+use mathlib.Core.Bool.{Bool, _&&_}
+use mathlib.Core.List.{List}
+use lib.Dec.{ltb, eqb}
 use Rattle.temporal.specs.Plan as temporal
+use Rattle.temporal.specs.Bytes.{contactAt, records}
 use Rattle.plan.specs.declared.Contact.{Contact}
 
 -- the contact that a struct of the code holds
 abbrev pub contactOf : Contact → temporal.Contact
 contactOf r = record { slot = r .slot; a = r .a; b = r .b }
+
+-- whether there is a record at position j and it lies in slot u
+unfoldable pub inSlot : List ℕ → ℕ → ℕ → Bool
+inSlot bs j u = ltb j (records bs) && eqb (contactAt bs j .slot) u

@@ -5,7 +5,7 @@ ghost use lib.ListN.{length};
 ghost use Rattle.temporal.specs.Bytes.{wordAt, contactAt};
 ghost use Rattle.temporal.specs.Cause.{first, isAbove, recordCauses, planFault};
 ghost use Rattle.plan.specs.Fault.{planNumber, callNumber, faultNumber, checkNumber};
-ghost use Rattle.plan.specs.Record.{contactOf};
+ghost use Rattle.plan.specs.Record.{contactOf, inSlot};
 
 // A fault of the plan, document 01's causes 1 to 5 in turn.
 pub enum PlanFault {
@@ -115,6 +115,18 @@ pub fn contact_at(plan: &[u8], i: usize) -> Contact
         slot: word_at(plan, at),
         a: word_at(plan, at + 2),
         b: word_at(plan, at + 4),
+    }
+}
+
+// Whether there is a record at position j and it lies in slot u. It is no operation either.
+pub fn in_slot(plan: &[u8], j: usize, u: usize) -> bool
+    ensures { λ r. ⌜ r ≡ inSlot (now (plan .entry)) j u ⌝ }
+{
+    if j < plan.len() / 6 {
+        let c = contact_at(plan, j);
+        c.slot == u
+    } else {
+        false
     }
 }
 

@@ -31,9 +31,10 @@ use Rattle.counting.proofs.Recurrence.{
   inflow-to-b,
 }
 use Rattle.reach.specs.Table.{Table, folded, sent, Fits}
-use Rattle.reach.specs.Pass.{Tables, inSlot, Beyond}
+use Rattle.reach.specs.Pass.{Tables, Beyond}
 use Rattle.reach.proofs.PlaceLaws.{place-below}
-use Rattle.reach.proofs.PassLaws.{in-slot-inv}
+use Rattle.plan.specs.Record.{inSlot}
+use Rattle.plan.proofs.SlotLaws.{in-slot-inv}
 use Rattle.entries.proofs.EntryLaws.{entry-ext}
 use Rattle.reach.proofs.EntryLaws.{EntryAt, entry-sent, sent-other-hops, sent-other-counts}
 use Rattle.reach.proofs.TableLaws.{

@@ -2,23 +2,17 @@
 use Prim.Native.Nat.{ℕ, _+_, _-_, _*_, _<_, _≤_}
 use native.Mathlib.Omega.{arith}
 use mathlib.Core.Path.{_≡_, refl, sym, ap, _∙_}
-use mathlib.Core.Bool.{Bool, true, false, _||_, and-eq-true-iff}
+use mathlib.Core.Bool.{Bool, true, false, _||_}
 use mathlib.Core.List.{List}
-use borrow.Author.Tests.{ltb-true, eqb-true}
 use lib.ListN.{length, set, replicate}
-use Rattle.temporal.specs.Bytes.{contactAt, records}
+use Rattle.temporal.specs.Bytes.{contactAt}
 use Rattle.temporal.specs.Lists.{any, below}
 use Rattle.temporal.specs.Outcome.{over}
 use Rattle.temporal.proofs.Accepted.{accepted}
+use Rattle.plan.specs.Record.{inSlot}
+use Rattle.plan.proofs.SlotLaws.{in-slot-inv}
 use Rattle.reach.specs.Table.{Table, table, folded, settledFrom, tableOverflows, Fits, Foldable}
-use Rattle.reach.specs.Pass.{Tables, tables, begun, emptied, overflowing, inSlot, turned, Turnable}
-
--- a record of the slot is there
-pub in-slot-inv : (bs : List ℕ) (j u : ℕ) → inSlot bs j u ≡ true → (j < records bs) × (contactAt bs j .slot ≡ u)
-unfolding inSlot
-in-slot-inv bs j u e =
-    let (there, slot) = and-eq-true-iff _ _ .0 e in
-    (ltb-true _ _ there, eqb-true _ _ slot)
+use Rattle.reach.specs.Pass.{Tables, tables, begun, emptied, overflowing, turned, Turnable}
 
 module _ (bs : List ℕ) (n width u j : ℕ) (x : Tables) where
   -- a record of an accepted plan can be folded in

@@ -4,11 +4,10 @@ use native.Mathlib.Omega.{arith}
 use native.Mathlib.Numerals.{add-one}
 use native.Mathlib.Decide.{decLt, ℕ-discrete}
 use mathlib.Core.Path.{_≡_, refl, sym, ap, subst, _∙_}
-use mathlib.Core.Bool.{Bool, true, false, false≢true}
+use mathlib.Core.Bool.{Bool, true, false}
 use mathlib.Core.Logic.{_≢_, by-cases}
 use mathlib.Core.List.{List}
 use mathlib.Core.Option.{some}
-use borrow.Author.Tests.{lt-ltb, eq-eqb}
 use lib.ListN.{length, getD, getElem?}
 use Rattle.temporal.specs.Plan.{Contact, Plan, start}
 use Rattle.temporal.specs.Bytes.{contactAt, records, planOf}
@@ -26,18 +25,14 @@ use Rattle.counting.proofs.Recurrence.{
   settle,
 }
 use Rattle.reach.specs.Table.{Table, settledFrom}
-use Rattle.reach.specs.Pass.{Tables, inSlot, Beyond}
+use Rattle.reach.specs.Pass.{Tables, Beyond}
+use Rattle.plan.specs.Record.{inSlot}
+use Rattle.plan.proofs.SlotLaws.{in-slot-none}
 use Rattle.entries.proofs.EntryLaws.{entry-none, entry-ext}
 use Rattle.reach.proofs.EntryLaws.{EntryAt}
 use Rattle.reach.proofs.TableLaws.{beyond-refl, entry-settled, beyond-settled}
 use Rattle.reach.proofs.StateLaws.{State, reaching, ready, pendingWalks, fits-beyond}
 use Rattle.reach.proofs.FoldLaws.{pending-arrivals}
-
--- where there is no record of the slot at j, the record there lies in another slot
-not-in-slot : (bs : List ℕ) (j u : ℕ) → inSlot bs j u ≡ false → j < records bs → contactAt bs j .slot ≢ u
-unfolding inSlot
-not-in-slot bs j u e there q =
-    false≢true (sym e ∙ rw (lt-ltb j (records bs) there, eq-eqb (contactAt bs j .slot) u q))
 
 module _ (bs : List ℕ) (n t s : ℕ) (ok : planFault bs n t ≡ 0) (old : Tables) (u j : ℕ) (x : Tables)
     (slot-below : u < t + 1) (st : State bs n t s old u j x) (past : inSlot bs j u ≡ false) where
@@ -45,7 +40,7 @@ module _ (bs : List ℕ) (n t s : ℕ) (ok : planFault bs n t ≡ 0) (old : Tabl
   rest-later : (i : ℕ) → j ≤ i → i < records bs → u + 1 ≤ contactAt bs i .slot
   rest-later i low last =
       let at-least = st .rest j (omega arith) (omega arith) in
-      let other = not-in-slot bs j u past (omega arith) in
+      let other = in-slot-none bs j u past (omega arith) in
       let same : j + (i - j) ≡ i = omega arith in
       let sorted = rw same at (slots-sorted bs n t ok j (i - j) (omega arith)) in
       omega arith

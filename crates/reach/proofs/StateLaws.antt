@@ -34,9 +34,8 @@ use Rattle.counting.proofs.Recurrence.{
   settle,
 }
 use Rattle.reach.specs.Table.{Table, folded, settledFrom, sent, Fits}
-use Rattle.reach.specs.Pass.{Tables, inSlot, turned, Beyond}
+use Rattle.reach.specs.Pass.{Tables, turned, Beyond}
 use Rattle.reach.proofs.PlaceLaws.{place-below}
-use Rattle.reach.proofs.PassLaws.{in-slot-inv}
 use Rattle.reach.proofs.EntryLaws.{EntryAt}
 use Rattle.reach.proofs.TableLaws.{
   slots-apart,

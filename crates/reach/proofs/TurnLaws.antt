@@ -7,8 +7,10 @@ use mathlib.Core.List.{List}
 use Rattle.temporal.specs.Bytes.{records}
 use Rattle.temporal.specs.Cause.{planFault}
 use Rattle.temporal.proofs.Accepted.{accepted}
-use Rattle.reach.specs.Pass.{Tables, begun, inSlot, turned, Turnable, Ready, Filled}
-use Rattle.reach.proofs.PassLaws.{in-slot-inv, turn-folds, turn-settles}
+use Rattle.plan.specs.Record.{inSlot}
+use Rattle.plan.proofs.SlotLaws.{in-slot-inv}
+use Rattle.reach.specs.Pass.{Tables, begun, turned, Turnable, Ready, Filled}
+use Rattle.reach.proofs.PassLaws.{turn-folds, turn-settles}
 use Rattle.reach.proofs.TableLaws.{beyond-refl, beyond-then}
 use Rattle.reach.proofs.StateLaws.{State}
 use Rattle.reach.proofs.FoldLaws.{fold-state}

@@ -2,15 +2,15 @@
 -- Assumes nothing.
 use Prim.Native.Nat.{ℕ, _+_, _*_, _^_, _-_, _<_, _≤_}
 use mathlib.Core.Path.{_≡_}
-use mathlib.Core.Bool.{Bool, cond, _&&_, _||_}
+use mathlib.Core.Bool.{Bool, cond, _||_}
 use mathlib.Core.List.{List}
-use lib.Dec.{ltb, eqb}
 use lib.ListN.{length, getD, set, drop, replicate}
 use Rattle.temporal.specs.Lists.{any, below}
-use Rattle.temporal.specs.Bytes.{contactAt, records, planOf}
+use Rattle.temporal.specs.Bytes.{contactAt, planOf}
 use Rattle.temporal.specs.Cause.{planFault}
 use Rattle.temporal.specs.Shortest.{shortestWalks, shortestPaths, hops, count}
 use Rattle.temporal.specs.Outcome.{ReachTables, over}
+use Rattle.plan.specs.Record.{inSlot}
 use Rattle.entries.specs.Entry.{stored}
 use Rattle.reach.specs.Table.{Table, table, folded, settledFrom, tableOverflows, Fits}
 
@@ -46,10 +46,6 @@ emptied n width x =
 unfoldable pub overflowing : ℕ → ℕ → Tables → Bool
 overflowing n width x =
     any (tableOverflows (x .appearances)) (below (n * width)) || any (tableOverflows (x .stations)) (below n)
-
--- whether there is a record at j and it lies in slot u
-unfoldable pub inSlot : List ℕ → ℕ → ℕ → Bool
-inSlot bs j u = ltb j (records bs) && eqb (contactAt bs j .slot) u
 
 -- one turn: a record of slot u is folded in, or, where there is none left, the slot is settled
 unfoldable pub turned : List ℕ → ℕ → ℕ → ℕ → ℕ → Tables → Tables

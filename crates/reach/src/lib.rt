@@ -10,6 +10,7 @@ ghost use Rattle.temporal.specs.Bytes.{contactAt, planOf};
 ghost use Rattle.temporal.specs.Plan.{Contact};
 ghost use Rattle.temporal.specs.Cause.{planFault};
 ghost use Rattle.temporal.specs.Outcome.{over, reached, reach, rowNumber, row};
+ghost use Rattle.plan.specs.Record.{inSlot};
 ghost use Rattle.reach.specs.Table.{
   table,
   merged,
@@ -27,7 +28,6 @@ ghost use Rattle.reach.specs.Pass.{
   begun,
   emptied,
   overflowing,
-  inSlot,
   turned,
   Turnable,
   Ready,
@@ -96,18 +96,6 @@ fn settle(
     while v < n {
         settle_one(near, ways, hops, counts, v, v * width + u);
         v += 1;
-    }
-}
-
-// Whether there is a record at position j and it lies in slot u.
-fn in_slot(plan: &[u8], j: usize, u: usize) -> bool
-    ensures { λ r. ⌜ r ≡ inSlot (now (plan .entry)) j u ⌝ }
-{
-    if j < plan.len() / 6 {
-        let c = plan::contact_at(plan, j);
-        c.slot == u
-    } else {
-        false
     }
 }
 
@@ -199,7 +187,7 @@ fn turn(
     requires { ⌜ Turnable (now plan) n width u (tables (now hops) (now counts) (now near) (now ways)) ⌝ }
     ensures { λ r. ⌜ (r ≡ inSlot (now (plan .entry)) j u) × (tables (now (hops .exit)) (now (counts .exit)) (now (near .exit)) (now (ways .exit)) ≡ turned (now (plan .entry)) n width u j (tables (now (hops .entry)) (now (counts .entry)) (now (near .entry)) (now (ways .entry)))) ⌝ }
 {
-    if in_slot(plan, j, u) {
+    if plan::in_slot(plan, j, u) {
         fold_record(hops, counts, near, ways, plan, n, width, j);
         return true;
     }

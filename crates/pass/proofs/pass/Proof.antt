@@ -7,7 +7,8 @@ use mathlib.Core.Path.{sym, _∙_}
 use borrow.Author.Needs.{needs}
 use native.Mathlib.Omega.{arith}
 use Rattle.temporal.specs.Bytes.{records}
-use Rattle.pass.proofs.PassLaws.{Passing, in-slot-inv, ready-area, passing-area, passing-length}
+use Rattle.plan.proofs.SlotLaws.{in-slot-inv}
+use Rattle.pass.proofs.PassLaws.{Passing, ready-area, passing-area, passing-length}
 use Rattle.pass.proofs.PassLaws.{passing-foldable, passing-fold, passing-settle, passed-over, passed-end}
 use Rattle.pass.proofs.PassLaws.{ready-begun, passing-begun, passed-entry}
 use Rattle.pass.proofs.pass.Statement.{statement}

@@ -1,14 +1,13 @@
--- `reach::in_slot` meets its contract: a position below the number of records has the record that is read.
+-- `plan::in_slot` meets its contract: the comparison of positions, then that of slots.
 -- Assumes nothing.
-use native.Mathlib.Omega.{arith}
-use mathlib.Core.Path.{sym, ap, _∙_}
+use mathlib.Core.Path.{ap}
 use borrow.Author.Tests.{lt-ltb, le-ltb}
 use lib.Dec.{eqb}
 use Rattle.temporal.specs.Bytes.{records}
-use Rattle.reach.specs.Pass.{inSlot}
+use Rattle.plan.specs.Record.{inSlot}
 use borrow.Author.Needs.{needs}
-use Rattle.reach.proofs.in_slot.Statement.{statement}
-use Rattle.reach.proofs.in_slot.Tie as tie
+use Rattle.plan.proofs.in_slot.Statement.{statement}
+use Rattle.plan.proofs.in_slot.Tie as tie
 
 contact-at-requires : tie.Need-contact-at-requires
 contact-at-requires c κs = search needs
