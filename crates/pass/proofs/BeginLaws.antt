@@ -19,9 +19,10 @@ use Rattle.counting.proofs.Recurrence.{start-other}
 use Rattle.counting.proofs.Through.{avoiding}
 use Rattle.entries.specs.Entry.{stored}
 use Rattle.entries.proofs.CountLaws.{stored-small}
-use Rattle.pass.specs.Row.{filled, rowAt}
+use Rattle.memory.specs.Fill.{filled}
+use Rattle.memory.proofs.FillLaws.{filled-length, filled-other, filled-at}
+use Rattle.pass.specs.Row.{rowAt}
 use Rattle.pass.specs.Sweep.{begun, Area}
-use Rattle.pass.proofs.RowLaws.{filled-length, filled-other, filled-at}
 use Rattle.pass.proofs.PlaceLaws.{row-settled, row-before, set-twice-length}
 use Rattle.pass.proofs.BestLaws.{Best, best-same, best-none}
 use Rattle.pass.proofs.StateLaws.{State}

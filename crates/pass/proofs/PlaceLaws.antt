@@ -12,7 +12,8 @@ use lib.ListN.{length, getD, set, length-set}
 use Rattle.temporal.specs.Bytes.{contactAt}
 use Rattle.plan.specs.declared.Contact.{Contact}
 use Rattle.plan.specs.Record.{contactOf}
-use Rattle.pass.specs.Row.{filled, rowAt}
+use Rattle.memory.specs.Fill.{filled}
+use Rattle.pass.specs.Row.{rowAt}
 use Rattle.pass.specs.Entry.{merged, absorbed, Absorbable}
 use Rattle.pass.specs.Sweep.{sent, folded, masked, settledOne, sweep, settledNext, settledFrom, begun, Area}
 use Rattle.pass.specs.Sweep.{Foldable}

@@ -7,7 +7,7 @@ use mathlib.Core.Logic.{_⊎_, inl, inr, ⊎-elim}
 use borrow.Author.Tests.{lt-ltb, le-ltb, eq-eqb, ne-eqb}
 use lib.ListN.{length, getD, set, length-set}
 use lib.Seq.{getD-set-same, getD-set-other, set-getD}
-use Rattle.pass.specs.Row.{combined, second, wrapped, mergedRow, filled}
+use Rattle.pass.specs.Row.{combined, second, wrapped, mergedRow}
 
 -- ---- the loops
 
@@ -48,40 +48,6 @@ module _ (f : ℕ → ℕ → ℕ) (to from size : ℕ) (old : List ℕ) where
       let c : size - j ≡ 0 = omega arith in
       sym (ap (combined f now (to + j) (from + j)) c) ∙ x .rest
 
--- the first j of size entries are written
-pub record Filling (to size x : ℕ) (old : List ℕ) (j : ℕ) (now : List ℕ) : Type 0 where
-  pub within : j ≤ size
-  pub same : length now ≡ length old
-  pub rest : filled now (to + j) (size - j) x ≡ filled old to size x
-
-module _ (to size x : ℕ) (old : List ℕ) where
-  -- at first no entry is written
-  pub filling-none : Filling to size x old 0 old
-  filling-none =
-      let a : to + 0 ≡ to = omega arith in
-      let c : size - 0 ≡ size = omega arith in
-      record { within = omega arith; same = refl; rest = rw (a, c) }
-
-  -- one entry more
-  pub filling-more : (j : ℕ) (now : List ℕ) → j < size → Filling to size x old j now
-      → Filling to size x old (j + 1) (set now (to + j) x)
-  unfolding filled
-  filling-more j now h y =
-      let a : to + (j + 1) ≡ to + j + 1 = omega arith in
-      let c : size - j ≡ suc (size - (j + 1)) = omega arith in
-      record {
-        within = omega arith;
-        same = length-set now (to + j) x ∙ y .same;
-        rest = rw a (sym (ap (λ k. filled now (to + j) k x) c) ∙ y .rest);
-      }
-
-  -- at last all are
-  pub filling-all : (j : ℕ) (now : List ℕ) → size ≤ j → Filling to size x old j now → now ≡ filled old to size x
-  unfolding filled
-  filling-all j now h y =
-      let c : size - j ≡ 0 = omega arith in
-      sym (ap (λ k. filled now (to + j) k x) c) ∙ y .rest
-
 -- ---- a merge by hops
 
 module _ (h l : ℕ) (w : List ℕ) (to from : ℕ) where
@@ -113,12 +79,6 @@ unfolding combined
 combined-length f w to from zero = refl
 combined-length f w to from (suc k) = combined-length f _ (to + 1) (from + 1) k ∙ length-set w to _
 
--- the length stays
-pub filled-length : (w : List ℕ) (to k x : ℕ) → length (filled w to k x) ≡ length w
-unfolding filled
-filled-length w to zero x = refl
-filled-length w to (suc k) x = filled-length (set w to x) (to + 1) k x ∙ length-set w to x
-
 -- an entry outside of the row stays
 pub combined-other : (f : ℕ → ℕ → ℕ) (w : List ℕ) (to from k i : ℕ) → (i < to) ⊎ (to + k ≤ i)
     → getD (combined f w to from k) i 0 ≡ getD w i 0
@@ -129,15 +89,6 @@ combined-other f w to from (suc k) i out =
     (⊎-elim (λ (h : i < to). inl (omega arith)) (λ (h : to + suc k ≤ i). inr (omega arith)) out)
     ∙ getD-set-other w to i (f (getD w to 0) (getD w from 0)) 0
     (⊎-elim (λ (h : i < to). omega arith) (λ (h : to + suc k ≤ i). omega arith) out)
-
--- an entry outside of the stretch stays
-pub filled-other : (w : List ℕ) (to k x i : ℕ) → (i < to) ⊎ (to + k ≤ i) → getD (filled w to k x) i 0 ≡ getD w i 0
-unfolding filled
-filled-other w to zero x i out = refl
-filled-other w to (suc k) x i out =
-    filled-other (set w to x) (to + 1) k x i
-    (⊎-elim (λ (h : i < to). inl (omega arith)) (λ (h : to + suc k ≤ i). inr (omega arith)) out)
-    ∙ getD-set-other w to i x 0 (⊎-elim (λ (h : i < to). omega arith) (λ (h : to + suc k ≤ i). omega arith) out)
 
 -- an entry of the row has f of itself and of its fellow, where the rows do not overlap
 pub combined-at : (f : ℕ → ℕ → ℕ) (w : List ℕ) (to from k j : ℕ) → j < k → to + k ≤ length w
@@ -162,15 +113,3 @@ combined-at f w to from (suc k) (suc j) h fits apart =
     ∙ rw (getD-set-other w to (to + 1 + j) x 0 (omega arith))
     (rw (getD-set-other w to (from + 1 + j) x 0
     (⊎-elim (λ (o : to ≤ from). omega arith) (λ (o : from + suc k ≤ to). omega arith) apart))))
-
--- an entry of the stretch is the number
-pub filled-at : (w : List ℕ) (to k x j : ℕ) → j < k → to + k ≤ length w → getD (filled w to k x) (to + j) 0 ≡ x
-unfolding filled
-filled-at w to zero x j h fits = absurd (omega arith)
-filled-at w to (suc k) x zero h fits =
-    let a : to + 0 ≡ to = omega arith in
-    rw a (filled-other (set w to x) (to + 1) k x to (inl (omega arith)) ∙ getD-set-same w to x 0 (omega arith))
-filled-at w to (suc k) x (suc j) h fits =
-    let a : to + suc j ≡ to + 1 + j = omega arith in
-    let same = length-set w to x in
-    rw a (filled-at (set w to x) (to + 1) k x j (omega arith) (omega arith))

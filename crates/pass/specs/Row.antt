@@ -24,11 +24,6 @@ wrapped a b = (a + b) % 2 ^ 64
 unfoldable pub mergedRow : ℕ → ℕ → ℕ → ℕ → ℕ
 mergedRow h l a b = cond (ltb l h) b (cond (eqb l h) ((a + b) % 2 ^ 64) a)
 
--- one number to k entries
-unfoldable pub filled : List ℕ → ℕ → ℕ → ℕ → List ℕ
-filled w to zero x = w
-filled w to (suc k) x = filled (set w to x) (to + 1) k x
-
 -- rows number 0 to 2 n - 1, of block entries each, behind 4 n entries: where row e begins
 abbrev pub rowAt : ℕ → ℕ → ℕ → ℕ
 rowAt n block e = 4 * n + e * block

@@ -9,7 +9,8 @@ use lib.Dec.{ltb, eqb}
 use lib.ListN.{length, getD, set}
 use Rattle.temporal.specs.Plan.{Contact}
 use Rattle.temporal.specs.Bytes.{contactAt}
-use Rattle.pass.specs.Row.{filled, rowAt}
+use Rattle.memory.specs.Fill.{filled}
+use Rattle.pass.specs.Row.{rowAt}
 use Rattle.pass.specs.Entry.{merged, absorbed, areaOverflows}
 
 -- What is settled for v goes on over one hop more, to what is pending for x. The row stays where the settled entry of x

@@ -6,7 +6,7 @@ ghost use Prim.Native.Nat.{_+_, _*_, _<_, _≤_};
 ghost use lib.ListN.{length, getD};
 ghost use Rattle.temporal.specs.Lists.{any, below};
 ghost use Rattle.temporal.specs.Bytes.{contactAt};
-ghost use Rattle.pass.specs.Row.{combined, second, wrapped, mergedRow, filled, rowAt, Rows};
+ghost use Rattle.pass.specs.Row.{combined, second, wrapped, mergedRow, rowAt, Rows};
 ghost use Rattle.pass.specs.Entry.{merged, absorbed, areaOverflows, Absorbable};
 ghost use Rattle.pass.specs.Sweep.{
   sent,
@@ -56,18 +56,6 @@ fn merge_row(work: &mut [u64], to: usize, from: usize, size: usize, h: u64, l: u
     }
     if l == h {
         add_row(work, to, from, size);
-    }
-}
-
-// Writes one number to neighbouring entries.
-fn fill(work: &mut [u64], to: usize, size: usize, x: u64)
-    requires { ⌜ to + size ≤ length (now work) ⌝ }
-    ensures { λ _. ⌜ now (work .exit) ≡ filled (now (work .entry)) to size x ⌝ }
-{
-    let mut j = 0;
-    while j < size {
-        work[to + j] = x;
-        j += 1;
     }
 }
 
@@ -212,14 +200,14 @@ fn begin(work: &mut [u64], n: usize, block: usize, source: usize)
     requires { ⌜ Area n block (now work) × (source < n) ⌝ }
     ensures { λ _. ⌜ now (work .exit) ≡ begun n block (now (work .entry)) source ⌝ }
 {
-    fill(work, 0, n, 65535);
-    fill(work, n, n, 0);
-    fill(work, 2 * n, n, 65535);
-    fill(work, 3 * n, n, 0);
+    memory::fill_part(work, 0, n, 65535);
+    memory::fill_part(work, n, n, 0);
+    memory::fill_part(work, 2 * n, n, 65535);
+    memory::fill_part(work, 3 * n, n, 0);
     work[source] = 0;
     work[source + n] = 1;
     let row = row_at(n, block, source);
-    fill(work, row, block, 1);
+    memory::fill_part(work, row, block, 1);
 }
 
 // Whether the settled entry of some station has a count over 2^64 - 1.

@@ -1,6 +1,5 @@
--- what merging an entry leaves, and a fill
+-- what merging an entry leaves
 mod MergeLaws
-mod LoopLaws
 pub mod PlaceLaws
 mod PassLaws
 mod EntryLaws

@@ -4,12 +4,12 @@ ghost use mathlib.Core.Path.{_≡_};
 ghost use mathlib.Core.Bool.{_&&_};
 ghost use Prim.Native.Nat.{_+_, _*_, _-_, _<_, _≤_};
 ghost use lib.Dec.{ltb, eqb};
-ghost use lib.ListN.{length, replicate, getD};
+ghost use lib.ListN.{length, getD};
 ghost use Rattle.temporal.specs.Lists.{any, from, below};
 ghost use Rattle.temporal.specs.Bytes.{contactAt, planOf};
 ghost use Rattle.temporal.specs.Plan.{Contact};
 ghost use Rattle.temporal.specs.Cause.{planFault};
-ghost use Rattle.temporal.specs.Outcome.{over, reached, reach, rowNumber, row};
+ghost use Rattle.temporal.specs.Outcome.{reached, reach, rowNumber, row};
 ghost use Rattle.plan.specs.Record.{inSlot};
 ghost use Rattle.reach.specs.Table.{
   table,
@@ -129,30 +129,6 @@ fn any_overflows(hops: &[u16], counts: &[u64], k: usize) -> bool
     false
 }
 
-// Writes one number to the first k entries.
-fn fill16(table: &mut [u16], k: usize, x: u16)
-    requires { ⌜ k ≤ length (now table) ⌝ }
-    ensures { λ _. ⌜ now (table .exit) ≡ over (replicate k x) (now (table .entry)) ⌝ }
-{
-    let mut i = 0;
-    while i < k {
-        table[i] = x;
-        i += 1;
-    }
-}
-
-// Writes one number to the first k entries.
-fn fill64(table: &mut [u64], k: usize, x: u64)
-    requires { ⌜ k ≤ length (now table) ⌝ }
-    ensures { λ _. ⌜ now (table .exit) ≡ over (replicate k x) (now (table .entry)) ⌝ }
-{
-    let mut i = 0;
-    while i < k {
-        table[i] = x;
-        i += 1;
-    }
-}
-
 // Folds the record at j in, both ways.
 fn fold_record(
     hops: &mut [u16],
@@ -209,10 +185,10 @@ fn begin(
     ensures { λ _. ⌜ tables (now (hops .exit)) (now (counts .exit)) (now (near .exit)) (now (ways .exit)) ≡ begun n width source (tables (now (hops .entry)) (now (counts .entry)) (now (near .entry)) (now (ways .entry))) ⌝ }
 {
     let places = n * width;
-    fill16(hops, places, 65535);
-    fill64(counts, places, 0);
-    fill16(near, n, 65535);
-    fill64(ways, n, 0);
+    memory::fill16(hops, places, 65535);
+    memory::fill64(counts, places, 0);
+    memory::fill16(near, n, 65535);
+    memory::fill64(ways, n, 0);
     let at = source * width;
     hops[at] = 0;
     counts[at] = 1;
@@ -231,10 +207,10 @@ fn clear(
     ensures { λ _. ⌜ tables (now (hops .exit)) (now (counts .exit)) (now (near .exit)) (now (ways .exit)) ≡ emptied n width (tables (now (hops .entry)) (now (counts .entry)) (now (near .entry)) (now (ways .entry))) ⌝ }
 {
     let places = n * width;
-    fill16(hops, places, 0);
-    fill64(counts, places, 0);
-    fill16(near, n, 0);
-    fill64(ways, n, 0);
+    memory::fill16(hops, places, 0);
+    memory::fill64(counts, places, 0);
+    memory::fill16(near, n, 0);
+    memory::fill64(ways, n, 0);
 }
 
 // Whether an appearance or a station has a count over 2^64 - 1.
