@@ -112,8 +112,8 @@ fn run_row(head: &[u8], table: &mut [u64]) {
     let n = cases::word(head, 2);
     let t = cases::word(head, 4);
     let station = cases::word(head, 6);
-    cases::write_number(reach::row_number(table, n, t, station) as u64);
-    let part = reach::row(table, n, t, station);
+    cases::write_number(rows::row_number(table, n, t, station) as u64);
+    let part = rows::row(table, n, t, station);
     cases::write_number(part.len() as u64);
     cases::write64(part);
 }

@@ -8,8 +8,7 @@ use mathlib.Core.List.{List, []}
 use lib.ListN.{length, take, drop, length-take, length-drop}
 use Rattle.temporal.specs.Outcome.{rowNumber, row}
 use Rattle.temporal.proofs.EnteredLaws.{unless-some, unless-none}
-use Rattle.reach.proofs.CallLaws.{row-refused, row-part, row-within}
-use Rattle.reach.proofs.PlaceLaws.{row-end}
+use Rattle.rows.proofs.RowLaws.{row-refused, row-part, row-within, row-end}
 use Rattle.joftaki_c.specs.Slots.{RowGiven}
 
 module _ (n t v : ℕ) (table part : List ℕ) (k : ℕ) (is-row : part ≡ row n t v table) (is-number : k ≡ rowNumber n t v table) where

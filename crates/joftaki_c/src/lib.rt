@@ -60,7 +60,7 @@ pub extern "C" fn joftaki_reach(
 pub extern "C" fn joftaki_row_number(table: &[u64], n: usize, t: usize, v: usize) -> u32
     ensures { λ r. ⌜ r ≡ rowNumber n t v (now (table .entry)) ⌝ }
 {
-    reach::row_number(table, n, t, v) as u32
+    rows::row_number(table, n, t, v) as u32
 }
 
 // Operation 3, row: its number, and where in the caller's table the part begins and how many entries it has; 0 and 0 on
@@ -76,8 +76,8 @@ pub extern "C" fn joftaki_row(
 ) -> u32
     ensures { λ r. ⌜ RowGiven n t v (now (table .entry)) r (now (offset .exit)) (now (length .exit)) ⌝ }
 {
-    *length = reach::row(table, n, t, v).len();
-    let number = reach::row_number(table, n, t, v);
+    *length = rows::row(table, n, t, v).len();
+    let number = rows::row_number(table, n, t, v);
     if number != 0 {
         *offset = 0;
         return number as u32;

@@ -1,23 +1,14 @@
--- How reach and row begin: the first cause of refusal, from comparisons of numbers. Assumes nothing.
-use Prim.Native.Nat.{ℕ, zero, suc, _+_, _*_, _<_, _≤_}
+-- How reach begins: the first cause of refusal, from comparisons of numbers. Assumes nothing.
+use Prim.Native.Nat.{ℕ, _+_, _*_, _<_, _≤_}
 use native.Mathlib.Omega.{arith}
-use mathlib.Core.Path.{_≡_, refl, sym, ap, _∙_}
+use mathlib.Core.Path.{_≡_, sym, ap, _∙_}
 use mathlib.Core.Bool.{Bool, true, false, _||_}
-use mathlib.Core.Logic.{_≢_}
-use mathlib.Core.List.{List, [], _∷_}
-use borrow.Author.Tests.{lt-ltb, le-ltb, le-leb, lt-leb, eq-eqb, ne-eqb, leb-false, ltb-false}
-use lib.Dec.{ltb, leb, eqb}
-use lib.ListN.{length, take, drop}
+use mathlib.Core.List.{List, []}
+use borrow.Author.Tests.{lt-ltb, le-ltb, le-leb, lt-leb}
+use lib.ListN.{length}
 use Rattle.temporal.specs.Bytes.{planOf}
-use Rattle.temporal.specs.Cause.{cause, first, planFault, outside, stationCauses}
-use Rattle.temporal.specs.Outcome.{Outcome, short, places, ReachTables, reached, reach, rowNumber, row}
-use Rattle.temporal.proofs.CauseLaws.{
-  first-true,
-  first-false,
-  first-head,
-  first-tail,
-  or-false-right,
-}
+use Rattle.temporal.specs.Cause.{planFault, stationCauses}
+use Rattle.temporal.specs.Outcome.{Outcome, short, places, ReachTables, reached, reach}
 use Rattle.temporal.proofs.EnteredLaws.{
   refusedWith,
   entered-plan,
@@ -25,8 +16,6 @@ use Rattle.temporal.proofs.EnteredLaws.{
   entered-cause,
   entered-pass,
   entered-work,
-  unless-some,
-  unless-none,
 }
 use Rattle.plan.specs.Fault.{planNumber, checkNumber}
 use Rattle.plan.specs.declared.PlanFault.{PlanFault}
@@ -117,71 +106,3 @@ module _ (bs : List ℕ) (n t s : ℕ) (old : ReachTables) where
                       le-ltb (length (old .stationHops)) n c,
                       le-ltb (length (old .stationCounts)) n d,
                     )
-
--- ---- row
-
-first-nothing : first [] ≡ 0
-unfolding first
-first-nothing = refl
-
-module _ (n t v : ℕ) (table : List ℕ) where
-  pub row-no-station : n ≡ 0 → rowNumber n t v table ≡ 1
-  unfolding rowNumber outside
-  row-no-station h = first-true 0 _ _ (rw (eq-eqb n 0 h))
-
-  pub row-many-stations : 256 < n → rowNumber n t v table ≡ 1
-  unfolding rowNumber outside
-  row-many-stations h = first-true 0 _ _ (rw (ne-eqb n 0 (omega arith), lt-ltb 256 n h))
-
-  module _ (some-station : n ≢ 0) (stations : n ≤ 256) where
-    pub row-no-slot : t ≡ 0 → rowNumber n t v table ≡ 1
-    unfolding rowNumber outside
-    row-no-slot h = first-true 0 _ _ (rw (ne-eqb n 0 some-station, le-ltb 256 n stations, eq-eqb t 0 h))
-
-    pub row-many-slots : 255 < t → rowNumber n t v table ≡ 1
-    unfolding rowNumber outside
-    row-many-slots h =
-        first-true 0 _ _
-        (rw (ne-eqb n 0 some-station, le-ltb 256 n stations, ne-eqb t 0 (omega arith), lt-ltb 255 t h))
-
-    module _ (some-slot : t ≢ 0) (slots : t ≤ 255) where
-      within : outside n t ≡ false
-      unfolding outside
-      within = rw (ne-eqb n 0 some-station, le-ltb 256 n stations, ne-eqb t 0 some-slot, le-ltb 255 t slots)
-
-      pub row-station : n ≤ v → rowNumber n t v table ≡ 6
-      unfolding rowNumber stationCauses
-      row-station h = first-false 1 _ _ within ∙ first-true 5 _ _ (le-leb n v h)
-
-      pub row-short : v < n → length table < n * (t + 1) → rowNumber n t v table ≡ 8
-      unfolding rowNumber stationCauses
-      row-short inside h =
-          first-false 1 _ _ within ∙ first-false 6 _ _ (lt-leb n v inside) ∙
-          first-true 7 _ [] (lt-ltb (length table) (n * (t + 1)) h)
-
-      pub row-accepted : v < n → n * (t + 1) ≤ length table → rowNumber n t v table ≡ 0
-      unfolding rowNumber stationCauses
-      row-accepted inside h =
-          first-false 1 _ _ within ∙ first-false 6 _ _ (lt-leb n v inside) ∙
-          first-false 8 _ [] (le-ltb (length table) (n * (t + 1)) h) ∙ first-nothing
-
-  -- a refused row is empty, an accepted one the station's part
-  pub row-refused : 0 < rowNumber n t v table → row n t v table ≡ []
-  unfolding row
-  row-refused h = unless-some (rowNumber n t v table) _ _ h
-
-  pub row-part : rowNumber n t v table ≡ 0 → row n t v table ≡ take (t + 1) (drop (v * (t + 1)) table)
-  unfolding row
-  row-part e = unless-none (rowNumber n t v table) _ _ e
-
-  -- an accepted row lies within the table
-  pub row-within : rowNumber n t v table ≡ 0 → (v < n) × (t ≤ 255) × (n * (t + 1) ≤ length table)
-  unfolding rowNumber stationCauses outside
-  row-within e =
-      let limits = first-head 0 _ _ e in
-      let station = first-head 5 _ _ (first-tail 0 _ _ e) in
-      let room = first-head 7 _ [] (first-tail 5 _ _ (first-tail 0 _ _ e)) in (
-        leb-false n v station,
-        ltb-false 255 t (or-false-right (eqb t 0) _ (or-false-right (eqb n 0 || ltb 256 n) _ limits)),
-        ltb-false (length table) (n * (t + 1)) room,
-      )

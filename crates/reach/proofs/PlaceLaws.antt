@@ -1,9 +1,8 @@
 -- Places of a table with width entries a station: they lie within the lists that it fits. Assumes nothing.
-use Prim.Native.Nat.{ℕ, suc, _+_, _-_, _*_, _<_, _≤_}
+use Prim.Native.Nat.{ℕ, _+_, _*_, _<_, _≤_}
 use native.Mathlib.Omega.{arith}
 use mathlib.Core.Path.{_≡_, sym, ap, subst, _∙_}
 use mathlib.Core.List.{List}
-use native.Mathlib.Nat.{mul-le-mul, mul-le-mul-right, suc-mul}
 use lib.Arith.{digits-lt}
 use lib.ListN.{length}
 use Rattle.temporal.specs.Bytes.{contactAt}
@@ -11,6 +10,7 @@ use Rattle.temporal.specs.Cause.{planFault}
 use Rattle.temporal.proofs.Accepted.{accepted}
 use Rattle.plan.specs.declared.Contact.{Contact}
 use Rattle.plan.specs.Record.{contactOf}
+use Rattle.plan.proofs.LimitLaws.{limited-places}
 use Rattle.reach.specs.Table.{Table, sent, folded, Places, Fits, Foldable}
 
 -- an entry of n stations lies within a list that has room for them
@@ -66,20 +66,6 @@ unfolding folded
 folded-twice bs width j x first second y r e one two =
     two ∙ ap (λ z. sent z y (r .b) (r .a * width + r .slot)) one ∙ ap (folded width x y) e
 
--- the places within the limits are few
-pub limited-places : (n t : ℕ) → n ≤ 256 → t ≤ 255 → n * (t + 1) ≤ 65536
-limited-places n t stations slots = mul-le-mul {n₂ = 256} {m₂ = 256} stations (omega arith)
-
+-- an accepted plan has few places
 pub few-places : (bs : List ℕ) (n t : ℕ) → planFault bs n t ≡ 0 → n * (t + 1) ≤ 65536
 few-places bs n t ok = limited-places n t (accepted bs n t ok .stations) (accepted bs n t ok .slots)
-
--- a station's entries end within the table
-pub row-end : (v n width size : ℕ) → v < n → n * width ≤ size → v * width + width ≤ size
-row-end v n width size h fits =
-    let next : suc v * width ≤ n * width = mul-le-mul-right width h in
-    let one-more = suc-mul v width in
-    omega arith
-
--- the length of a part from a start to an end
-pub between : (a k : ℕ) → k ≡ (a + k) - a
-between a k = omega arith

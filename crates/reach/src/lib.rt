@@ -1,4 +1,4 @@
-// Operations 2 and 3: reach, which fills the tables of hops and counts from a source, and row with its sister.
+// Operation 2, reach: fills the tables of hops and counts from a source.
 // The tables are the state: the stations' tables hold what may be sent on, the appearances' tables what each slot brings.
 ghost use mathlib.Core.Path.{_≡_};
 ghost use mathlib.Core.Bool.{_&&_};
@@ -9,7 +9,7 @@ ghost use Rattle.temporal.specs.Lists.{any, from, below};
 ghost use Rattle.temporal.specs.Bytes.{contactAt, planOf};
 ghost use Rattle.temporal.specs.Plan.{Contact};
 ghost use Rattle.temporal.specs.Cause.{planFault};
-ghost use Rattle.temporal.specs.Outcome.{reached, reach, rowNumber, row};
+ghost use Rattle.temporal.specs.Outcome.{reached, reach};
 ghost use Rattle.plan.specs.Record.{inSlot};
 ghost use Rattle.reach.specs.Table.{
   table,
@@ -331,42 +331,4 @@ pub fn reach(
         return reach_accepted(hops, counts, near, ways, plan, n, t, source);
     };
     ReachAnswer::Refused(Fault::Plan(fault))
-}
-
-// Row's number of refusal, 0 where row is accepted. It reads no plan.
-pub fn row_number(table: &[u64], n: usize, t: usize, station: usize) -> usize
-    ensures { λ r. ⌜ r ≡ rowNumber n t station (now (table .entry)) ⌝ }
-{
-    if n == 0 {
-        return 1;
-    }
-    if 256 < n {
-        return 1;
-    }
-    if t == 0 {
-        return 1;
-    }
-    if 255 < t {
-        return 1;
-    }
-    if n <= station {
-        return 6;
-    }
-    if table.len() < n * (t + 1) {
-        return 8;
-    }
-    0
-}
-
-// Operation 3, row: the part of the caller's table of appearance counts that holds a station's t + 1 entries; an empty
-// part on refusal.
-pub fn row(table: &[u64], n: usize, t: usize, station: usize) -> &[u64]
-    ensures { λ r. ⌜ now r ≡ row n t station (now (table .entry)) ⌝ }
-{
-    if row_number(table, n, t, station) != 0 {
-        return &table[0..0];
-    }
-    let start = station * (t + 1);
-    let end = start + (t + 1);
-    &table[start..end]
 }

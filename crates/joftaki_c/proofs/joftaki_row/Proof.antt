@@ -2,8 +2,7 @@
 -- Assumes nothing.
 use native.Mathlib.Omega.{arith}
 use mathlib.Core.Path.{sym, _∙_}
-use Rattle.reach.proofs.PlaceLaws.{row-end}
-use Rattle.reach.proofs.CallLaws.{row-within}
+use Rattle.rows.proofs.RowLaws.{row-within, row-end}
 use Rattle.joftaki_c.proofs.CodeLaws.{row-small}
 use Rattle.joftaki_c.proofs.RowLaws.{row-given-refused, row-given-accepted}
 use borrow.Author.Needs.{needs}

@@ -1,9 +1,9 @@
--- `reach::row_number` meets its contract: the tests on the way decide the first cause.
+-- `rows::row_number` meets its contract: the tests on the way decide the first cause.
 -- Assumes nothing.
-use Rattle.reach.proofs.PlaceLaws.{limited-places}
+use Rattle.plan.proofs.LimitLaws.{limited-places}
 use native.Mathlib.Omega.{arith}
 use mathlib.Core.Path.{sym}
-use Rattle.reach.proofs.CallLaws.{
+use Rattle.rows.proofs.RowLaws.{
   row-no-station,
   row-many-stations,
   row-no-slot,
@@ -13,8 +13,8 @@ use Rattle.reach.proofs.CallLaws.{
   row-accepted,
 }
 use borrow.Author.Needs.{needs}
-use Rattle.reach.proofs.row_number.Statement.{statement}
-use Rattle.reach.proofs.row_number.Tie as tie
+use Rattle.rows.proofs.row_number.Statement.{statement}
+use Rattle.rows.proofs.row_number.Tie as tie
 
 returns : tie.Need-returns
 returns c = sym (row-no-station _ _ _ _ (omega arith))

@@ -1,4 +1,4 @@
--- `reach::row` meets its contract: the number decides between the empty part and the station's entries, which lie within
+-- `rows::row` meets its contract: the number decides between the empty part and the station's entries, which lie within
 -- the table.
 -- Assumes nothing.
 use Prim.Native.Nat.{_+_, _*_}
@@ -6,11 +6,10 @@ use native.Mathlib.Omega.{arith}
 use denote.Ref.{now}
 use mathlib.Core.Path.{sym, ap, _∙_}
 use lib.ListN.{take, drop}
-use Rattle.reach.proofs.PlaceLaws.{row-end, between}
-use Rattle.reach.proofs.CallLaws.{row-refused, row-part, row-within}
+use Rattle.rows.proofs.RowLaws.{row-refused, row-part, row-within, row-end, between}
 use borrow.Author.Needs.{needs}
-use Rattle.reach.proofs.row.Statement.{statement}
-use Rattle.reach.proofs.row.Tie as tie
+use Rattle.rows.proofs.row.Statement.{statement}
+use Rattle.rows.proofs.row.Tie as tie
 
 row-number-requires : tie.Need-row-number-requires
 row-number-requires c κs = search needs
