@@ -90,3 +90,7 @@ row-end v n width size h fits =
 -- the length of a part from a start to an end
 pub between : (a k : ℕ) → k ≡ (a + k) - a
 between a k = omega arith
+
+-- a place of a table, with the bytes before it written first
+pub placed : (block offset i : ℕ) → _≡_ {A = ℕ × ℕ} (block, i * 8 + offset) (block, offset + i * 8)
+placed block offset i = let same : i * 8 + offset ≡ offset + i * 8 = omega arith in rw same

@@ -1,6 +1,7 @@
 // Operation 3, row, and its sister. They read no plan.
 ghost use mathlib.Core.Path.{_≡_};
-ghost use Rattle.temporal.specs.Outcome.{rowNumber, row};
+ghost use Rattle.temporal.specs.Outcome.{rowNumber};
+ghost use Rattle.rows.specs.Part.{RowPart};
 
 // Row's number of refusal, 0 where row is accepted. It reads no plan.
 pub fn row_number(table: &[u64], n: usize, t: usize, station: usize) -> usize
@@ -27,10 +28,10 @@ pub fn row_number(table: &[u64], n: usize, t: usize, station: usize) -> usize
     0
 }
 
-// Operation 3, row: the part of the caller's table of appearance counts that holds a station's t + 1 entries; an empty
-// part on refusal.
+// Operation 3, row: the part of the caller's own table of appearance counts that holds a station's t + 1 entries, where it
+// stands; an empty part on refusal.
 pub fn row(table: &[u64], n: usize, t: usize, station: usize) -> &[u64]
-    ensures { λ r. ⌜ now r ≡ row n t station (now (table .entry)) ⌝ }
+    ensures { λ r. ⌜ RowPart n t station (table .entry) r ⌝ }
 {
     if row_number(table, n, t, station) != 0 {
         return &table[0..0];

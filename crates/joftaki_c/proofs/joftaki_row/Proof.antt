@@ -19,7 +19,7 @@ cast-result : tie.Need-cast-result
 cast-result c = omega (arith, row-small _ _ _ _ _ (c .before .row-number .ensures))
 
 returns : tie.Need-returns
-returns c = row-given-refused _ _ _ _ _ _ (c .before .before .row .ensures) (c .before .row-number .ensures) (c .if1 .taken)
+returns c = row-given-refused _ _ _ _ _ _ (c .before .before .row .ensures .entries) (c .before .row-number .ensures) (c .if1 .taken)
 
 add-offset : tie.Need-add-offset
 add-offset c = let w = row-within _ _ _ _ (sym (c .before .row-number .ensures) ∙ c .if1 .left) in omega (arith, w .1)
@@ -30,7 +30,7 @@ mul-offset c =
     omega (arith, row-end _ _ _ _ (w .0) (w .2), c .before .before .before .before .good .0 .0)
 
 returns-2 : tie.Need-returns-2
-returns-2 c = row-given-accepted _ _ _ _ _ _ (c .before .before .row .ensures) (c .before .row-number .ensures) (c .if1 .left)
+returns-2 c = row-given-accepted _ _ _ _ _ _ (c .before .before .row .ensures .entries) (c .before .row-number .ensures) (c .if1 .left)
 
 pub joftaki-row-spec : {M : Type 1} → statement M
 joftaki-row-spec =

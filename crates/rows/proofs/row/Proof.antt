@@ -6,7 +6,7 @@ use native.Mathlib.Omega.{arith}
 use denote.Ref.{now}
 use mathlib.Core.Path.{sym, ap, _∙_}
 use lib.ListN.{take, drop}
-use Rattle.rows.proofs.RowLaws.{row-refused, row-part, row-within, row-end, between}
+use Rattle.rows.proofs.RowLaws.{row-refused, row-part, row-within, row-end, between, placed}
 use borrow.Author.Needs.{needs}
 use Rattle.rows.proofs.row.Statement.{statement}
 use Rattle.rows.proofs.row.Tie as tie
@@ -24,7 +24,10 @@ part-result-end : tie.Need-part-result-end
 part-result-end c = search needs
 
 returns : tie.Need-returns
-returns c = sym (row-refused _ _ _ _ (omega (arith, c .before .before .row-number .ensures, c .before .if1 .taken)))
+returns c =
+    let given = c .before .before .row-number .ensures in
+    let taken = c .before .if1 .taken in
+    record { entries = sym (row-refused _ _ _ _ (omega arith)); place = λ none. absurd (omega arith) }
 
 add-start : tie.Need-add-start
 add-start c = let w = row-within _ _ _ _ (sym (c .before .row-number .ensures) ∙ c .if1 .left) in omega (arith, w .1)
@@ -56,14 +59,17 @@ part-result-start-2 c = search needs
 part-result-end-2 : tie.Need-part-result-end-2
 part-result-end-2 c =
     let w = row-within _ _ _ _ (sym (c .before .row-number .ensures) ∙ c .if1 .left) in
-    row-end _ _ _ _ (w .0) (w .2)
+    omega (arith, row-end _ _ _ _ (w .0) (w .2))
 
 returns-2 : tie.Need-returns-2
 returns-2 c =
     let width = c .before .before .before .before .args .t + 1 in
     let start = c .before .before .before .before .args .station * width in
-    sym (row-part _ _ _ _ (sym (c .before .before .row-number .ensures) ∙ c .before .if1 .left) ∙
-    ap (λ k. take k (drop start (now (c .before .before .before .before .args .table)))) (between start width))
+    record {
+      entries = sym (row-part _ _ _ _ (sym (c .before .before .row-number .ensures) ∙ c .before .if1 .left) ∙
+          ap (λ k. take k (drop start (now (c .before .before .before .before .args .table)))) (between start width));
+      place = λ none. placed _ _ _;
+    }
 
 pub row-spec : {M : Type 1} → statement M
 row-spec =

@@ -1,0 +1,2 @@
+-- What row gives. Definitions only.
+pub mod Part
