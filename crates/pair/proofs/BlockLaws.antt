@@ -24,7 +24,7 @@ use Rattle.temporal.proofs.Adequacy.{bounded-paths}
 use Rattle.temporal.proofs.ListLaws.{select-none, length-zero}
 use Rattle.temporal.proofs.PlanLaws.{slots-within}
 use Rattle.temporal.proofs.ShortestLaws.{hops-bound, hops-empty}
-use Rattle.pass.specs.Passed.{Ready, Counted, Passed}
+use Rattle.pass.specs.Passed.{PassReady, Counted, Passed}
 use Rattle.pair.specs.Throughs.{throughEntry, Storing, StoredBlock, PairReady, Throughs}
 use Rattle.pair.proofs.ThroughLaws.{entry-itself, entry-no-path, entry-rest}
 
@@ -117,7 +117,7 @@ module _ (bs : List ℕ) (n t s z : ℕ) (table area : List ℕ) (low : ℕ) (ta
   block-within = omega arith
 
   -- the pass can be made
-  pub pass-ready : Ready bs n t s low block area′
+  pub pass-ready : PassReady bs n t s low block area′
   pass-ready =
       let fits = area-fits n t block (omega arith) in
       let room = b .ready .area in

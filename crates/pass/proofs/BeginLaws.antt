@@ -22,10 +22,10 @@ use Rattle.entries.proofs.CountLaws.{stored-small}
 use Rattle.memory.specs.Fill.{filled}
 use Rattle.memory.proofs.FillLaws.{filled-length, filled-other, filled-at}
 use Rattle.pass.specs.Row.{rowAt}
-use Rattle.pass.specs.Sweep.{begun, Area}
+use Rattle.pass.specs.Sweep.{begunArea, Area}
 use Rattle.pass.proofs.PlaceLaws.{row-settled, row-before, set-twice-length}
 use Rattle.pass.proofs.BestLaws.{Best, best-same, best-none}
-use Rattle.pass.proofs.StateLaws.{State}
+use Rattle.pass.proofs.StateLaws.{AreaState}
 use Rattle.pass.proofs.PlanWalks.{kept, walksAt}
 
 -- ---- the entries
@@ -97,35 +97,35 @@ module _ (n block : ℕ) (w : List ℕ) (s : ℕ) (area : Area n block w) (insid
   fits = let f = area .fits in omega arith
 
   -- an entry before the rows, other than the source's two
-  begun-other : (i : ℕ) → i < 4 * n → i ≢ s → i ≢ s + n → getD (begun n block w s) i 0 ≡ getD (spread n w) i 0
-  unfolding begun spread
+  begun-other : (i : ℕ) → i < 4 * n → i ≢ s → i ≢ s + n → getD (begunArea n block w s) i 0 ≡ getD (spread n w) i 0
+  unfolding begunArea spread
   begun-other i q a b =
       filled-other (set (set (spread n w) s 0) (s + n) 1) (rowAt n block s) block 1 i (inl (omega arith))
       ∙ getD-set-other (set (spread n w) s 0) (s + n) i 1 0 b
       ∙ getD-set-other (spread n w) s i 0 0 a
 
-  begun-source : getD (begun n block w s) s 0 ≡ 0
-  unfolding begun spread
+  begun-source : getD (begunArea n block w s) s 0 ≡ 0
+  unfolding begunArea spread
   begun-source =
       filled-other (set (set (spread n w) s 0) (s + n) 1) (rowAt n block s) block 1 s (inl (omega arith))
       ∙ getD-set-other (set (spread n w) s 0) (s + n) s 1 0 (omega (arith, positive))
       ∙ getD-set-same (spread n w) s 0 0 (omega (arith, spread-length n w fits, fits))
 
-  begun-count : getD (begun n block w s) (s + n) 0 ≡ 1
-  unfolding begun spread
+  begun-count : getD (begunArea n block w s) (s + n) 0 ≡ 1
+  unfolding begunArea spread
   begun-count =
       filled-other (set (set (spread n w) s 0) (s + n) 1) (rowAt n block s) block 1 (s + n) (inl (omega arith))
       ∙ getD-set-same (set (spread n w) s 0) (s + n) 1 0
       (lt-length-set (spread n w) s 0 (omega (arith, spread-length n w fits, fits)))
 
-  begun-row : (j : ℕ) → j < block → getD (begun n block w s) (rowAt n block s + j) 0 ≡ 1
-  unfolding begun spread
+  begun-row : (j : ℕ) → j < block → getD (begunArea n block w s) (rowAt n block s + j) 0 ≡ 1
+  unfolding begunArea spread
   begun-row j q =
       filled-at (set (set (spread n w) s 0) (s + n) 1) (rowAt n block s) block 1 j q
       (omega (arith, set-twice-length (spread n w) s (s + n) 0 1, spread-length n w fits, row-settled inside area))
 
-  begun-beyond : (i : ℕ) → 4 * n + 2 * n * block ≤ i → getD (begun n block w s) i 0 ≡ getD w i 0
-  unfolding begun spread
+  begun-beyond : (i : ℕ) → 4 * n + 2 * n * block ≤ i → getD (begunArea n block w s) i 0 ≡ getD w i 0
+  unfolding begunArea spread
   begun-beyond i q =
       filled-other (set (set (spread n w) s 0) (s + n) 1) (rowAt n block s) block 1 i
       (inr (let f = row-before block s (2 * n) (omega arith) in omega arith))
@@ -133,8 +133,8 @@ module _ (n block : ℕ) (w : List ℕ) (s : ℕ) (area : Area n block w) (insid
       ∙ getD-set-other (spread n w) s i 0 0 (omega (arith, positive))
       ∙ spread-beyond n w fits i (omega arith)
 
-  begun-length : length (begun n block w s) ≡ length w
-  unfolding begun spread
+  begun-length : length (begunArea n block w s) ≡ length w
+  unfolding begunArea spread
   begun-length =
       filled-length (set (set (spread n w) s 0) (s + n) 1) (rowAt n block s) block 1
       ∙ set-twice-length (spread n w) s (s + n) 0 1 ∙ spread-length n w fits
@@ -164,7 +164,7 @@ source-open s x = rw (eq-eqb s s refl, or-true (not (eqb s x)))
 
 -- At the beginning the work area holds the walks before slot 1, with no contact folded in.
 pub begun-state : (p : Plan) (s low n block : ℕ) (w : List ℕ) → Area n block w → s < n
-    → State n block w (walksAt p s low 1 0) (begun n block w s)
+    → AreaState n block w (walksAt p s low 1 0) (begunArea n block w s)
 unfolding walksAt everywhere
 begun-state p s low n block w area inside =
     record {

@@ -32,7 +32,7 @@ use Rattle.entries.proofs.EntryLaws.{Large, Small, overflow-large, overflow-sma
 use Rattle.pass.specs.Entry.{areaOverflows}
 use Rattle.pass.specs.Passed.{Counted}
 use Rattle.pass.proofs.BestLaws.{Best}
-use Rattle.pass.proofs.StateLaws.{State}
+use Rattle.pass.proofs.StateLaws.{AreaState}
 use Rattle.pass.proofs.PlanWalks.{kept, walksAt}
 
 -- tests that agree on a list
@@ -157,7 +157,7 @@ module _ (bs : List ℕ) (n t : ℕ) (ok : planFault bs n t ≡ 0) (s : ℕ) whe
       ∙ sym (station-all z _))
 
   module _ (low block : ℕ) (old w : List ℕ) (j : ℕ)
-      (state : State n block old (walksAt (planOf bs n t) s low (t + 1) j) w) where
+      (state : AreaState n block old (walksAt (planOf bs n t) s low (t + 1) j) w) where
     entry : (z : ℕ) → z < n → Best block 65535 (kept (planOf bs n t) s everywhere z (t + 1))
         (λ c. kept (planOf bs n t) s (avoiding s (low + c)) z (t + 1)) (getD w z 0) (getD w (z + n) 0)
         (λ c. getD w (rowAt n block z + c) 0)

@@ -24,10 +24,10 @@ use Rattle.counting.proofs.Weights.{everywhere}
 use Rattle.plan.specs.Record.{inSlot}
 use Rattle.plan.proofs.SlotLaws.{in-slot-inv, in-slot-none}
 use Rattle.pass.specs.Entry.{areaOverflows}
-use Rattle.pass.specs.Sweep.{folded, sweep, settledFrom, begun, Area, Foldable}
-use Rattle.pass.specs.Passed.{areaSize, Ready, Passed}
+use Rattle.pass.specs.Sweep.{foldedArea, sweepOf, settledFrom, begunArea, Area, FoldableArea}
+use Rattle.pass.specs.Passed.{areaSize, PassReady, Passed}
 use Rattle.pass.proofs.PlaceLaws.{area-kept}
-use Rattle.pass.proofs.StateLaws.{State}
+use Rattle.pass.proofs.StateLaws.{AreaState}
 use Rattle.pass.proofs.SettleLaws.{SomeLarge, settled-all, settled-over, settled-within}
 use Rattle.pass.proofs.PlanWalks.{walksAt, folded-state, settles-slot, arrived}
 use Rattle.pass.proofs.BeginLaws.{begun-state}
@@ -56,15 +56,15 @@ pub record Passing (bs : List ℕ) (n t s low block : ℕ) (old : List ℕ) (u j
   from-one : 0 < u
   pub last : u ≤ t + 1
   position : Position bs u j
-  state : State n block old (walksAt (planOf bs n t) s low u j) w
+  state : AreaState n block old (walksAt (planOf bs n t) s low u j) w
   small : (v x : ℕ) → v < n → x < u → count (shortestWalks (planOf bs n t) s v x) ≤ 18446744073709551615
 
 -- an area that is ready
-pub ready-area : (bs : List ℕ) (n t s low block : ℕ) (w : List ℕ) → Ready bs n t s low block w → Area n block w
+pub ready-area : (bs : List ℕ) (n t s low block : ℕ) (w : List ℕ) → PassReady bs n t s low block w → Area n block w
 ready-area bs n t s low block w r =
     record { some = accepted bs n t (r .accepted) .some-station; fits = r .fits }
 
-module _ (bs : List ℕ) (n t s low block : ℕ) (old : List ℕ) (ready : Ready bs n t s low block old) where
+module _ (bs : List ℕ) (n t s low block : ℕ) (old : List ℕ) (ready : PassReady bs n t s low block old) where
   ok : planFault bs n t ≡ 0
   ok = ready .accepted
 
@@ -81,7 +81,7 @@ module _ (bs : List ℕ) (n t s low block : ℕ) (old : List ℕ) (ready : Ready
 
   module _ (u j : ℕ) (w : List ℕ) (x : Passing bs n t s low block old u j w) where
     -- a record of the slot can be folded in
-    pub passing-foldable : inSlot bs j u ≡ true → Foldable bs n block j w
+    pub passing-foldable : inSlot bs j u ≡ true → FoldableArea bs n block j w
     passing-foldable e =
         let (there, slot) = in-slot-inv bs j u e in
         let whole = accepted bs n t ok .whole in
@@ -92,7 +92,7 @@ module _ (bs : List ℕ) (n t s low block : ℕ) (old : List ℕ) (ready : Ready
 
     -- and then the pass is one position further
     pub passing-fold : inSlot bs j u ≡ true
-        → Passing bs n t s low block old u (j + 1) (folded n block w (contactAt bs j))
+        → Passing bs n t s low block old u (j + 1) (foldedArea n block w (contactAt bs j))
     unfolding planOf
     passing-fold e =
         let (there, slot) = in-slot-inv bs j u e in
@@ -140,14 +140,14 @@ module _ (bs : List ℕ) (n t s low block : ℕ) (old : List ℕ) (ready : Ready
       within : j ≤ length (planOf bs n t .contacts)
       within = let q = x .position .within in let same = contacts-length bs n t in omega arith
 
-      settled : State n block old (walksAt (planOf bs n t) s low (suc u) j)
-          (settledFrom n block s low (sweep false w) 0 n .work)
+      settled : AreaState n block old (walksAt (planOf bs n t) s low (suc u) j)
+          (settledFrom n block s low (sweepOf false w) 0 n .work)
       settled =
           settled-all n block old area s low (walksAt (planOf bs n t) s low u j)
           (walksAt (planOf bs n t) s low (suc u) j)
           (settles-slot (planOf bs n t) s low u j (x .from-one) past done within) w (x .state)
 
-      slot-small : settledFrom n block s low (sweep false w) 0 n .over ≡ false → (v : ℕ) → v < n
+      slot-small : settledFrom n block s low (sweepOf false w) 0 n .over ≡ false → (v : ℕ) → v < n
           → count (shortestWalks (planOf bs n t) s v u) ≤ 18446744073709551615
       unfolding walksAt
       slot-small none v q =
@@ -159,7 +159,7 @@ module _ (bs : List ℕ) (n t s low block : ℕ) (old : List ℕ) (ready : Ready
 
       -- a slot with no record left is settled, and the pass is one slot further
       pub passing-settle : (r : Bool) (w′ : List ℕ) → u ≤ t → r ≡ false
-          → sweep r w′ ≡ settledFrom n block s low (sweep false w) 0 n
+          → sweepOf r w′ ≡ settledFrom n block s low (sweepOf false w) 0 n
           → Passing bs n t s low block old (u + 1) j w′
       passing-settle r w′ more none out =
           record {
@@ -178,7 +178,7 @@ module _ (bs : List ℕ) (n t s low block : ℕ) (old : List ℕ) (ready : Ready
 
       -- a large pending sequence is a cause of refusal, and nothing past the area is touched
       pub passed-over : (r : Bool) (w′ : List ℕ) → u ≤ t → r ≡ true
-          → sweep r w′ ≡ settledFrom n block s low (sweep false w) 0 n
+          → sweepOf r w′ ≡ settledFrom n block s low (sweepOf false w) 0 n
           → Passed bs n t s low block old w′ true
       unfolding walksAt
       passed-over r w′ more some out =
@@ -216,25 +216,25 @@ module _ (bs : List ℕ) (n t s low block : ℕ) (old : List ℕ) (ready : Ready
         same-length = state .same;
       }
     where
-      state : State n block old (walksAt (planOf bs n t) s low (t + 1) j) w
+      state : AreaState n block old (walksAt (planOf bs n t) s low (t + 1) j) w
       state =
           let end : u ≡ t + 1 = let l = x .last in omega arith in
-          subst (λ y. State n block old (walksAt (planOf bs n t) s low y j) w) end (x .state)
+          subst (λ y. AreaState n block old (walksAt (planOf bs n t) s low y j) w) end (x .state)
 
       exact : (z : ℕ) → z < n → areaOverflows n w z ≡ ltb 18446744073709551615 (count (shortestPaths (planOf bs n t) s z))
       exact = station-overflows bs n t ok s low block old w j state
 
 -- ---- the beginning is not the work area at entry
 
-module _ (bs : List ℕ) (n t s low block : ℕ) (old begins : List ℕ) (ready : Ready bs n t s low block old)
-    (is : begins ≡ begun n block old s) where
-  state-begun : State n block old (walksAt (planOf bs n t) s low 1 0) begins
+module _ (bs : List ℕ) (n t s low block : ℕ) (old begins : List ℕ) (ready : PassReady bs n t s low block old)
+    (is : begins ≡ begunArea n block old s) where
+  state-begun : AreaState n block old (walksAt (planOf bs n t) s low 1 0) begins
   state-begun =
       rw is
       (begun-state (planOf bs n t) s low n block old (ready-area bs n t s low block old ready) (ready .source))
 
   -- the work area at the beginning is as ready as at entry
-  pub ready-begun : Ready bs n t s low block begins
+  pub ready-begun : PassReady bs n t s low block begins
   ready-begun =
       let fits = ready .fits in
       record {

@@ -14,9 +14,9 @@ use Rattle.plan.specs.declared.Contact.{Contact}
 use Rattle.plan.specs.Record.{contactOf}
 use Rattle.memory.specs.Fill.{filled}
 use Rattle.pass.specs.Row.{rowAt}
-use Rattle.pass.specs.Entry.{merged, absorbed, Absorbable}
-use Rattle.pass.specs.Sweep.{sent, folded, masked, settledOne, sweep, settledNext, settledFrom, begun, Area}
-use Rattle.pass.specs.Sweep.{Foldable}
+use Rattle.pass.specs.Entry.{mergedArea, absorbed, Absorbable}
+use Rattle.pass.specs.Sweep.{sentArea, foldedArea, masked, settledOne, sweepOf, settledNext, settledFrom, begunArea, Area}
+use Rattle.pass.specs.Sweep.{FoldableArea}
 use Rattle.entries.proofs.CountLaws.{overflows-some, overflows-none}
 
 -- a row ends where a later one begins, or before
@@ -62,42 +62,42 @@ module _ (n block : ℕ) (w : List ℕ) (v x : ℕ) where
   pub sent-row : (row from : ℕ) (out : List ℕ) → row ≡ rowAt n block (n + x) → from ≡ rowAt n block v
       → getD w v 0 < 65535 → getD w v 0 < getD w x 0
       → out ≡ absorbed n block w (2 * n + x) row from (getD w v 0 + 1) (getD w (v + n) 0)
-      → out ≡ sent n block w v x
-  unfolding sent
+      → out ≡ sentArea n block w v x
+  unfolding sentArea
   sent-row row from out a b some fewer e =
       rw (lt-ltb (getD w v 0) 65535 some, lt-ltb (getD w v 0) (getD w x 0) fewer) (e ∙ rw (a, b))
 
   -- where it is not
   pub sent-pruned : (out : List ℕ) → getD w v 0 < 65535 → getD w x 0 ≤ getD w v 0
-      → out ≡ merged n w (2 * n + x) (getD w v 0 + 1) (getD w (v + n) 0)
-      → out ≡ sent n block w v x
-  unfolding sent
+      → out ≡ mergedArea n w (2 * n + x) (getD w v 0 + 1) (getD w (v + n) 0)
+      → out ≡ sentArea n block w v x
+  unfolding sentArea
   sent-pruned out some more e =
       rw (lt-ltb (getD w v 0) 65535 some, le-ltb (getD w v 0) (getD w x 0) more) e
 
   -- a station without walks sends nothing
-  pub sent-none : 65535 ≤ getD w v 0 → sent n block w v x ≡ w
-  unfolding sent
+  pub sent-none : 65535 ≤ getD w v 0 → sentArea n block w v x ≡ w
+  unfolding sentArea
   sent-none none = rw (le-ltb (getD w v 0) 65535 none)
 
 -- the stations of the record that was read lie within the plan
-pub record Within (n : ℕ) (r : Contact) : Type 0 where
+pub record EndsWithin (n : ℕ) (r : Contact) : Type 0 where
   pub a : r .a < n
   pub b : r .b < n
 
 -- the record that was read lies within the plan
-pub read-within : (bs : List ℕ) (n block j : ℕ) (w : List ℕ) (r : Contact) → Foldable bs n block j w
-    → contactOf r ≡ contactAt bs j → Within n r
+pub read-within : (bs : List ℕ) (n block j : ℕ) (w : List ℕ) (r : Contact) → FoldableArea bs n block j w
+    → contactOf r ≡ contactAt bs j → EndsWithin n r
 read-within bs n block j w r f e =
     record { a = subst (λ c. c .a < n) (sym e) (f .a-station); b = subst (λ c. c .b < n) (sym e) (f .b-station) }
 
 -- two sends over the record that was read fold it in
 pub folded-twice : (bs : List ℕ) (n block j : ℕ) (w one two : List ℕ) (r : Contact) → contactOf r ≡ contactAt bs j
-    → one ≡ sent n block w (r .a) (r .b) → two ≡ sent n block one (r .b) (r .a)
-    → two ≡ folded n block w (contactAt bs j)
-unfolding folded
+    → one ≡ sentArea n block w (r .a) (r .b) → two ≡ sentArea n block one (r .b) (r .a)
+    → two ≡ foldedArea n block w (contactAt bs j)
+unfolding foldedArea
 folded-twice bs n block j w one two r e first second =
-    second ∙ ap (λ z. sent n block z (r .b) (r .a)) first ∙ ap (folded n block w) e
+    second ∙ ap (λ z. sentArea n block z (r .b) (r .a)) first ∙ ap (foldedArea n block w) e
 
 -- ---- a mask
 
@@ -142,11 +142,11 @@ module _ (n block s low : ℕ) (w : List ℕ) (v : ℕ) where
       → one ≡ absorbed n block w v row from (getD w (2 * n + v) 0) (getD w (2 * n + v + n) 0)
       → two ≡ masked n block s low one v
       → getD w (2 * n + v + n) 0 ≡ 0
-      → sweep true (set (set two (2 * n + v) 65535) (2 * n + v + n) 0) ≡ settledNext n block s low (sweep over w) v
+      → sweepOf true (set (set two (2 * n + v) 65535) (2 * n + v + n) 0) ≡ settledNext n block s low (sweepOf over w) v
   unfolding settledNext
   settled-over over row from one two a b some first second big =
       rw (overflows-some (getD w (2 * n + v) 0) (getD w (2 * n + v + n) 0) some, eq-eqb (getD w (2 * n + v + n) 0) 0 big, or-true over)
-      (ap (sweep true) (settled-some row from one two a b some first second))
+      (ap (sweepOf true) (settled-some row from one two a b some first second))
 
   -- it is not
   pub settled-within : (over : Bool) (row from : ℕ) (one two : List ℕ) → row ≡ rowAt n block v
@@ -154,60 +154,60 @@ module _ (n block s low : ℕ) (w : List ℕ) (v : ℕ) where
       → one ≡ absorbed n block w v row from (getD w (2 * n + v) 0) (getD w (2 * n + v + n) 0)
       → two ≡ masked n block s low one v
       → getD w (2 * n + v + n) 0 ≢ 0
-      → sweep over (set (set two (2 * n + v) 65535) (2 * n + v + n) 0) ≡ settledNext n block s low (sweep over w) v
+      → sweepOf over (set (set two (2 * n + v) 65535) (2 * n + v + n) 0) ≡ settledNext n block s low (sweepOf over w) v
   unfolding settledNext
   settled-within over row from one two a b some first second small =
       rw (overflows-some (getD w (2 * n + v) 0) (getD w (2 * n + v + n) 0) some, ne-eqb (getD w (2 * n + v + n) 0) 0 small, or-false over)
-      (ap (sweep over) (settled-some row from one two a b some first second))
+      (ap (sweepOf over) (settled-some row from one two a b some first second))
 
   -- nothing is pending
   pub settled-none : (over : Bool) → 65535 ≤ getD w (2 * n + v) 0
-      → sweep over w ≡ settledNext n block s low (sweep over w) v
+      → sweepOf over w ≡ settledNext n block s low (sweepOf over w) v
   unfolding settledNext settledOne
   settled-none over none =
       rw (overflows-none (getD w (2 * n + v) 0) (getD w (2 * n + v + n) 0) none, or-false over, le-ltb (getD w (2 * n + v) 0) 65535 none)
 
 -- the stations below v of n are settled
-pub record Settling (n block s low : ℕ) (old : List ℕ) (v : ℕ) (over : Bool) (now : List ℕ) : Type 0 where
+pub record SettlingArea (n block s low : ℕ) (old : List ℕ) (v : ℕ) (over : Bool) (now : List ℕ) : Type 0 where
   pub within : v ≤ n
   pub same : length now ≡ length old
-  pub rest : settledFrom n block s low (sweep over now) v (n - v) ≡ settledFrom n block s low (sweep false old) 0 n
+  pub rest : settledFrom n block s low (sweepOf over now) v (n - v) ≡ settledFrom n block s low (sweepOf false old) 0 n
 
 module _ (n block s low : ℕ) (old : List ℕ) where
   -- at first no station is settled
-  pub settling-none : Settling n block s low old 0 false old
+  pub settling-none : SettlingArea n block s low old 0 false old
   settling-none =
       let same : n - 0 ≡ n = omega arith in
-      record { within = omega arith; same = refl; rest = ap (settledFrom n block s low (sweep false old) 0) same }
+      record { within = omega arith; same = refl; rest = ap (settledFrom n block s low (sweepOf false old) 0) same }
 
   -- one station more
-  pub settling-more : (v : ℕ) (over over′ : Bool) (now now′ : List ℕ) → v < n → Settling n block s low old v over now
-      → length now′ ≡ length now → sweep over′ now′ ≡ settledNext n block s low (sweep over now) v
-      → Settling n block s low old (v + 1) over′ now′
+  pub settling-more : (v : ℕ) (over over′ : Bool) (now now′ : List ℕ) → v < n → SettlingArea n block s low old v over now
+      → length now′ ≡ length now → sweepOf over′ now′ ≡ settledNext n block s low (sweepOf over now) v
+      → SettlingArea n block s low old (v + 1) over′ now′
   unfolding settledFrom
   settling-more v over over′ now now′ h x kept e =
       let more : n - v ≡ suc (n - (v + 1)) = omega arith in
       record {
         within = omega arith;
         same = kept ∙ x .same;
-        rest = rw e (sym (ap (settledFrom n block s low (sweep over now) v) more) ∙ x .rest);
+        rest = rw e (sym (ap (settledFrom n block s low (sweepOf over now) v) more) ∙ x .rest);
       }
 
   -- at last all are
-  pub settling-all : (v : ℕ) (over : Bool) (now : List ℕ) → n ≤ v → Settling n block s low old v over now
-      → sweep over now ≡ settledFrom n block s low (sweep false old) 0 n
+  pub settling-all : (v : ℕ) (over : Bool) (now : List ℕ) → n ≤ v → SettlingArea n block s low old v over now
+      → sweepOf over now ≡ settledFrom n block s low (sweepOf false old) 0 n
   unfolding settledFrom
   settling-all v over now h x =
       let none : n - v ≡ 0 = omega arith in
-      sym (ap (settledFrom n block s low (sweep over now) v) none) ∙ x .rest
+      sym (ap (settledFrom n block s low (sweepOf over now) v) none) ∙ x .rest
 
 -- ---- the beginning
 
 -- four fills, two stores and a row of ones begin the pass
 pub begun-by : (n block s row : ℕ) (w a b c d out : List ℕ) → a ≡ filled w 0 n 65535 → b ≡ filled a n n 0
     → c ≡ filled b (2 * n) n 65535 → d ≡ filled c (3 * n) n 0 → row ≡ rowAt n block s
-    → out ≡ filled (set (set d s 0) (s + n) 1) row block 1 → out ≡ begun n block w s
-unfolding begun
+    → out ≡ filled (set (set d s 0) (s + n) 1) row block 1 → out ≡ begunArea n block w s
+unfolding begunArea
 begun-by n block s row w a b c d out ea eb ec ed er eo = cc
 
 -- two stores keep a list's length

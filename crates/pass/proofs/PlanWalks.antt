@@ -26,8 +26,8 @@ use Rattle.counting.proofs.Recurrence.{before, atAppearance, arrivals, arrivals
 use Rattle.counting.proofs.Recurrence.{inflow-other-station, arrivals-same, arrivals-zero, arrivals-all, settle}
 use Rattle.counting.proofs.Recurrence.{arrivals-less}
 use Rattle.counting.proofs.Through.{avoiding}
-use Rattle.pass.specs.Sweep.{sent, folded, Area}
-use Rattle.pass.proofs.StateLaws.{Walks, Sound, State, sent-state, delayed-less}
+use Rattle.pass.specs.Sweep.{sentArea, foldedArea, Area}
+use Rattle.pass.proofs.StateLaws.{Walks, Sound, AreaState, sent-state, delayed-less}
 use Rattle.pass.proofs.SettleLaws.{Settles}
 
 -- the walks to v that a contact in slot u may follow, by hops, where the permission g lets them go on from v
@@ -196,11 +196,11 @@ module _ (p : Plan) (fits : SlotsWithin p) (few : p .slots ≤ 255) (s low n blo
   -- Folding the contact at position j, in slot u: its walks have arrived too.
   pub folded-state : (u j : ℕ) (c : Contact) (w : List ℕ) → getElem? (p .contacts) j ≡ some c → c .slot ≡ u
       → c .a < n → c .b < n → c .a ≢ c .b
-      → State n block old (walksAt p s low u j) w
-      → State n block old (walksAt p s low u (j + 1)) (folded n block w c)
-  unfolding folded walksAt walksHalf
+      → AreaState n block old (walksAt p s low u j) w
+      → AreaState n block old (walksAt p s low u (j + 1)) (foldedArea n block w c)
+  unfolding foldedArea walksAt walksHalf
   folded-state u j c w there slot ha hb apart state =
-      sent-state n block old area (walksHalf p s low u j c) (walksAt p s low u (j + 1)) (sent n block w (c .a) (c .b))
+      sent-state n block old area (walksHalf p s low u j c) (walksAt p s low u (j + 1)) (sentArea n block w (c .a) (c .b))
       (c .b) (c .a) hb ha (sound-half p s low u j c) first (one-more (c .b) u (first .settled (c .b) hb .entry .fewest))
       (λ v k. refl) (λ v x k. refl)
       (whole-a p s everywhere j c u there slot apart)
@@ -208,7 +208,7 @@ module _ (p : Plan) (fits : SlotsWithin p) (few : p .slots ≤ 255) (s low n blo
       (λ v k. whole-other p s everywhere j c u there slot apart v k)
       (λ v x k. whole-other p s (avoiding s (low + x)) j c u there slot apart v k)
     where
-      first : State n block old (walksHalf p s low u j c) (sent n block w (c .a) (c .b))
+      first : AreaState n block old (walksHalf p s low u j c) (sentArea n block w (c .a) (c .b))
       first =
           sent-state n block old area (walksAt p s low u j) (walksHalf p s low u j c) w (c .a) (c .b) ha hb
           (sound-at p s low u j) state (one-more (c .a) u (state .settled (c .a) ha .entry .fewest))

@@ -15,11 +15,11 @@ use Rattle.counting.proofs.Through.{avoiding}
 use Rattle.entries.proofs.EntryLaws.{plus-none, Large, Small, overflow-large, overflow-small}
 use Rattle.pass.specs.Row.{rowAt}
 use Rattle.pass.specs.Entry.{areaOverflows}
-use Rattle.pass.specs.Sweep.{settledOne, Sweep, sweep, settledNext, settledFrom, Area}
+use Rattle.pass.specs.Sweep.{settledOne, Sweep, sweepOf, settledNext, settledFrom, Area}
 use Rattle.pass.proofs.PlaceLaws.{row-before, area-kept}
 use Rattle.pass.proofs.BestLaws.{best-ext, best-same, best-none, best-merge, best-masked}
 use Rattle.pass.proofs.TookLaws.{Settled, settled-took}
-use Rattle.pass.proofs.StateLaws.{Walks, Sound, State, state-ext, Holds, row-outside}
+use Rattle.pass.proofs.StateLaws.{Walks, Sound, AreaState, state-ext, BestAt, row-outside}
 
 settled-none : (n block s low : ℕ) (w : List ℕ) (v : ℕ) → 65535 ≤ getD w (2 * n + v) 0
     → settledOne n block s low w v ≡ w
@@ -47,15 +47,15 @@ chosen true a b e z = e
 chosen false a b e z = z refl
 
 module _ (n block : ℕ) (old : List ℕ) (area : Area n block old) (s low : ℕ) where
-  settled-state : (x y : Walks) (w : List ℕ) (b : ℕ) → b < n → SettlesOne s low b x y → State n block old x w
-      → State n block old y (settledOne n block s low w b)
+  settled-state : (x y : Walks) (w : List ℕ) (b : ℕ) → b < n → SettlesOne s low b x y → AreaState n block old x w
+      → AreaState n block old y (settledOne n block s low w b)
   settled-state x y w b hb z state =
       by-cases (decLe 65535 (getD w (2 * n + b) 0)) nothing (λ q. something (omega arith))
     where
       positive : 0 < n
       positive = area .some
 
-      nothing : 65535 ≤ getD w (2 * n + b) 0 → State n block old y (settledOne n block s low w b)
+      nothing : 65535 ≤ getD w (2 * n + b) 0 → AreaState n block old y (settledOne n block s low w b)
       nothing q =
           let f = state .pending b hb .entry .fewest in
           let none : (k : ℕ) → x .pending b k ≡ 0 = f .never (let g = f .bound in omega arith) in
@@ -80,7 +80,7 @@ module _ (n block : ℕ) (old : List ℕ) (area : Area n block old) (s low : ℕ
                 (z .others-pending-avoid v j k);
           }) state)
 
-      something : getD w (2 * n + b) 0 < 65535 → State n block old y (settledOne n block s low w b)
+      something : getD w (2 * n + b) 0 < 65535 → AreaState n block old y (settledOne n block s low w b)
       something q =
           record {
             same = took .same ∙ state .same;
@@ -210,7 +210,7 @@ pub record SomeLarge (n : ℕ) (x : Walks) : Type 0 where
 
 -- what a sweep from station v on leaves, from the sweep z
 record Swept (n block : ℕ) (old : List ℕ) (x y : Walks) (v : ℕ) (z out : Sweep) : Type 0 where
-  state : State n block old y (out .work)
+  state : AreaState n block old y (out .work)
   over : out .over ≡ true → (z .over ≡ true) ⊎ SomeLarge n x
   within : out .over ≡ false → (z .over ≡ false) × ((u : ℕ) → v ≤ u → u < n → Small (x .pending u))
 
@@ -224,7 +224,7 @@ or-none true b e = let z : _≡_ {A = ℕ} 0 1 = cc in absurd (omega arith)
 or-none false b e = (refl, e)
 
 module _ (n block : ℕ) (old : List ℕ) (area : Area n block old) (s low : ℕ) (x y : Walks) (z : Settles s low x y) where
-  swept : (k v : ℕ) (b : Sweep) → v + k ≡ n → State n block old (between v x y) (b .work)
+  swept : (k v : ℕ) (b : Sweep) → v + k ≡ n → AreaState n block old (between v x y) (b .work)
       → Swept n block old x y v b (settledFrom n block s low b v k)
   unfolding settledFrom settledNext between
   swept zero v b e state =
@@ -243,12 +243,12 @@ module _ (n block : ℕ) (old : List ℕ) (area : Area n block old) (s low : ℕ
   swept (suc k) v b e state =
       after (swept k (v + 1) (settledNext n block s low b v) (omega arith) next)
     where
-      next : State n block old (between (v + 1) x y) (settledNext n block s low b v .work)
+      next : AreaState n block old (between (v + 1) x y) (settledNext n block s low b v .work)
       next =
           settled-state n block old area s low (between v x y) (between (v + 1) x y) (b .work) v (omega arith)
           (settles-one s low x y z v) state
 
-      holds : Holds block (min 65535 (getD (b .work) v 0 + 1)) (x .pending v) (x .pending-avoiding v) n (2 * n + v)
+      holds : BestAt block (min 65535 (getD (b .work) v 0 + 1)) (x .pending v) (x .pending-avoiding v) n (2 * n + v)
           (rowAt n block (n + v)) (b .work)
       holds =
           best-ext (λ k. ap (λ f. f k) (upto-from (y .pending) (x .pending) v v (omega arith)))
@@ -275,7 +275,7 @@ module _ (n block : ℕ) (old : List ℕ) (area : Area n block old) (s low : ℕ
                 );
           }
 
-  begin : (w : List ℕ) → State n block old x w → State n block old (between 0 x y) w
+  begin : (w : List ℕ) → AreaState n block old x w → AreaState n block old (between 0 x y) w
   unfolding between
   begin w state =
       state-ext (record {
@@ -289,21 +289,21 @@ module _ (n block : ℕ) (old : List ℕ) (area : Area n block old) (s low : ℕ
 
   -- Settling a slot: the state is that of the sequences after it; a count over 2^64 - 1 is met just where a pending
   -- sequence is large.
-  pub settled-all : (w : List ℕ) → State n block old x w
-      → State n block old y (settledFrom n block s low (sweep false w) 0 n .work)
-  settled-all w state = swept n 0 (sweep false w) (omega arith) (begin w state) .state
+  pub settled-all : (w : List ℕ) → AreaState n block old x w
+      → AreaState n block old y (settledFrom n block s low (sweepOf false w) 0 n .work)
+  settled-all w state = swept n 0 (sweepOf false w) (omega arith) (begin w state) .state
 
   -- where the flag is set, a pending sequence is large
-  pub settled-over : (w : List ℕ) → State n block old x w
-      → settledFrom n block s low (sweep false w) 0 n .over ≡ true
+  pub settled-over : (w : List ℕ) → AreaState n block old x w
+      → settledFrom n block s low (sweepOf false w) 0 n .over ≡ true
       → SomeLarge n x
   settled-over w state e =
       ⊎-elim (λ (q : _≡_ {A = Bool} false true). let z : _≡_ {A = ℕ} 0 1 = cc in absurd (omega arith)) (λ q. q)
-      (swept n 0 (sweep false w) (omega arith) (begin w state) .over e)
+      (swept n 0 (sweepOf false w) (omega arith) (begin w state) .over e)
 
   -- where it is not, every pending sequence is small
-  pub settled-within : (w : List ℕ) → State n block old x w
-      → settledFrom n block s low (sweep false w) 0 n .over ≡ false
+  pub settled-within : (w : List ℕ) → AreaState n block old x w
+      → settledFrom n block s low (sweepOf false w) 0 n .over ≡ false
       → (u : ℕ) → u < n → Small (x .pending u)
   settled-within w state e u inside =
-      swept n 0 (sweep false w) (omega arith) (begin w state) .within e .1 u (omega arith) inside
+      swept n 0 (sweepOf false w) (omega arith) (begin w state) .within e .1 u (omega arith) inside

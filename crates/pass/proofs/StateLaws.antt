@@ -11,14 +11,14 @@ use Rattle.counting.proofs.Fewest.{plus, delayed}
 use Rattle.pass.specs.Row.{mergedRow, rowAt}
 use Rattle.entries.specs.Entry.{mergedCount}
 use Rattle.entries.proofs.EntryLaws.{delayed-zero, plus-none}
-use Rattle.pass.specs.Sweep.{sent, Area}
+use Rattle.pass.specs.Sweep.{sentArea, Area}
 use Rattle.pass.proofs.PlaceLaws.{row-before, absorbable, area-kept, sent-row, sent-pruned, sent-none}
 use Rattle.pass.proofs.BestLaws.{Best, best-ext, best-same, best-merge, best-delayed, row-more}
 use Rattle.pass.proofs.TookLaws.{Took, merged-took, absorbed-took}
 
 -- the entry at a place, with the row at another, is the best of N and M
-abbrev pub Holds : ℕ → ℕ → (ℕ → ℕ) → (ℕ → ℕ → ℕ) → ℕ → ℕ → ℕ → List ℕ → Type 0
-Holds block limit N M n at row w = Best block limit N M (getD w at 0) (getD w (at + n) 0) (λ j. getD w (row + j) 0)
+abbrev pub BestAt : ℕ → ℕ → (ℕ → ℕ) → (ℕ → ℕ → ℕ) → ℕ → ℕ → ℕ → List ℕ → Type 0
+BestAt block limit N M n at row w = Best block limit N M (getD w at 0) (getD w (at + n) 0) (λ j. getD w (row + j) 0)
 
 -- the sequences of the stations, settled and pending, and those of them, by column of the block, that avoid a station
 pub record Walks : Type 0 where
@@ -33,13 +33,13 @@ pub record Sound (x : Walks) : Type 0 where
   pub pending : (v j k : ℕ) → x .pending-avoiding v j k ≤ x .pending v k
 
 -- the work area holds them. The row of a pending entry with more hops than the settled one is not looked at.
-pub record State (n block : ℕ) (old : List ℕ) (x : Walks) (w : List ℕ) : Type 0 where
+pub record AreaState (n block : ℕ) (old : List ℕ) (x : Walks) (w : List ℕ) : Type 0 where
   pub same : length w ≡ length old
   pub beyond : (i : ℕ) → 4 * n + 2 * n * block ≤ i → getD w i 0 ≡ getD old i 0
   pub settled : (v : ℕ) → v < n
-      → Holds block 65535 (x .settled v) (x .settled-avoiding v) n v (rowAt n block v) w
+      → BestAt block 65535 (x .settled v) (x .settled-avoiding v) n v (rowAt n block v) w
   pub pending : (v : ℕ) → v < n
-      → Holds block (min 65535 (getD w v 0 + 1)) (x .pending v) (x .pending-avoiding v) n (2 * n + v)
+      → BestAt block (min 65535 (getD w v 0 + 1)) (x .pending v) (x .pending-avoiding v) n (2 * n + v)
       (rowAt n block (n + v)) w
 
 -- fewer walks are fewer one hop later
@@ -56,8 +56,8 @@ pub record Agree (n : ℕ) (x y : Walks) : Type 0 where
   pub pending-avoiding : (v : ℕ) → v < n → (j k : ℕ) → x .pending-avoiding v j k ≡ y .pending-avoiding v j k
 
 -- the state is one of sequences that agree
-pub state-ext : {n block : ℕ} {old : List ℕ} {x y : Walks} {w : List ℕ} → Agree n x y → State n block old x w
-    → State n block old y w
+pub state-ext : {n block : ℕ} {old : List ℕ} {x y : Walks} {w : List ℕ} → Agree n x y → AreaState n block old x w
+    → AreaState n block old y w
 state-ext e s =
     record {
       same = s .same;
@@ -77,14 +77,14 @@ row-outside n block e f j d q =
 module _ (n block : ℕ) (old : List ℕ) (area : Area n block old) where
   -- ---- one pending entry took walks in
 
-  took-state : (x y : Walks) (w w′ : List ℕ) (b : ℕ) → b < n → State n block old x w → (h c : ℕ) (r : ℕ → ℕ)
+  took-state : (x y : Walks) (w w′ : List ℕ) (b : ℕ) → b < n → AreaState n block old x w → (h c : ℕ) (r : ℕ → ℕ)
       → Took n block (2 * n + b) (rowAt n block (n + b)) w w′ h c r
       → Best block (min 65535 (getD w b 0 + 1)) (y .pending b) (y .pending-avoiding b) h c r
       → ((v k : ℕ) → x .settled v k ≡ y .settled v k)
       → ((v j k : ℕ) → x .settled-avoiding v j k ≡ y .settled-avoiding v j k)
       → ((v k : ℕ) → v ≢ b → x .pending v k ≡ y .pending v k)
       → ((v j k : ℕ) → v ≢ b → x .pending-avoiding v j k ≡ y .pending-avoiding v j k)
-      → State n block old y w′
+      → AreaState n block old y w′
   took-state x y w w′ b hb s h c r took best es esa ep epa =
       record {
         same = took .same ∙ s .same;
@@ -115,7 +115,7 @@ module _ (n block : ℕ) (old : List ℕ) (area : Area n block old) where
   -- ---- a send from a to b
 
   -- what is settled for a, one hop later, is pending for b too
-  pub sent-state : (x y : Walks) (w : List ℕ) (a b : ℕ) → a < n → b < n → Sound x → State n block old x w
+  pub sent-state : (x y : Walks) (w : List ℕ) (a b : ℕ) → a < n → b < n → Sound x → AreaState n block old x w
       → (getD w a 0 < 65535 → getD w a 0 + 1 < 65535)
       → ((v k : ℕ) → x .settled v k ≡ y .settled v k)
       → ((v j k : ℕ) → x .settled-avoiding v j k ≡ y .settled-avoiding v j k)
@@ -123,7 +123,7 @@ module _ (n block : ℕ) (old : List ℕ) (area : Area n block old) where
       → ((j k : ℕ) → plus (x .pending-avoiding b j) (delayed (x .settled-avoiding a j)) k ≡ y .pending-avoiding b j k)
       → ((v k : ℕ) → v ≢ b → x .pending v k ≡ y .pending v k)
       → ((v j k : ℕ) → v ≢ b → x .pending-avoiding v j k ≡ y .pending-avoiding v j k)
-      → State n block old y (sent n block w a b)
+      → AreaState n block old y (sentArea n block w a b)
   sent-state x y w a b ha hb sound s few es esa here herea ep epa =
       by-cases (decLe 65535 (getD w a 0)) nothing (λ q. something (omega arith))
     where
@@ -139,7 +139,7 @@ module _ (n block : ℕ) (old : List ℕ) (area : Area n block old) where
       less : (j k : ℕ) → delayed (x .settled-avoiding a j) k ≤ delayed (x .settled a) k
       less j = delayed-less (sound .settled a j)
 
-      nothing : 65535 ≤ getD w a 0 → State n block old y (sent n block w a b)
+      nothing : 65535 ≤ getD w a 0 → AreaState n block old y (sentArea n block w a b)
       nothing q =
           let f = s .settled a ha .entry .fewest in
           let none : (k : ℕ) → x .settled a k ≡ 0 = f .never (let g = f .bound in omega arith) in
@@ -157,7 +157,7 @@ module _ (n block : ℕ) (old : List ℕ) (area : Area n block old) where
                 (λ d. epa v j k d);
           }) s)
 
-      something : getD w a 0 < 65535 → State n block old y (sent n block w a b)
+      something : getD w a 0 < 65535 → AreaState n block old y (sentArea n block w a b)
       something q =
           by-cases (decLe (getD w b 0) (getD w a 0))
           (λ more. rw (sym (sent-pruned n block w a b _ q more refl))

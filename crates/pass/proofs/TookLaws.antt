@@ -14,7 +14,7 @@ use lib.Seq.{getD-set-same, getD-set-other, lt-length-set}
 use Rattle.counting.proofs.Through.{avoiding}
 use Rattle.pass.specs.Row.{combined, mergedRow, rowAt}
 use Rattle.entries.specs.Entry.{mergedCount}
-use Rattle.pass.specs.Entry.{merged, absorbed, Absorbable}
+use Rattle.pass.specs.Entry.{mergedArea, absorbed, Absorbable}
 use Rattle.pass.specs.Sweep.{masked, settledOne, Area}
 use Rattle.pass.proofs.RowLaws.{combined-length, combined-other, combined-at}
 use Rattle.pass.proofs.EntryLaws.{merged-length}
@@ -30,20 +30,20 @@ pub record Took (n block at row : ℕ) (old new : List ℕ) (h c : ℕ) (r : ℕ
   pub same : length new ≡ length old
 
 module _ (n : ℕ) (w : List ℕ) (at l d : ℕ) (some : 0 < n) (fits : at + n < length w) where
-  merged-hops : getD (merged n w at l d) at 0 ≡ min (getD w at 0) l
-  unfolding merged
+  merged-hops : getD (mergedArea n w at l d) at 0 ≡ min (getD w at 0) l
+  unfolding mergedArea
   merged-hops =
       getD-set-other (set w at (min (getD w at 0) l)) (at + n) at _ 0 (omega arith)
       ∙ getD-set-same w at (min (getD w at 0) l) 0 (omega arith)
 
-  merged-count : getD (merged n w at l d) (at + n) 0 ≡ mergedCount (getD w at 0) (getD w (at + n) 0) l d
-  unfolding merged
+  merged-count : getD (mergedArea n w at l d) (at + n) 0 ≡ mergedCount (getD w at 0) (getD w (at + n) 0) l d
+  unfolding mergedArea
   merged-count =
       getD-set-same (set w at (min (getD w at 0) l)) (at + n) _ 0
       (lt-length-set w at (min (getD w at 0) l) fits)
 
-  merged-other : (i : ℕ) → i ≢ at → i ≢ at + n → getD (merged n w at l d) i 0 ≡ getD w i 0
-  unfolding merged
+  merged-other : (i : ℕ) → i ≢ at → i ≢ at + n → getD (mergedArea n w at l d) i 0 ≡ getD w i 0
+  unfolding mergedArea
   merged-other i a b =
       getD-set-other (set w at (min (getD w at 0) l)) (at + n) i _ 0 b
       ∙ getD-set-other w at i (min (getD w at 0) l) 0 a
@@ -51,7 +51,7 @@ module _ (n : ℕ) (w : List ℕ) (at l d : ℕ) (some : 0 < n) (fits : at + n <
 -- hops and count alone are taken in
 pub merged-took : (n block : ℕ) (w : List ℕ) (at row l d : ℕ) → 0 < n → at + n < 4 * n → 4 * n ≤ row
     → 4 * n ≤ length w
-    → Took n block at row w (merged n w at l d) (min (getD w at 0) l)
+    → Took n block at row w (mergedArea n w at l d) (min (getD w at 0) l)
     (mergedCount (getD w at 0) (getD w (at + n) 0) l d) (λ j. getD w (row + j) 0)
 merged-took n block w at row l d some before behind fits =
     let inside : at + n < length w = omega arith in

@@ -8,13 +8,13 @@ use Rattle.entries.specs.Entry.{mergedCount, overflows}
 use Rattle.pass.specs.Row.{combined, mergedRow}
 
 -- d walks of l hops are taken into the entry at a place
-unfoldable pub merged : ℕ → List ℕ → ℕ → ℕ → ℕ → List ℕ
-merged n w at l d =
+unfoldable pub mergedArea : ℕ → List ℕ → ℕ → ℕ → ℕ → List ℕ
+mergedArea n w at l d =
     set (set w at (min (getD w at 0) l)) (at + n) (mergedCount (getD w at 0) (getD w (at + n) 0) l d)
 
 -- the same with the row at a place and the row that comes with the walks
 unfoldable pub absorbed : ℕ → ℕ → List ℕ → ℕ → ℕ → ℕ → ℕ → ℕ → List ℕ
-absorbed n block w at row from l d = merged n (combined (mergedRow (getD w at 0) l) w row from block) at l d
+absorbed n block w at row from l d = mergedArea n (combined (mergedRow (getD w at 0) l) w row from block) at l d
 
 -- whether the entry at a place has a count over 2^64 - 1
 abbrev pub areaOverflows : ℕ → List ℕ → ℕ → Bool

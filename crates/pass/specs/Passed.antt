@@ -16,7 +16,7 @@ abbrev pub areaSize : ℕ → ℕ → ℕ
 areaSize n block = 4 * n + 2 * n * block
 
 -- what the pass asks: an accepted plan, a source and a block of stations in it, and a work area that is long enough
-pub record Ready (bs : List ℕ) (n t s low block : ℕ) (work : List ℕ) : Type 0 where
+pub record PassReady (bs : List ℕ) (n t s low block : ℕ) (work : List ℕ) : Type 0 where
   pub accepted : planFault bs n t ≡ 0
   pub source : s < n
   pub stations : low + block ≤ n

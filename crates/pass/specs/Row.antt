@@ -29,6 +29,6 @@ abbrev pub rowAt : ℕ → ℕ → ℕ → ℕ
 rowAt n block e = 4 * n + e * block
 
 -- two stretches of k entries lie within a list
-pub record Rows (w : List ℕ) (to from k : ℕ) : Type 0 where
+pub record RowsFit (w : List ℕ) (to from k : ℕ) : Type 0 where
   pub to-fits : to + k ≤ length w
   pub from-fits : from + k ≤ length w

@@ -11,21 +11,21 @@ use Rattle.temporal.specs.Plan.{Contact}
 use Rattle.temporal.specs.Bytes.{contactAt}
 use Rattle.memory.specs.Fill.{filled}
 use Rattle.pass.specs.Row.{rowAt}
-use Rattle.pass.specs.Entry.{merged, absorbed, areaOverflows}
+use Rattle.pass.specs.Entry.{mergedArea, absorbed, areaOverflows}
 
 -- What is settled for v goes on over one hop more, to what is pending for x. The row stays where the settled entry of x
 -- has fewer hops: it is not looked at.
-unfoldable pub sent : ℕ → ℕ → List ℕ → ℕ → ℕ → List ℕ
-sent n block w v x =
+unfoldable pub sentArea : ℕ → ℕ → List ℕ → ℕ → ℕ → List ℕ
+sentArea n block w v x =
     cond (ltb (getD w v 0) 65535)
     (cond (ltb (getD w v 0) (getD w x 0))
     (absorbed n block w (2 * n + x) (rowAt n block (n + x)) (rowAt n block v) (getD w v 0 + 1) (getD w (v + n) 0))
-    (merged n w (2 * n + x) (getD w v 0 + 1) (getD w (v + n) 0)))
+    (mergedArea n w (2 * n + x) (getD w v 0 + 1) (getD w (v + n) 0)))
     w
 
 -- both ways over a contact
-unfoldable pub folded : ℕ → ℕ → List ℕ → Contact → List ℕ
-folded n block w c = sent n block (sent n block w (c .a) (c .b)) (c .b) (c .a)
+unfoldable pub foldedArea : ℕ → ℕ → List ℕ → Contact → List ℕ
+foldedArea n block w c = sentArea n block (sentArea n block w (c .a) (c .b)) (c .b) (c .a)
 
 -- the column of v in its own row becomes 0, where the block has it and v is not the source
 unfoldable pub masked : ℕ → ℕ → ℕ → ℕ → List ℕ → ℕ → List ℕ
@@ -51,13 +51,13 @@ pub record Sweep : Type 0 where
   pub over : Bool
   pub work : List ℕ
 
-abbrev pub sweep : Bool → List ℕ → Sweep
-sweep b w = record { over = b; work = w }
+abbrev pub sweepOf : Bool → List ℕ → Sweep
+sweepOf b w = record { over = b; work = w }
 
 -- station v is settled
 unfoldable pub settledNext : ℕ → ℕ → ℕ → ℕ → Sweep → ℕ → Sweep
 settledNext n block s low x v =
-    sweep (x .over || areaOverflows n (x .work) (2 * n + v)) (settledOne n block s low (x .work) v)
+    sweepOf (x .over || areaOverflows n (x .work) (2 * n + v)) (settledOne n block s low (x .work) v)
 
 -- k stations from v on are settled
 unfoldable pub settledFrom : ℕ → ℕ → ℕ → ℕ → Sweep → ℕ → ℕ → Sweep
@@ -65,8 +65,8 @@ settledFrom n block s low x v zero = x
 settledFrom n block s low x v (suc k) = settledFrom n block s low (settledNext n block s low x v) (v + 1) k
 
 -- no walks but the empty one, settled for the source, with a row of ones; nothing is pending
-unfoldable pub begun : ℕ → ℕ → List ℕ → ℕ → List ℕ
-begun n block w s =
+unfoldable pub begunArea : ℕ → ℕ → List ℕ → ℕ → List ℕ
+begunArea n block w s =
     filled
     (set (set (filled (filled (filled (filled w 0 n 65535) n n 0) (2 * n) n 65535) (3 * n) n 0) s 0) (s + n) 1)
     (rowAt n block s) block 1
@@ -77,7 +77,7 @@ pub record Area (n block : ℕ) (w : List ℕ) : Type 0 where
   pub fits : 4 * n + 2 * n * block ≤ length w
 
 -- the record at j can be folded in: it is there, and its stations lie within the plan
-pub record Foldable (bs : List ℕ) (n block j : ℕ) (w : List ℕ) : Type 0 where
+pub record FoldableArea (bs : List ℕ) (n block j : ℕ) (w : List ℕ) : Type 0 where
   pub inside : j * 6 + 5 < length bs
   pub a-station : contactAt bs j .a < n
   pub b-station : contactAt bs j .b < n

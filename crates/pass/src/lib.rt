@@ -6,24 +6,24 @@ ghost use Prim.Native.Nat.{_+_, _*_, _<_, _≤_};
 ghost use lib.ListN.{length, getD};
 ghost use Rattle.temporal.specs.Lists.{any, below};
 ghost use Rattle.temporal.specs.Bytes.{contactAt};
-ghost use Rattle.pass.specs.Row.{combined, second, wrapped, mergedRow, rowAt, Rows};
-ghost use Rattle.pass.specs.Entry.{merged, absorbed, areaOverflows, Absorbable};
+ghost use Rattle.pass.specs.Row.{combined, second, wrapped, mergedRow, rowAt, RowsFit};
+ghost use Rattle.pass.specs.Entry.{mergedArea, absorbed, areaOverflows, Absorbable};
 ghost use Rattle.pass.specs.Sweep.{
-  sent,
-  folded,
+  sentArea,
+  foldedArea,
   masked,
   settledNext,
-  sweep,
+  sweepOf,
   settledFrom,
-  begun,
+  begunArea,
   Area,
-  Foldable,
+  FoldableArea,
 };
-ghost use Rattle.pass.specs.Passed.{Ready, Passed};
+ghost use Rattle.pass.specs.Passed.{PassReady, Passed};
 
 // Copies a row to another.
 fn copy_row(work: &mut [u64], to: usize, from: usize, size: usize)
-    requires { ⌜ Rows (now work) to from size ⌝ }
+    requires { ⌜ RowsFit (now work) to from size ⌝ }
     ensures { λ _. ⌜ now (work .exit) ≡ combined second (now (work .entry)) to from size ⌝ }
 {
     let mut j = 0;
@@ -35,7 +35,7 @@ fn copy_row(work: &mut [u64], to: usize, from: usize, size: usize)
 
 // Adds a row to another, modulo 2^64.
 fn add_row(work: &mut [u64], to: usize, from: usize, size: usize)
-    requires { ⌜ Rows (now work) to from size ⌝ }
+    requires { ⌜ RowsFit (now work) to from size ⌝ }
     ensures { λ _. ⌜ now (work .exit) ≡ combined wrapped (now (work .entry)) to from size ⌝ }
 {
     let mut j = 0;
@@ -47,7 +47,7 @@ fn add_row(work: &mut [u64], to: usize, from: usize, size: usize)
 
 // Takes a row beside l hops into a row beside h hops.
 fn merge_row(work: &mut [u64], to: usize, from: usize, size: usize, h: u64, l: u64)
-    requires { ⌜ Rows (now work) to from size ⌝ }
+    requires { ⌜ RowsFit (now work) to from size ⌝ }
     ensures { λ _. ⌜ now (work .exit) ≡ combined (mergedRow h l) (now (work .entry)) to from size ⌝ }
 {
     if l < h {
@@ -62,7 +62,7 @@ fn merge_row(work: &mut [u64], to: usize, from: usize, size: usize, h: u64, l: u
 // Takes d walks of l hops into the entry at a place.
 fn merge(work: &mut [u64], n: usize, at: usize, l: u64, d: u64)
     requires { ⌜ at + n < length (now work) ⌝ }
-    ensures { λ _. ⌜ now (work .exit) ≡ merged n (now (work .entry)) at l d ⌝ }
+    ensures { λ _. ⌜ now (work .exit) ≡ mergedArea n (now (work .entry)) at l d ⌝ }
 {
     let old = work[at];
     let counted = at + n;
@@ -106,7 +106,7 @@ fn row_at(n: usize, block: usize, e: usize) -> usize
 // Sends what is settled for v on over one hop more, to what is pending for x.
 fn send(work: &mut [u64], n: usize, block: usize, v: usize, x: usize)
     requires { ⌜ Area n block (now work) × (v < n) × (x < n) ⌝ }
-    ensures { λ _. ⌜ now (work .exit) ≡ sent n block (now (work .entry)) v x ⌝ }
+    ensures { λ _. ⌜ now (work .exit) ≡ sentArea n block (now (work .entry)) v x ⌝ }
 {
     let h = work[v];
     if h < 65535 {
@@ -124,8 +124,8 @@ fn send(work: &mut [u64], n: usize, block: usize, v: usize, x: usize)
 
 // Folds the record at j in, both ways.
 fn fold_record(work: &mut [u64], plan: &[u8], n: usize, block: usize, j: usize)
-    requires { ⌜ Foldable (now plan) n block j (now work) ⌝ }
-    ensures { λ _. ⌜ now (work .exit) ≡ folded n block (now (work .entry)) (contactAt (now (plan .entry)) j) ⌝ }
+    requires { ⌜ FoldableArea (now plan) n block j (now work) ⌝ }
+    ensures { λ _. ⌜ now (work .exit) ≡ foldedArea n block (now (work .entry)) (contactAt (now (plan .entry)) j) ⌝ }
 {
     let c = plan::contact_at(plan, j);
     send(work, n, block, c.a, c.b);
@@ -161,7 +161,7 @@ fn settle_one(
     over: bool,
 ) -> bool
     requires { ⌜ Area n block (now work) × (v < n) ⌝ }
-    ensures { λ r. ⌜ sweep r (now (work .exit)) ≡ settledNext n block source low (sweep over (now (work .entry))) v ⌝ }
+    ensures { λ r. ⌜ sweepOf r (now (work .exit)) ≡ settledNext n block source low (sweepOf over (now (work .entry))) v ⌝ }
 {
     let at = 2 * n + v;
     let h = work[at];
@@ -184,7 +184,7 @@ fn settle_one(
 // Settles a slot for every station. True where a count is over 2^64 - 1.
 fn settle(work: &mut [u64], n: usize, block: usize, source: usize, low: usize) -> bool
     requires { ⌜ Area n block (now work) ⌝ }
-    ensures { λ r. ⌜ sweep r (now (work .exit)) ≡ settledFrom n block source low (sweep false (now (work .entry))) 0 n ⌝ }
+    ensures { λ r. ⌜ sweepOf r (now (work .exit)) ≡ settledFrom n block source low (sweepOf false (now (work .entry))) 0 n ⌝ }
 {
     let mut over = false;
     let mut v = 0;
@@ -198,7 +198,7 @@ fn settle(work: &mut [u64], n: usize, block: usize, source: usize, low: usize) -
 // Clears the work area and settles the empty walk of the source.
 fn begin(work: &mut [u64], n: usize, block: usize, source: usize)
     requires { ⌜ Area n block (now work) × (source < n) ⌝ }
-    ensures { λ _. ⌜ now (work .exit) ≡ begun n block (now (work .entry)) source ⌝ }
+    ensures { λ _. ⌜ now (work .exit) ≡ begunArea n block (now (work .entry)) source ⌝ }
 {
     memory::fill_part(work, 0, n, 65535);
     memory::fill_part(work, n, n, 0);
@@ -236,7 +236,7 @@ pub fn pass(
     low: usize,
     block: usize,
 ) -> bool
-    requires { ⌜ Ready (now plan) n t source low block (now work) ⌝ }
+    requires { ⌜ PassReady (now plan) n t source low block (now work) ⌝ }
     ensures { λ r. ⌜ Passed (now (plan .entry)) n t source low block (now (work .entry)) (now (work .exit)) r ⌝ }
 {
     begin(work, n, block, source);

@@ -6,7 +6,8 @@ use mathlib.Core.Path.{_≡_, refl, sym, ap, subst, _∙_}
 use mathlib.Core.Bool.{cond}
 use mathlib.Core.Logic.{_≢_, by-cases}
 use mathlib.Core.List.{List, _++_}
-use lib.ListN.{length, getD, set, drop, replicate, length-replicate, getD-replicate, List·getD-append, length-append, length-drop, length-set}
+use lib.ListN.{length, getD, set, drop, replicate, length-replicate, getD-replicate, List·getD-append, length-append}
+use lib.ListN.{length-drop, length-set}
 use lib.Seq.{getD-set-same, getD-set-other, drop-set-lt, drop-at}
 use Rattle.temporal.specs.Plan.{start}
 use Rattle.temporal.specs.Walk.{endsIn, isAt, isAppearance, isWalk}
@@ -24,11 +25,11 @@ use Rattle.reach.specs.Table.{Table, Fits}
 use Rattle.entries.specs.Entry.{stored}
 use Rattle.entries.proofs.CountLaws.{stored-small}
 use Rattle.entries.proofs.EntryLaws.{entry-none, entry-ext}
-use Rattle.reach.specs.Pass.{Tables, begun, Beyond, Holds, Filled}
+use Rattle.reach.specs.Pass.{Tables, begunTables, Beyond, EntryHolds, FilledTables}
 use Rattle.reach.proofs.EntryLaws.{EntryAt}
 use Rattle.reach.proofs.TableLaws.{slots-apart, stations-apart}
 use Rattle.reach.proofs.PlaceLaws.{place-below}
-use Rattle.reach.proofs.StateLaws.{State, reaching, ready, pendingWalks, fits-beyond}
+use Rattle.reach.proofs.StateLaws.{TablesState, reaching, ready, pendingWalks, fits-beyond}
 
 -- ---- filled lists
 
@@ -60,8 +61,8 @@ module _ (bs : List ℕ) (n t s : ℕ) (ok : planFault bs n t ≡ 0) (source : s
   start-below = let spot = place-below s 0 n (t + 1) (n * (t + 1)) source (omega arith) (omega arith) in omega arith
 
   -- there is the empty walk
-  start-entry : EntryAt (reaching bs n t s s 0) (begun n (t + 1) s old .appearances) (s * (t + 1))
-  unfolding begun
+  start-entry : EntryAt (reaching bs n t s s 0) (begunTables n (t + 1) s old .appearances) (s * (t + 1))
+  unfolding begunTables
   start-entry =
       rw (
         getD-set-same (over (replicate (n * (t + 1)) 65535) (old .appearances .hops)) (s * (t + 1)) 0 0
@@ -78,20 +79,20 @@ module _ (bs : List ℕ) (n t s : ℕ) (ok : planFault bs n t ≡ 0) (source : s
       })
 
   -- every other place has none
-  other-hops : (i : ℕ) → i < n * (t + 1) → i ≢ s * (t + 1) → getD (begun n (t + 1) s old .appearances .hops) i 0 ≡ 65535
-  unfolding begun
+  other-hops : (i : ℕ) → i < n * (t + 1) → i ≢ s * (t + 1) → getD (begunTables n (t + 1) s old .appearances .hops) i 0 ≡ 65535
+  unfolding begunTables
   other-hops i h ne =
       getD-set-other (over (replicate (n * (t + 1)) 65535) (old .appearances .hops)) (s * (t + 1)) i 0 0 ne ∙
       over-there (n * (t + 1)) 65535 (old .appearances .hops) i h
 
-  other-counts : (i : ℕ) → i < n * (t + 1) → i ≢ s * (t + 1) → getD (begun n (t + 1) s old .appearances .counts) i 0 ≡ 0
-  unfolding begun
+  other-counts : (i : ℕ) → i < n * (t + 1) → i ≢ s * (t + 1) → getD (begunTables n (t + 1) s old .appearances .counts) i 0 ≡ 0
+  unfolding begunTables
   other-counts i h ne =
       getD-set-other (over (replicate (n * (t + 1)) 0) (old .appearances .counts)) (s * (t + 1)) i 1 0 ne ∙
       over-there (n * (t + 1)) 0 (old .appearances .counts) i h
 
-  begun-appearances : Beyond (n * (t + 1)) (old .appearances) (begun n (t + 1) s old .appearances)
-  unfolding begun
+  begun-appearances : Beyond (n * (t + 1)) (old .appearances) (begunTables n (t + 1) s old .appearances)
+  unfolding begunTables
   begun-appearances =
       record {
         hops = drop-set-lt {A = ℕ} (n * (t + 1)) _ (s * (t + 1)) 0 start-below ∙ over-beyond (n * (t + 1)) 65535 _;
@@ -104,8 +105,8 @@ module _ (bs : List ℕ) (n t s : ℕ) (ok : planFault bs n t ≡ 0) (source : s
             over-length (n * (t + 1)) 0 (old .appearances .counts) (fits .counts);
       }
 
-  begun-stations : Beyond n (old .stations) (begun n (t + 1) s old .stations)
-  unfolding begun
+  begun-stations : Beyond n (old .stations) (begunTables n (t + 1) s old .stations)
+  unfolding begunTables
   begun-stations =
       record {
         hops = over-beyond n 65535 _;
@@ -118,11 +119,11 @@ module _ (bs : List ℕ) (n t s : ℕ) (ok : planFault bs n t ≡ 0) (source : s
   later-apart v r h low last q =
       slots-apart v r s 0 (t + 1) last (omega arith) (λ e. omega arith) (q ∙ start-place)
 
-  begun-pending : (v : ℕ) → v < n → EntryAt (pendingWalks bs n t s 0 0 v) (begun n (t + 1) s old .appearances) (v * (t + 1) + 0)
+  begun-pending : (v : ℕ) → v < n → EntryAt (pendingWalks bs n t s 0 0 v) (begunTables n (t + 1) s old .appearances) (v * (t + 1) + 0)
   unfolding pendingWalks
   begun-pending v h =
       by-cases (ℕ-discrete v s)
-      (λ q. rw q (subst (EntryAt (reaching bs n t s s 0) (begun n (t + 1) s old .appearances)) start-place start-entry))
+      (λ q. rw q (subst (EntryAt (reaching bs n t s s 0) (begunTables n (t + 1) s old .appearances)) start-place start-entry))
       (λ ne.
       let below = place-below v 0 n (t + 1) (n * (t + 1)) h (omega arith) (omega arith) in
       let away : v * (t + 1) + 0 ≢ s * (t + 1) =
@@ -130,14 +131,14 @@ module _ (bs : List ℕ) (n t s : ℕ) (ok : planFault bs n t ≡ 0) (source : s
       rw (other-hops (v * (t + 1) + 0) below away, other-counts (v * (t + 1) + 0) below away)
       (entry-none (reaching bs n t s v 0) (λ k. start-other (planOf bs n t) s everywhere v k ne)))
 
-  begun-station : (v : ℕ) → v < n → EntryAt (ready bs n t s v 0) (begun n (t + 1) s old .stations) v
-  unfolding begun
+  begun-station : (v : ℕ) → v < n → EntryAt (ready bs n t s v 0) (begunTables n (t + 1) s old .stations) v
+  unfolding begunTables
   begun-station v h =
       rw (over-there n 65535 (old .stations .hops) v h, over-there n 0 (old .stations .counts) v h)
       (entry-none (ready bs n t s v 0) (λ k. before-zero (planOf bs n t) s everywhere v k))
 
   -- the tables begun are in the state before slot 0 is done with
-  pub begin-state : State bs n t s old 0 0 (begun n (t + 1) s old)
+  pub begin-state : TablesState bs n t s old 0 0 (begunTables n (t + 1) s old)
   begin-state =
       record {
         settled = λ v r h low last. absurd (omega arith);
@@ -150,7 +151,7 @@ module _ (bs : List ℕ) (n t s : ℕ) (ok : planFault bs n t ≡ 0) (source : s
         passed = λ i h. absurd (omega arith);
         rest = λ i low last. omega arith;
         within = omega arith;
-        fits = fits-beyond n (t + 1) old (begun n (t + 1) s old) fits begun-appearances begun-stations;
+        fits = fits-beyond n (t + 1) old (begunTables n (t + 1) s old) fits begun-appearances begun-stations;
         appearances-beyond = begun-appearances;
         stations-beyond = begun-stations;
       }
@@ -164,7 +165,7 @@ module _ (bs : List ℕ) (n t s : ℕ) (ok : planFault bs n t ≡ 0) where
 
   -- an entry of walks to an appearance holds its hops and count
   holds-appearance :
-      (x : Table) (i v u : ℕ) → EntryAt (reaching bs n t s v u) x i → Holds x i (shortestWalks (planOf bs n t) s v u)
+      (x : Table) (i v u : ℕ) → EntryAt (reaching bs n t s v u) x i → EntryHolds x i (shortestWalks (planOf bs n t) s v u)
   unfolding shortestWalks isWalk atAppearance
   holds-appearance x i v u e =
       let b = bounded-ends (planOf bs n t) (slots-within bs n t ok) s (isAppearance v u) in
@@ -177,7 +178,7 @@ module _ (bs : List ℕ) (n t s : ℕ) (ok : planFault bs n t ≡ 0) where
 
   -- an entry of all walks to a station holds its hops and count
   holds-station :
-      (x : Table) (i v : ℕ) → EntryAt (ready bs n t s v (t + 1)) x i → Holds x i (shortestPaths (planOf bs n t) s v)
+      (x : Table) (i v : ℕ) → EntryAt (ready bs n t s v (t + 1)) x i → EntryHolds x i (shortestPaths (planOf bs n t) s v)
   unfolding planOf
   holds-station x i v e =
       let b = bounded-ends (planOf bs n t) (slots-within bs n t ok) s (isAt v) in
@@ -192,7 +193,7 @@ module _ (bs : List ℕ) (n t s : ℕ) (ok : planFault bs n t ≡ 0) where
       })
 
   -- at the end of the last slot the tables are filled
-  pub end-state : (old x : Tables) (j : ℕ) → State bs n t s old (t + 1) j x → Filled bs n t s old x
+  pub end-state : (old x : Tables) (j : ℕ) → TablesState bs n t s old (t + 1) j x → FilledTables bs n t s old x
   end-state old x j st =
       record {
         appearance = λ v u h last. holds-appearance (x .appearances) _ v u (st .settled v u h last last);

@@ -30,7 +30,7 @@ use Rattle.counting.proofs.Recurrence.{
   inflow-to-a,
   inflow-to-b,
 }
-use Rattle.reach.specs.Table.{Table, folded, sent, Fits}
+use Rattle.reach.specs.Table.{Table, foldedTable, sentTable, Fits}
 use Rattle.reach.specs.Pass.{Tables, Beyond}
 use Rattle.reach.proofs.PlaceLaws.{place-below}
 use Rattle.plan.specs.Record.{inSlot}
@@ -44,7 +44,7 @@ use Rattle.reach.proofs.TableLaws.{
   beyond-refl,
   beyond-sent,
 }
-use Rattle.reach.proofs.StateLaws.{State, ready, pendingWalks, fits-beyond}
+use Rattle.reach.proofs.StateLaws.{TablesState, ready, pendingWalks, fits-beyond}
 
 -- walks have no more hops than a plan has slots
 walks-few :
@@ -81,16 +81,16 @@ module _ (x y : Table) (c : Contact) (n width : ℕ) (fits : Fits n width x y)
   -- every place but those two is as it was
   pub folded-other-hops :
       (i : ℕ) → i ≢ c .a * width + c .slot → i ≢ c .b * width + c .slot →
-      getD (folded width x y c .hops) i 0 ≡ getD (x .hops) i 0
-  unfolding folded
+      getD (foldedTable width x y c .hops) i 0 ≡ getD (x .hops) i 0
+  unfolding foldedTable
   folded-other-hops i not-a not-b =
       sent-other-hops _ y (c .b) (c .a * width + c .slot) i not-a ∙
       sent-other-hops x y (c .a) (c .b * width + c .slot) i not-b
 
   pub folded-other-counts :
       (i : ℕ) → i ≢ c .a * width + c .slot → i ≢ c .b * width + c .slot →
-      getD (folded width x y c .counts) i 0 ≡ getD (x .counts) i 0
-  unfolding folded
+      getD (foldedTable width x y c .counts) i 0 ≡ getD (x .counts) i 0
+  unfolding foldedTable
   folded-other-counts i not-a not-b =
       sent-other-counts _ y (c .b) (c .a * width + c .slot) i not-a ∙
       sent-other-counts x y (c .a) (c .b * width + c .slot) i not-b
@@ -99,11 +99,11 @@ module _ (x y : Table) (c : Contact) (n width : ℕ) (fits : Fits n width x y)
   pub entry-folded-b :
       (N M : ℕ → ℕ) → (getD (y .hops) (c .a) 0 < 65535 → getD (y .hops) (c .a) 0 + 1 < 65535) →
       EntryAt N x (c .b * width + c .slot) → EntryAt M y (c .a) →
-      EntryAt (plus N (delayed M)) (folded width x y c) (c .b * width + c .slot)
-  unfolding folded
+      EntryAt (plus N (delayed M)) (foldedTable width x y c) (c .b * width + c .slot)
+  unfolding foldedTable
   entry-folded-b N M few e f =
-      let first = sent x y (c .a) (c .b * width + c .slot) in
-      entry-kept first (sent first y (c .b) (c .a * width + c .slot)) (c .b * width + c .slot)
+      let first = sentTable x y (c .a) (c .b * width + c .slot) in
+      entry-kept first (sentTable first y (c .b) (c .a * width + c .slot)) (c .b * width + c .slot)
       (sent-other-hops first y (c .b) (c .a * width + c .slot) _ apart)
       (sent-other-counts first y (c .b) (c .a * width + c .slot) _ apart)
       (entry-sent x y (c .a) (c .b * width + c .slot) N M
@@ -114,10 +114,10 @@ module _ (x y : Table) (c : Contact) (n width : ℕ) (fits : Fits n width x y)
   pub entry-folded-a :
       (N M : ℕ → ℕ) → (getD (y .hops) (c .b) 0 < 65535 → getD (y .hops) (c .b) 0 + 1 < 65535) →
       EntryAt N x (c .a * width + c .slot) → EntryAt M y (c .b) →
-      EntryAt (plus N (delayed M)) (folded width x y c) (c .a * width + c .slot)
-  unfolding folded
+      EntryAt (plus N (delayed M)) (foldedTable width x y c) (c .a * width + c .slot)
+  unfolding foldedTable
   entry-folded-a N M few e f =
-      let first = sent x y (c .a) (c .b * width + c .slot) in
+      let first = sentTable x y (c .a) (c .b * width + c .slot) in
       let kept = beyond-sent (c .b * width + c .slot + 1) x x y (c .a) (c .b * width + c .slot) (omega arith)
       (beyond-refl _ x) in
       let hops-kept = kept .hops-length in
@@ -129,8 +129,8 @@ module _ (x y : Table) (c : Contact) (n width : ℕ) (fits : Fits n width x y)
       (sent-other-hops x y (c .a) (c .b * width + c .slot) _ (λ q. apart (sym q)))
       (sent-other-counts x y (c .a) (c .b * width + c .slot) _ (λ q. apart (sym q))) e) f
 
-  pub beyond-folded : (z : Table) → Beyond (n * width) z x → Beyond (n * width) z (folded width x y c)
-  unfolding folded
+  pub beyond-folded : (z : Table) → Beyond (n * width) z x → Beyond (n * width) z (foldedTable width x y c)
+  unfolding foldedTable
   beyond-folded z b =
       beyond-sent (n * width) z _ y (c .b) (c .a * width + c .slot)
       (place-below (c .a) (c .slot) n width _ (omega arith) slot (omega arith))
@@ -181,9 +181,9 @@ module _ (bs : List ℕ) (n t s : ℕ) (ok : planFault bs n t ≡ 0) where
 
   -- a slot's record keeps the state, with one record more folded in
   pub fold-state :
-      (old : Tables) (u j : ℕ) (x : Tables) → u < t + 1 → State bs n t s old u j x → inSlot bs j u ≡ true →
-      State bs n t s old u (j + 1)
-      (record { appearances = folded (t + 1) (x .appearances) (x .stations) (contactAt bs j); stations = x .stations })
+      (old : Tables) (u j : ℕ) (x : Tables) → u < t + 1 → TablesState bs n t s old u j x → inSlot bs j u ≡ true →
+      TablesState bs n t s old u (j + 1)
+      (record { appearances = foldedTable (t + 1) (x .appearances) (x .stations) (contactAt bs j); stations = x .stations })
   fold-state old u j x slot-below st here =
       record {
         settled = λ v r h low last.
@@ -210,7 +210,7 @@ module _ (bs : List ℕ) (n t s : ℕ) (ok : planFault bs n t ≡ 0) where
       c = contactAt bs j
 
       new : Table
-      new = folded (t + 1) (x .appearances) (x .stations) (contactAt bs j)
+      new = foldedTable (t + 1) (x .appearances) (x .stations) (contactAt bs j)
 
       there : j < records bs
       there = in-slot-inv bs j u here .0

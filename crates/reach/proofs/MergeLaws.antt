@@ -8,26 +8,26 @@ use lib.ListN.{length, getD, set, length-set}
 use lib.Seq.{set-getD}
 use Rattle.entries.specs.Entry.{addCounts}
 use Rattle.entries.proofs.CountLaws.{count-fewer, count-equal, count-more}
-use Rattle.reach.specs.Table.{Table, table, merged, sent, settledFrom}
+use Rattle.reach.specs.Table.{Table, tableOf, mergedTable, sentTable, settledTable}
 
 module _ (h c : List ℕ) (at l d : ℕ) where
   -- fewer hops take the place of the entry
-  pub merge-fewer : l < getD h at 0 → merged (table h c) at l d ≡ table (set h at l) (set c at d)
-  unfolding merged
+  pub merge-fewer : l < getD h at 0 → mergedTable (tableOf h c) at l d ≡ tableOf (set h at l) (set c at d)
+  unfolding mergedTable
   merge-fewer less =
       let fewer : min (getD h at 0) l ≡ l = omega arith in
       rw (fewer, count-fewer (getD h at 0) (getD c at 0) l d less)
 
   -- as many hops add the count
-  pub merge-equal : l ≡ getD h at 0 → merged (table h c) at l d ≡ table h (set c at (addCounts (getD c at 0) d))
-  unfolding merged
+  pub merge-equal : l ≡ getD h at 0 → mergedTable (tableOf h c) at l d ≡ tableOf h (set c at (addCounts (getD c at 0) d))
+  unfolding mergedTable
   merge-equal same =
       let kept : min (getD h at 0) l ≡ getD h at 0 = omega arith in
       rw (kept, set-getD h at 0, count-equal (getD h at 0) (getD c at 0) l d same)
 
   -- more hops leave the entry
-  pub merge-more : getD h at 0 < l → merged (table h c) at l d ≡ table h c
-  unfolding merged
+  pub merge-more : getD h at 0 < l → mergedTable (tableOf h c) at l d ≡ tableOf h c
+  unfolding mergedTable
   merge-more more =
       let kept : min (getD h at 0) l ≡ getD h at 0 = omega arith in
       rw (kept, set-getD h at 0, count-more (getD h at 0) (getD c at 0) l d more, set-getD c at 0)
@@ -35,13 +35,13 @@ module _ (h c : List ℕ) (at l d : ℕ) where
 module _ (x y : Table) (v at : ℕ) where
   -- a station with walks sends them on
   pub sent-some :
-      getD (y .hops) v 0 < 65535 → sent x y v at ≡ merged x at (getD (y .hops) v 0 + 1) (getD (y .counts) v 0)
-  unfolding sent
+      getD (y .hops) v 0 < 65535 → sentTable x y v at ≡ mergedTable x at (getD (y .hops) v 0 + 1) (getD (y .counts) v 0)
+  unfolding sentTable
   sent-some h = rw (lt-ltb (getD (y .hops) v 0) 65535 h)
 
   -- a station without walks sends nothing
-  pub sent-none : 65535 ≤ getD (y .hops) v 0 → sent x y v at ≡ x
-  unfolding sent
+  pub sent-none : 65535 ≤ getD (y .hops) v 0 → sentTable x y v at ≡ x
+  unfolding sentTable
   sent-none h = rw (le-ltb (getD (y .hops) v 0) 65535 h)
 
 -- ---- a table's settling, station by station
@@ -49,42 +49,42 @@ module _ (x y : Table) (v at : ℕ) where
 module _ (width u : ℕ) (x : Table) where
   pub settle-turn :
       (y : Table) (v n : ℕ) → v < n →
-      settledFrom width u x y v (n - v) ≡
-      settledFrom width u x (merged y v (getD (x .hops) (v * width + u) 0) (getD (x .counts) (v * width + u) 0)) (v + 1)
+      settledTable width u x y v (n - v) ≡
+      settledTable width u x (mergedTable y v (getD (x .hops) (v * width + u) 0) (getD (x .counts) (v * width + u) 0)) (v + 1)
       (n - (v + 1))
-  unfolding settledFrom
+  unfolding settledTable
   settle-turn y v n h = let more : n - v ≡ suc (n - (v + 1)) = omega arith in rw more
 
-  pub settle-end : (y : Table) (v n : ℕ) → n ≤ v → settledFrom width u x y v (n - v) ≡ y
-  unfolding settledFrom
+  pub settle-end : (y : Table) (v n : ℕ) → n ≤ v → settledTable width u x y v (n - v) ≡ y
+  unfolding settledTable
   settle-end y v n h = let none : n - v ≡ 0 = omega arith in rw none
 
 -- merging keeps the lengths
-pub merged-hops-length : (x : Table) (at l d : ℕ) → length (merged x at l d .hops) ≡ length (x .hops)
-unfolding merged
+pub merged-hops-length : (x : Table) (at l d : ℕ) → length (mergedTable x at l d .hops) ≡ length (x .hops)
+unfolding mergedTable
 merged-hops-length x at l d = length-set (x .hops) at _
 
-pub merged-counts-length : (x : Table) (at l d : ℕ) → length (merged x at l d .counts) ≡ length (x .counts)
-unfolding merged
+pub merged-counts-length : (x : Table) (at l d : ℕ) → length (mergedTable x at l d .counts) ≡ length (x .counts)
+unfolding mergedTable
 merged-counts-length x at l d = length-set (x .counts) at _
 
 -- the stations below v of n are settled
-pub record Settling (width u n : ℕ) (x old : Table) (v : ℕ) (now : Table) : Type 0 where
+pub record SettlingTable (width u n : ℕ) (x old : Table) (v : ℕ) (now : Table) : Type 0 where
   pub within : v ≤ n
   pub hops : length (now .hops) ≡ length (old .hops)
   pub counts : length (now .counts) ≡ length (old .counts)
-  pub rest : settledFrom width u x now v (n - v) ≡ settledFrom width u x old 0 n
+  pub rest : settledTable width u x now v (n - v) ≡ settledTable width u x old 0 n
 
 module _ (width u n : ℕ) (x old : Table) where
-  pub settling-none : Settling width u n x old 0 old
+  pub settling-none : SettlingTable width u n x old 0 old
   settling-none =
       let same : n - 0 ≡ n = omega arith in
-      record { within = omega arith; hops = refl; counts = refl; rest = ap (settledFrom width u x old 0) same }
+      record { within = omega arith; hops = refl; counts = refl; rest = ap (settledTable width u x old 0) same }
 
   pub settling-more :
-      (v : ℕ) (now : Table) → v < n → Settling width u n x old v now →
-      Settling width u n x old (v + 1)
-      (merged now v (getD (x .hops) (v * width + u) 0) (getD (x .counts) (v * width + u) 0))
+      (v : ℕ) (now : Table) → v < n → SettlingTable width u n x old v now →
+      SettlingTable width u n x old (v + 1)
+      (mergedTable now v (getD (x .hops) (v * width + u) 0) (getD (x .counts) (v * width + u) 0))
   settling-more v now h s =
       record {
         within = omega arith;
@@ -94,5 +94,5 @@ module _ (width u n : ℕ) (x old : Table) where
       }
 
   pub settling-all :
-      (v : ℕ) (now : Table) → n ≤ v → Settling width u n x old v now → now ≡ settledFrom width u x old 0 n
+      (v : ℕ) (now : Table) → n ≤ v → SettlingTable width u n x old v now → now ≡ settledTable width u x old 0 n
   settling-all v now h s = sym (settle-end width u x now v n h) ∙ s .rest

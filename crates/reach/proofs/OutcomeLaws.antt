@@ -17,7 +17,7 @@ use Rattle.temporal.proofs.ListLaws.{any-true, mem-below, length-zero}
 use Rattle.entries.specs.Entry.{overflows}
 use Rattle.entries.proofs.CountLaws.{stored-small, stored-large}
 use Rattle.reach.specs.Table.{Table, tableOverflows}
-use Rattle.reach.specs.Pass.{Holds}
+use Rattle.reach.specs.Pass.{EntryHolds}
 
 -- two tests that hold together are equal
 both-ways : (a b : Bool) → (a ≡ true → b ≡ true) → (b ≡ true → a ≡ true) → a ≡ b
@@ -59,7 +59,7 @@ empty-none = refl
 
 -- an entry of a list overflows exactly where the list is over 2^64 - 1 long
 pub overflows-exactly :
-    (x : Table) (j : ℕ) (l : List (List ℕ)) → Few l → Holds x j l → tableOverflows x j ≡ ltb (2 ^ 64 - 1) (count l)
+    (x : Table) (j : ℕ) (l : List (List ℕ)) → Few l → EntryHolds x j l → tableOverflows x j ≡ ltb (2 ^ 64 - 1) (count l)
 unfolding overflows
 overflows-exactly x j l few h =
     rw (h .hops-there, h .count-there)

@@ -11,12 +11,12 @@ use Rattle.temporal.specs.Outcome.{over}
 use Rattle.temporal.proofs.Accepted.{accepted}
 use Rattle.plan.specs.Record.{inSlot}
 use Rattle.plan.proofs.SlotLaws.{in-slot-inv}
-use Rattle.reach.specs.Table.{Table, table, folded, settledFrom, tableOverflows, Fits, Foldable}
-use Rattle.reach.specs.Pass.{Tables, tables, begun, emptied, overflowing, turned, Turnable}
+use Rattle.reach.specs.Table.{Table, tableOf, foldedTable, settledTable, tableOverflows, Fits, FoldableTables}
+use Rattle.reach.specs.Pass.{Tables, tablesOf, begunTables, emptiedTables, tablesOverflow, turnedTables, Turnable}
 
 module _ (bs : List ℕ) (n width u j : ℕ) (x : Tables) where
   -- a record of an accepted plan can be folded in
-  pub foldable : Turnable bs n width u x → inSlot bs j u ≡ true → Foldable bs n width j (x .appearances) (x .stations)
+  pub foldable : Turnable bs n width u x → inSlot bs j u ≡ true → FoldableTables bs n width j (x .appearances) (x .stations)
   foldable r e =
       let (there, slot) = in-slot-inv bs j u e in
       let a = accepted bs n (width - 1) (r .accepted) in
@@ -36,16 +36,16 @@ module _ (bs : List ℕ) (n width u j : ℕ) (x : Tables) where
 
   -- a turn that folds
   pub turn-folds :
-      (a : Table) → inSlot bs j u ≡ true → a ≡ folded width (x .appearances) (x .stations) (contactAt bs j) →
-      _≡_ {A = Tables} (record { appearances = a; stations = x .stations }) (turned bs n width u j x)
-  unfolding turned
+      (a : Table) → inSlot bs j u ≡ true → a ≡ foldedTable width (x .appearances) (x .stations) (contactAt bs j) →
+      _≡_ {A = Tables} (record { appearances = a; stations = x .stations }) (turnedTables bs n width u j x)
+  unfolding turnedTables
   turn-folds a e h = rw e (ap (λ z. record { appearances = z; stations = x .stations }) h)
 
   -- a turn that settles
   pub turn-settles :
-      (s : Table) → inSlot bs j u ≡ false → s ≡ settledFrom width u (x .appearances) (x .stations) 0 n →
-      _≡_ {A = Tables} (record { appearances = x .appearances; stations = s }) (turned bs n width u j x)
-  unfolding turned
+      (s : Table) → inSlot bs j u ≡ false → s ≡ settledTable width u (x .appearances) (x .stations) 0 n →
+      _≡_ {A = Tables} (record { appearances = x .appearances; stations = s }) (turnedTables bs n width u j x)
+  unfolding turnedTables
   turn-settles s e h = rw e (ap (λ z. record { appearances = x .appearances; stations = z }) h)
 
 module _ (n width : ℕ) (x : Tables) (h c sh sc : List ℕ) where
@@ -53,25 +53,25 @@ module _ (n width : ℕ) (x : Tables) (h c sh sc : List ℕ) where
       (s : ℕ) → h ≡ over (replicate (n * width) 65535) (x .appearances .hops) →
       c ≡ over (replicate (n * width) 0) (x .appearances .counts) →
       sh ≡ over (replicate n 65535) (x .stations .hops) → sc ≡ over (replicate n 0) (x .stations .counts) →
-      tables (set h (s * width) 0) (set c (s * width) 1) sh sc ≡ begun n width s x
-  unfolding begun
+      tablesOf (set h (s * width) 0) (set c (s * width) 1) sh sc ≡ begunTables n width s x
+  unfolding begunTables
   begun-by s e f g k = cc
 
   pub emptied-by :
       h ≡ over (replicate (n * width) 0) (x .appearances .hops) →
       c ≡ over (replicate (n * width) 0) (x .appearances .counts) →
       sh ≡ over (replicate n 0) (x .stations .hops) → sc ≡ over (replicate n 0) (x .stations .counts) →
-      tables h c sh sc ≡ emptied n width x
-  unfolding emptied
+      tablesOf h c sh sc ≡ emptiedTables n width x
+  unfolding emptiedTables
   emptied-by e f g k = cc
 
 module _ (n width : ℕ) (x : Tables) where
-  pub overflowing-appearance : any (tableOverflows (x .appearances)) (below (n * width)) ≡ true → overflowing n width x ≡ true
-  unfolding overflowing
+  pub overflowing-appearance : any (tableOverflows (x .appearances)) (below (n * width)) ≡ true → tablesOverflow n width x ≡ true
+  unfolding tablesOverflow
   overflowing-appearance e = rw e
 
   pub overflowing-station :
       any (tableOverflows (x .appearances)) (below (n * width)) ≡ false →
-      overflowing n width x ≡ any (tableOverflows (x .stations)) (below n)
-  unfolding overflowing
+      tablesOverflow n width x ≡ any (tableOverflows (x .stations)) (below n)
+  unfolding tablesOverflow
   overflowing-station e = rw e

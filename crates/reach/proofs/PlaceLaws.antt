@@ -11,16 +11,16 @@ use Rattle.temporal.proofs.Accepted.{accepted}
 use Rattle.plan.specs.declared.Contact.{Contact}
 use Rattle.plan.specs.Record.{contactOf}
 use Rattle.plan.proofs.LimitLaws.{limited-places}
-use Rattle.reach.specs.Table.{Table, sent, folded, Places, Fits, Foldable}
+use Rattle.reach.specs.Table.{Table, sentTable, foldedTable, PlacesWithin, Fits, FoldableTables}
 
 -- an entry of n stations lies within a list that has room for them
 pub place-below : (v u n width size : ℕ) → v < n → u < width → n * width ≤ size → v * width + u < size
 place-below v u n width size h k fits = let spot = digits-lt h k in omega arith
 
 -- a place of an appearance and a station lie within tables that fit
-pub places :
-    (n width : ℕ) (x y : Table) → Fits n width x y → (v u w : ℕ) → v < n → u < width → w < n → Places x y (v * width + u) w
-places n width x y f v u w h k g =
+pub places-within :
+    (n width : ℕ) (x y : Table) → Fits n width x y → (v u w : ℕ) → v < n → u < width → w < n → PlacesWithin x y (v * width + u) w
+places-within n width x y f v u w h k g =
     record {
       to-hops = place-below v u n width _ h k (f .hops);
       to-counts = place-below v u n width _ h k (f .counts);
@@ -48,7 +48,7 @@ pub record Within (n width : ℕ) (r : Contact) : Type 0 where
   pub slot : r .slot < width
 
 pub read-within :
-    (bs : List ℕ) (n width j : ℕ) (x y : Table) (r : Contact) → Foldable bs n width j x y →
+    (bs : List ℕ) (n width j : ℕ) (x y : Table) (r : Contact) → FoldableTables bs n width j x y →
     contactOf r ≡ contactAt bs j → Within n width r
 read-within bs n width j x y r f e =
     record {
@@ -60,11 +60,11 @@ read-within bs n width j x y r f e =
 -- two sends over the record that was read fold it in
 pub folded-twice :
     (bs : List ℕ) (width j : ℕ) (x first second y : Table) (r : Contact) → contactOf r ≡ contactAt bs j →
-    first ≡ sent x y (r .a) (r .b * width + r .slot) → second ≡ sent first y (r .b) (r .a * width + r .slot) →
-    second ≡ folded width x y (contactAt bs j)
-unfolding folded
+    first ≡ sentTable x y (r .a) (r .b * width + r .slot) → second ≡ sentTable first y (r .b) (r .a * width + r .slot) →
+    second ≡ foldedTable width x y (contactAt bs j)
+unfolding foldedTable
 folded-twice bs width j x first second y r e one two =
-    two ∙ ap (λ z. sent z y (r .b) (r .a * width + r .slot)) one ∙ ap (folded width x y) e
+    two ∙ ap (λ z. sentTable z y (r .b) (r .a * width + r .slot)) one ∙ ap (foldedTable width x y) e
 
 -- an accepted plan has few places
 pub few-places : (bs : List ℕ) (n t : ℕ) → planFault bs n t ≡ 0 → n * (t + 1) ≤ 65536

@@ -34,7 +34,7 @@ use Rattle.temporal.proofs.ShortestLaws.{hops-bound}
 use Rattle.entries.specs.Entry.{stored}
 use Rattle.entries.proofs.CountLaws.{stored-small}
 use Rattle.reach.specs.Table.{Table, tableOverflows, Fits}
-use Rattle.reach.specs.Pass.{Tables, lentTables, overflowing, emptied, Holds, Filled}
+use Rattle.reach.specs.Pass.{Tables, lentTables, tablesOverflow, emptiedTables, EntryHolds, FilledTables}
 use Rattle.temporal.proofs.BufferLaws.{over-by, fill-beyond, getD-made, length-made}
 use Rattle.reach.proofs.OutcomeLaws.{Few, any-places, overflows-exactly}
 
@@ -56,10 +56,10 @@ module _ (bs : List ℕ) (n t s : ℕ) (ok : planFault bs n t ≡ 0) where
       let slots = accepted bs n t ok .slots in
       ⊎-elim inl (λ h. inr (omega arith)) (hops-bound (bounded-paths (planOf bs n t) (slots-within bs n t ok) s v))
 
-  module _ (old x : Tables) (f : Filled bs n t s old x) where
+  module _ (old x : Tables) (f : FilledTables bs n t s old x) where
     -- some entry overflows exactly where cause 9 holds
-    pub overflow-exactly : overflowing n (t + 1) x ≡ tooMany (planOf bs n t) s
-    unfolding overflowing tooMany planOf
+    pub overflow-exactly : tablesOverflow n (t + 1) x ≡ tooMany (planOf bs n t) s
+    unfolding tablesOverflow tooMany planOf
     overflow-exactly =
         ap₂ _||_
         (any-places (tableOverflows (x .appearances)) n (t + 1) (omega arith) ∙
@@ -94,10 +94,10 @@ module _ (bs : List ℕ) (n t s : ℕ) (ok : planFault bs n t ≡ 0) where
       module _ (fits : Fits n (t + 1) (old .appearances) (old .stations)) where
         -- the entry of an appearance, by its place
         placed :
-            (i : ℕ) → i < n * (t + 1) → Holds (x .appearances) i (shortestWalks (planOf bs n t) s (i / (t + 1)) (i % (t + 1)))
+            (i : ℕ) → i < n * (t + 1) → EntryHolds (x .appearances) i (shortestWalks (planOf bs n t) s (i / (t + 1)) (i % (t + 1)))
         placed i h =
             let width : 0 < t + 1 = omega arith in
-            subst (λ k. Holds (x .appearances) k (shortestWalks (planOf bs n t) s (i / (t + 1)) (i % (t + 1))))
+            subst (λ k. EntryHolds (x .appearances) k (shortestWalks (planOf bs n t) s (i / (t + 1)) (i % (t + 1))))
             (div-add-mod' i (t + 1))
             (f .appearance (i / (t + 1)) (i % (t + 1)) (div-lt-iff-lt-mul width .1 h) (mod-lt i width))
 
@@ -136,8 +136,8 @@ module _ (bs : List ℕ) (n t s : ℕ) (ok : planFault bs n t ≡ 0) where
 
   -- filled tables without an overflow are the answer
   pub reached-filled :
-      (old x : Tables) → Fits n (t + 1) (old .appearances) (old .stations) → Filled bs n t s old x →
-      overflowing n (t + 1) x ≡ false →
+      (old x : Tables) → Fits n (t + 1) (old .appearances) (old .stations) → FilledTables bs n t s old x →
+      tablesOverflow n (t + 1) x ≡ false →
       _≡_ {A = Outcome (Unit {0}) ReachTables} (record { number = 0; values = tt; buffers = lentOf x })
       (reached (planOf bs n t) s (lentOf old))
   unfolding reached
@@ -153,10 +153,10 @@ module _ (bs : List ℕ) (n t s : ℕ) (ok : planFault bs n t ≡ 0) where
 
   -- with an overflow the tables are cleared
   pub reached-cleared :
-      (old x y : Tables) → Filled bs n t s old x → overflowing n (t + 1) x ≡ true → y ≡ emptied n (t + 1) x →
+      (old x y : Tables) → FilledTables bs n t s old x → tablesOverflow n (t + 1) x ≡ true → y ≡ emptiedTables n (t + 1) x →
       _≡_ {A = Outcome (Unit {0}) ReachTables} (record { number = 9; values = tt; buffers = lentOf y })
       (reached (planOf bs n t) s (lentOf old))
-  unfolding reached emptied cleared planOf
+  unfolding reached emptiedTables cleared planOf
   reached-cleared old x y f e empty =
       let many = sym (overflow-exactly old x f) ∙ e in
       let a = fill-beyond (n * (t + 1)) 0 (x .appearances .hops) (old .appearances .hops) (f .appearances-beyond .hops) in

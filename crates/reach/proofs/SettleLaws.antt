@@ -24,18 +24,18 @@ use Rattle.counting.proofs.Recurrence.{
   arrivals-all,
   settle,
 }
-use Rattle.reach.specs.Table.{Table, settledFrom}
+use Rattle.reach.specs.Table.{Table, settledTable}
 use Rattle.reach.specs.Pass.{Tables, Beyond}
 use Rattle.plan.specs.Record.{inSlot}
 use Rattle.plan.proofs.SlotLaws.{in-slot-none}
 use Rattle.entries.proofs.EntryLaws.{entry-none, entry-ext}
 use Rattle.reach.proofs.EntryLaws.{EntryAt}
 use Rattle.reach.proofs.TableLaws.{beyond-refl, entry-settled, beyond-settled}
-use Rattle.reach.proofs.StateLaws.{State, reaching, ready, pendingWalks, fits-beyond}
+use Rattle.reach.proofs.StateLaws.{TablesState, reaching, ready, pendingWalks, fits-beyond}
 use Rattle.reach.proofs.FoldLaws.{pending-arrivals}
 
 module _ (bs : List ℕ) (n t s : ℕ) (ok : planFault bs n t ≡ 0) (old : Tables) (u j : ℕ) (x : Tables)
-    (slot-below : u < t + 1) (st : State bs n t s old u j x) (past : inSlot bs j u ≡ false) where
+    (slot-below : u < t + 1) (st : TablesState bs n t s old u j x) (past : inSlot bs j u ≡ false) where
   -- the records from j on lie in later slots
   rest-later : (i : ℕ) → j ≤ i → i < records bs → u + 1 ≤ contactAt bs i .slot
   rest-later i low last =
@@ -73,7 +73,7 @@ module _ (bs : List ℕ) (n t s : ℕ) (ok : planFault bs n t ≡ 0) (old : Tabl
       arrivals-zero (planOf bs n t) s everywhere v (u + 1) k
 
   new : Table
-  new = settledFrom (t + 1) u (x .appearances) (x .stations) 0 n
+  new = settledTable (t + 1) u (x .appearances) (x .stations) 0 n
 
   settled-entry : (v : ℕ) → v < n → EntryAt (ready bs n t s v (u + 1)) new v
   unfolding new plus
@@ -88,8 +88,8 @@ module _ (bs : List ℕ) (n t s : ℕ) (ok : planFault bs n t ≡ 0) (old : Tabl
 
   -- a slot without a record left keeps the state, settled, for the next slot
   pub settle-state :
-      State bs n t s old (u + 1) j
-      (record { appearances = x .appearances; stations = settledFrom (t + 1) u (x .appearances) (x .stations) 0 n })
+      TablesState bs n t s old (u + 1) j
+      (record { appearances = x .appearances; stations = settledTable (t + 1) u (x .appearances) (x .stations) 0 n })
   unfolding new
   settle-state =
       record {

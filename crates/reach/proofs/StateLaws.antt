@@ -33,8 +33,8 @@ use Rattle.counting.proofs.Recurrence.{
   arrivals-all,
   settle,
 }
-use Rattle.reach.specs.Table.{Table, folded, settledFrom, sent, Fits}
-use Rattle.reach.specs.Pass.{Tables, turned, Beyond}
+use Rattle.reach.specs.Table.{Table, foldedTable, settledTable, sentTable, Fits}
+use Rattle.reach.specs.Pass.{Tables, turnedTables, Beyond}
 use Rattle.reach.proofs.PlaceLaws.{place-below}
 use Rattle.reach.proofs.EntryLaws.{EntryAt}
 use Rattle.reach.proofs.TableLaws.{
@@ -59,7 +59,7 @@ unfoldable pub pendingWalks : List ℕ → ℕ → ℕ → ℕ → ℕ → ℕ �
 pendingWalks bs n t s zero j v = reaching bs n t s v 0
 pendingWalks bs n t s (suc u) j v = arrivals (planOf bs n t) s everywhere j v (suc u)
 
-pub record State (bs : List ℕ) (n t s : ℕ) (old : Tables) (u j : ℕ) (x : Tables) : Type 0 where
+pub record TablesState (bs : List ℕ) (n t s : ℕ) (old : Tables) (u j : ℕ) (x : Tables) : Type 0 where
   -- slots below u are done with
   pub settled : (v r : ℕ) → v < n → r < u → r < t + 1 → EntryAt (reaching bs n t s v r) (x .appearances) (v * (t + 1) + r)
   -- slot u has what the records below j bring

@@ -10,7 +10,7 @@ use lib.Arith.{digits-div, digits-mod}
 use lib.ListN.{length, getD, set, drop, length-set}
 use lib.Seq.{drop-set-lt}
 use Rattle.counting.proofs.Fewest.{plus}
-use Rattle.reach.specs.Table.{Table, merged, sent, folded, settledFrom}
+use Rattle.reach.specs.Table.{Table, mergedTable, sentTable, foldedTable, settledTable}
 use Rattle.reach.specs.Pass.{Beyond}
 use Rattle.reach.proofs.MergeLaws.{sent-some, sent-none, merged-hops-length, merged-counts-length}
 use Rattle.reach.proofs.EntryLaws.{EntryAt, entry-merged, merged-other-hops, merged-other-counts}
@@ -43,8 +43,8 @@ beyond-then k x y z b c =
       counts-length = c .counts-length ∙ b .counts-length;
     }
 
-pub beyond-merged : (k : ℕ) (x y : Table) (at l d : ℕ) → at < k → Beyond k x y → Beyond k x (merged y at l d)
-unfolding merged
+pub beyond-merged : (k : ℕ) (x y : Table) (at l d : ℕ) → at < k → Beyond k x y → Beyond k x (mergedTable y at l d)
+unfolding mergedTable
 beyond-merged k x y at l d h b =
     record {
       hops = drop-set-lt k (y .hops) at _ h ∙ b .hops;
@@ -53,7 +53,7 @@ beyond-merged k x y at l d h b =
       counts-length = length-set (y .counts) at _ ∙ b .counts-length;
     }
 
-pub beyond-sent : (k : ℕ) (x y z : Table) (v at : ℕ) → at < k → Beyond k x y → Beyond k x (sent y z v at)
+pub beyond-sent : (k : ℕ) (x y z : Table) (v at : ℕ) → at < k → Beyond k x y → Beyond k x (sentTable y z v at)
 beyond-sent k x y z v at h b =
     by-cases (decLt (getD (z .hops) v 0) 65535)
     (λ some. rw (sent-some y z v at some) (beyond-merged k x y at _ _ h b))
@@ -64,15 +64,15 @@ beyond-sent k x y z v at h b =
 module _ (width u : ℕ) (x : Table) where
   -- a station before those that are settled is as it was
   settled-before-hops :
-      (y : Table) (v k w : ℕ) → w < v → getD (settledFrom width u x y v k .hops) w 0 ≡ getD (y .hops) w 0
-  unfolding settledFrom
+      (y : Table) (v k w : ℕ) → w < v → getD (settledTable width u x y v k .hops) w 0 ≡ getD (y .hops) w 0
+  unfolding settledTable
   settled-before-hops y v zero w h = refl
   settled-before-hops y v (suc k) w h =
       settled-before-hops _ (v + 1) k w (omega arith) ∙ merged-other-hops y v _ _ w (λ e. omega arith)
 
   settled-before-counts :
-      (y : Table) (v k w : ℕ) → w < v → getD (settledFrom width u x y v k .counts) w 0 ≡ getD (y .counts) w 0
-  unfolding settledFrom
+      (y : Table) (v k w : ℕ) → w < v → getD (settledTable width u x y v k .counts) w 0 ≡ getD (y .counts) w 0
+  unfolding settledTable
   settled-before-counts y v zero w h = refl
   settled-before-counts y v (suc k) w h =
       settled-before-counts _ (v + 1) k w (omega arith) ∙ merged-other-counts y v _ _ w (λ e. omega arith)
@@ -80,27 +80,27 @@ module _ (width u : ℕ) (x : Table) where
   -- a station that is settled holds the sum with its appearance of the slot
   pub entry-settled :
       (N M : ℕ → ℕ) (y : Table) (v k w : ℕ) → v ≤ w → w < v + k → v + k ≤ length (y .hops) → v + k ≤ length (y .counts) →
-      EntryAt N y w → EntryAt M x (w * width + u) → EntryAt (plus N M) (settledFrom width u x y v k) w
-  unfolding settledFrom
+      EntryAt N y w → EntryAt M x (w * width + u) → EntryAt (plus N M) (settledTable width u x y v k) w
+  unfolding settledTable
   entry-settled N M y v zero w low high h c e f = absurd (omega arith)
   entry-settled N M y v (suc k) w low high h c e f =
       by-cases (ℕ-discrete w v)
       (λ same.
-      let next = merged y v (getD (x .hops) (v * width + u) 0) (getD (x .counts) (v * width + u) 0) in
-      entry-kept next (settledFrom width u x next (v + 1) k) w
+      let next = mergedTable y v (getD (x .hops) (v * width + u) 0) (getD (x .counts) (v * width + u) 0) in
+      entry-kept next (settledTable width u x next (v + 1) k) w
       (settled-before-hops next (v + 1) k w (omega arith)) (settled-before-counts next (v + 1) k w (omega arith))
       (rw same
       (entry-merged y v _ _ N M (omega arith) (omega arith) (rw same at e) (rw same at f))))
       (λ other.
-      let next = merged y v (getD (x .hops) (v * width + u) 0) (getD (x .counts) (v * width + u) 0) in
+      let next = mergedTable y v (getD (x .hops) (v * width + u) 0) (getD (x .counts) (v * width + u) 0) in
       let hl = merged-hops-length y v (getD (x .hops) (v * width + u) 0) (getD (x .counts) (v * width + u) 0) in
       let cl = merged-counts-length y v (getD (x .hops) (v * width + u) 0) (getD (x .counts) (v * width + u) 0) in
       entry-settled N M next (v + 1) k w (omega arith) (omega arith) (omega arith) (omega arith)
       (entry-kept y next w (merged-other-hops y v _ _ w other) (merged-other-counts y v _ _ w other) e) f)
 
   pub beyond-settled :
-      (m : ℕ) (z y : Table) (v k : ℕ) → v + k ≤ m → Beyond m z y → Beyond m z (settledFrom width u x y v k)
-  unfolding settledFrom
+      (m : ℕ) (z y : Table) (v k : ℕ) → v + k ≤ m → Beyond m z y → Beyond m z (settledTable width u x y v k)
+  unfolding settledTable
   beyond-settled m z y v zero h b = b
   beyond-settled m z y v (suc k) h b =
       beyond-settled m z _ (v + 1) k (omega arith) (beyond-merged m z y v _ _ (omega arith) b)

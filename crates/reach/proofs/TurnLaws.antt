@@ -9,10 +9,10 @@ use Rattle.temporal.specs.Cause.{planFault}
 use Rattle.temporal.proofs.Accepted.{accepted}
 use Rattle.plan.specs.Record.{inSlot}
 use Rattle.plan.proofs.SlotLaws.{in-slot-inv}
-use Rattle.reach.specs.Pass.{Tables, begun, turned, Turnable, Ready, Filled}
+use Rattle.reach.specs.Pass.{Tables, begunTables, turnedTables, Turnable, ReachReady, FilledTables}
 use Rattle.reach.proofs.PassLaws.{turn-folds, turn-settles}
 use Rattle.reach.proofs.TableLaws.{beyond-refl, beyond-then}
-use Rattle.reach.proofs.StateLaws.{State}
+use Rattle.reach.proofs.StateLaws.{TablesState}
 use Rattle.reach.proofs.FoldLaws.{fold-state}
 use Rattle.reach.proofs.SettleLaws.{settle-state}
 use Rattle.reach.proofs.EndLaws.{begin-state, end-state}
@@ -22,14 +22,14 @@ pub record Running (bs : List ℕ) (n t s width : ℕ) (old : Tables) (u j : ℕ
   pub accepted : planFault bs n t ≡ 0
   pub columns : width ≡ t + 1
   pub slot : u ≤ t + 1
-  pub state : State bs n t s old u j x
+  pub state : TablesState bs n t s old u j x
 
 -- the tables begun run, seen from themselves
 pub running-begin :
-    (bs : List ℕ) (n t s width : ℕ) (old x : Tables) → Ready bs n t s old → width ≡ t + 1 → x ≡ begun n width s old →
+    (bs : List ℕ) (n t s width : ℕ) (old x : Tables) → ReachReady bs n t s old → width ≡ t + 1 → x ≡ begunTables n width s old →
     Running bs n t s width x 0 0 x
 running-begin bs n t s width old x r e b =
-    let st : State bs n t s old 0 0 x = rw (b, e) (begin-state bs n t s (r .accepted) (r .source) old (r .fits)) in
+    let st : TablesState bs n t s old 0 0 x = rw (b, e) (begin-state bs n t s (r .accepted) (r .source) old (r .fits)) in
     record {
       accepted = r .accepted;
       columns = e;
@@ -65,7 +65,7 @@ module _ (bs : List ℕ) (n t s width : ℕ) (old : Tables) (u j : ℕ) (x : Tab
 
   -- a turn that folds
   pub running-fold :
-      (y : Tables) → inSlot bs j u ≡ true → y ≡ turned bs n width u j x → Running bs n t s width old u (j + 1) y
+      (y : Tables) → inSlot bs j u ≡ true → y ≡ turnedTables bs n width u j x → Running bs n t s width old u (j + 1) y
   running-fold y here e =
       let w = r .columns in
       record {
@@ -78,7 +78,7 @@ module _ (bs : List ℕ) (n t s width : ℕ) (old : Tables) (u j : ℕ) (x : Tab
 
   -- a turn that settles
   pub running-settle :
-      (y : Tables) → inSlot bs j u ≡ false → y ≡ turned bs n width u j x → Running bs n t s width old (u + 1) j y
+      (y : Tables) → inSlot bs j u ≡ false → y ≡ turnedTables bs n width u j x → Running bs n t s width old (u + 1) j y
   running-settle y past e =
       let w = r .columns in
       record {
@@ -95,14 +95,14 @@ module _ (bs : List ℕ) (n t s width : ℕ) (old : Tables) (u j : ℕ) (x : Tab
 
 -- after the last slot the tables are filled, also seen from before they were begun
 pub running-end :
-    (bs : List ℕ) (n t s width : ℕ) (old x : Tables) (u j : ℕ) (y : Tables) → width ≤ u → Ready bs n t s old →
-    x ≡ begun n width s old → Running bs n t s width x u j y → Filled bs n t s old y
+    (bs : List ℕ) (n t s width : ℕ) (old x : Tables) (u j : ℕ) (y : Tables) → width ≤ u → ReachReady bs n t s old →
+    x ≡ begunTables n width s old → Running bs n t s width x u j y → FilledTables bs n t s old y
 running-end bs n t s width old x u j y last ready b r =
     let e = r .columns in
     let w = r .slot in
     let all : u ≡ t + 1 = omega arith in
-    let st : State bs n t s old 0 0 x = rw (b, e) (begin-state bs n t s (ready .accepted) (ready .source) old (ready .fits)) in
-    let f = end-state bs n t s (r .accepted) x y j (subst (λ i. State bs n t s x i j y) all (r .state)) in
+    let st : TablesState bs n t s old 0 0 x = rw (b, e) (begin-state bs n t s (ready .accepted) (ready .source) old (ready .fits)) in
+    let f = end-state bs n t s (r .accepted) x y j (subst (λ i. TablesState bs n t s x i j y) all (r .state)) in
     record {
       appearance = f .appearance;
       station = f .station;

@@ -12,50 +12,50 @@ use Rattle.temporal.specs.Shortest.{shortestWalks, shortestPaths, hops, count}
 use Rattle.temporal.specs.Outcome.{ReachTables, over}
 use Rattle.plan.specs.Record.{inSlot}
 use Rattle.entries.specs.Entry.{stored}
-use Rattle.reach.specs.Table.{Table, table, folded, settledFrom, tableOverflows, Fits}
+use Rattle.reach.specs.Table.{Table, tableOf, foldedTable, settledTable, tableOverflows, Fits}
 
 -- the appearances' table and the stations' table
 pub record Tables : Type 0 where
   pub appearances : Table
   pub stations : Table
 
-abbrev pub tables : List ℕ → List ℕ → List ℕ → List ℕ → Tables
-tables h c sh sc = record { appearances = table h c; stations = table sh sc }
+abbrev pub tablesOf : List ℕ → List ℕ → List ℕ → List ℕ → Tables
+tablesOf h c sh sc = record { appearances = tableOf h c; stations = tableOf sh sc }
 
 -- the same four lists as document 01's tables of reach
 abbrev pub lentTables : List ℕ → List ℕ → List ℕ → List ℕ → ReachTables
 lentTables h c sh sc = record { hopsTable = h; countTable = c; stationHops = sh; stationCounts = sc }
 
 -- no walks anywhere but the empty one, which ends at the source in slot 0
-unfoldable pub begun : ℕ → ℕ → ℕ → Tables → Tables
-begun n width s x =
-    tables
+unfoldable pub begunTables : ℕ → ℕ → ℕ → Tables → Tables
+begunTables n width s x =
+    tablesOf
     (set (over (replicate (n * width) 65535) (x .appearances .hops)) (s * width) 0)
     (set (over (replicate (n * width) 0) (x .appearances .counts)) (s * width) 1)
     (over (replicate n 65535) (x .stations .hops))
     (over (replicate n 0) (x .stations .counts))
 
 -- the named parts are 0
-unfoldable pub emptied : ℕ → ℕ → Tables → Tables
-emptied n width x =
-    tables
+unfoldable pub emptiedTables : ℕ → ℕ → Tables → Tables
+emptiedTables n width x =
+    tablesOf
     (over (replicate (n * width) 0) (x .appearances .hops)) (over (replicate (n * width) 0) (x .appearances .counts))
     (over (replicate n 0) (x .stations .hops)) (over (replicate n 0) (x .stations .counts))
 
 -- whether some entry of the named parts has a count over 2^64 - 1
-unfoldable pub overflowing : ℕ → ℕ → Tables → Bool
-overflowing n width x =
+unfoldable pub tablesOverflow : ℕ → ℕ → Tables → Bool
+tablesOverflow n width x =
     any (tableOverflows (x .appearances)) (below (n * width)) || any (tableOverflows (x .stations)) (below n)
 
 -- one turn: a record of slot u is folded in, or, where there is none left, the slot is settled
-unfoldable pub turned : List ℕ → ℕ → ℕ → ℕ → ℕ → Tables → Tables
-turned bs n width u j x =
+unfoldable pub turnedTables : List ℕ → ℕ → ℕ → ℕ → ℕ → Tables → Tables
+turnedTables bs n width u j x =
     cond (inSlot bs j u)
-    (record { appearances = folded width (x .appearances) (x .stations) (contactAt bs j); stations = x .stations })
-    (record { appearances = x .appearances; stations = settledFrom width u (x .appearances) (x .stations) 0 n })
+    (record { appearances = foldedTable width (x .appearances) (x .stations) (contactAt bs j); stations = x .stations })
+    (record { appearances = x .appearances; stations = settledTable width u (x .appearances) (x .stations) 0 n })
 
 -- the entries at j are the hops and the count of the list l
-pub record Holds (x : Table) (j : ℕ) (l : List (List ℕ)) : Type 0 where
+pub record EntryHolds (x : Table) (j : ℕ) (l : List (List ℕ)) : Type 0 where
   pub hops-there : getD (x .hops) j 0 ≡ hops l
   pub count-there : getD (x .counts) j 0 ≡ stored (count l)
 
@@ -67,15 +67,15 @@ pub record Beyond (k : ℕ) (x y : Table) : Type 0 where
   pub counts-length : length (y .counts) ≡ length (x .counts)
 
 -- every entry is filled from the source, and nothing past the named parts is touched
-pub record Filled (bs : List ℕ) (n t s : ℕ) (old new : Tables) : Type 0 where
+pub record FilledTables (bs : List ℕ) (n t s : ℕ) (old new : Tables) : Type 0 where
   pub appearance :
-      (v u : ℕ) → v < n → u < t + 1 → Holds (new .appearances) (v * (t + 1) + u) (shortestWalks (planOf bs n t) s v u)
-  pub station : (v : ℕ) → v < n → Holds (new .stations) v (shortestPaths (planOf bs n t) s v)
+      (v u : ℕ) → v < n → u < t + 1 → EntryHolds (new .appearances) (v * (t + 1) + u) (shortestWalks (planOf bs n t) s v u)
+  pub station : (v : ℕ) → v < n → EntryHolds (new .stations) v (shortestPaths (planOf bs n t) s v)
   pub appearances-beyond : Beyond (n * (t + 1)) (old .appearances) (new .appearances)
   pub stations-beyond : Beyond n (old .stations) (new .stations)
 
 -- what the pass asks: an accepted plan, a source in it, and tables that fit
-pub record Ready (bs : List ℕ) (n t s : ℕ) (x : Tables) : Type 0 where
+pub record ReachReady (bs : List ℕ) (n t s : ℕ) (x : Tables) : Type 0 where
   pub accepted : planFault bs n t ≡ 0
   pub source : s < n
   pub fits : Fits n (t + 1) (x .appearances) (x .stations)

@@ -14,39 +14,39 @@ pub record Table : Type 0 where
   pub hops : List ℕ
   pub counts : List ℕ
 
-abbrev pub table : List ℕ → List ℕ → Table
-table h c = record { hops = h; counts = c }
+abbrev pub tableOf : List ℕ → List ℕ → Table
+tableOf h c = record { hops = h; counts = c }
 
 -- d walks of l hops are taken into the entry at a place
-unfoldable pub merged : Table → ℕ → ℕ → ℕ → Table
-merged x at l d =
-    table
+unfoldable pub mergedTable : Table → ℕ → ℕ → ℕ → Table
+mergedTable x at l d =
+    tableOf
     (set (x .hops) at (min (getD (x .hops) at 0) l))
     (set (x .counts) at (mergedCount (getD (x .hops) at 0) (getD (x .counts) at 0) l d))
 
 -- what y has at v goes on over one hop more, to the entry of x at a place
-unfoldable pub sent : Table → Table → ℕ → ℕ → Table
-sent x y v at =
-    cond (ltb (getD (y .hops) v 0) 65535) (merged x at (getD (y .hops) v 0 + 1) (getD (y .counts) v 0)) x
+unfoldable pub sentTable : Table → Table → ℕ → ℕ → Table
+sentTable x y v at =
+    cond (ltb (getD (y .hops) v 0) 65535) (mergedTable x at (getD (y .hops) v 0 + 1) (getD (y .counts) v 0)) x
 
 -- both ways over a contact: from stations' entries to the appearances of its slot, width entries a station
-unfoldable pub folded : ℕ → Table → Table → Contact → Table
-folded width x y c =
-    sent (sent x y (c .a) (c .b * width + c .slot)) y (c .b) (c .a * width + c .slot)
+unfoldable pub foldedTable : ℕ → Table → Table → Contact → Table
+foldedTable width x y c =
+    sentTable (sentTable x y (c .a) (c .b * width + c .slot)) y (c .b) (c .a * width + c .slot)
 
 -- the appearances of slot u are taken into the stations' entries, for k stations from v on
-unfoldable pub settledFrom : ℕ → ℕ → Table → Table → ℕ → ℕ → Table
-settledFrom width u x y v zero = y
-settledFrom width u x y v (suc k) =
-    settledFrom width u x
-    (merged y v (getD (x .hops) (v * width + u) 0) (getD (x .counts) (v * width + u) 0)) (v + 1) k
+unfoldable pub settledTable : ℕ → ℕ → Table → Table → ℕ → ℕ → Table
+settledTable width u x y v zero = y
+settledTable width u x y v (suc k) =
+    settledTable width u x
+    (mergedTable y v (getD (x .hops) (v * width + u) 0) (getD (x .counts) (v * width + u) 0)) (v + 1) k
 
 -- whether the entry at j has a count over 2^64 - 1
 abbrev pub tableOverflows : Table → ℕ → Bool
 tableOverflows x j = overflows (getD (x .hops) j 0) (getD (x .counts) j 0)
 
 -- a place of one table and a place of another lie within them
-pub record Places (x y : Table) (at v : ℕ) : Type 0 where
+pub record PlacesWithin (x y : Table) (at v : ℕ) : Type 0 where
   pub to-hops : at < length (x .hops)
   pub to-counts : at < length (x .counts)
   pub from-hops : v < length (y .hops)
@@ -60,7 +60,7 @@ pub record Fits (n width : ℕ) (x y : Table) : Type 0 where
   pub station-counts : n ≤ length (y .counts)
 
 -- the record at j can be folded in: it is there, its stations and its slot lie within the tables
-pub record Foldable (bs : List ℕ) (n width j : ℕ) (x y : Table) : Type 0 where
+pub record FoldableTables (bs : List ℕ) (n width j : ℕ) (x y : Table) : Type 0 where
   pub inside : j * 6 + 5 < length bs
   pub a-station : contactAt bs j .a < n
   pub b-station : contactAt bs j .b < n

@@ -12,26 +12,26 @@ ghost use Rattle.temporal.specs.Cause.{planFault};
 ghost use Rattle.temporal.specs.Outcome.{reached, reach};
 ghost use Rattle.plan.specs.Record.{inSlot};
 ghost use Rattle.reach.specs.Table.{
-  table,
-  merged,
-  sent,
-  folded,
-  settledFrom,
+  tableOf,
+  mergedTable,
+  sentTable,
+  foldedTable,
+  settledTable,
   tableOverflows,
-  Places,
+  PlacesWithin,
   Fits,
-  Foldable,
+  FoldableTables,
 };
 ghost use Rattle.reach.specs.Pass.{
-  tables,
+  tablesOf,
   lentTables,
-  begun,
-  emptied,
-  overflowing,
-  turned,
+  begunTables,
+  emptiedTables,
+  tablesOverflow,
+  turnedTables,
   Turnable,
-  Ready,
-  Filled,
+  ReachReady,
+  FilledTables,
 };
 ghost use Rattle.reach.specs.Answer.{reachNumber, reachOutcome};
 use plan::CallFault;
@@ -47,7 +47,7 @@ pub enum ReachAnswer {
 // Takes c walks of h hops into the entry at a place.
 fn merge(hops: &mut [u16], counts: &mut [u64], at: usize, h: u16, c: u64)
     requires { ⌜ (at < length (now hops)) × (at < length (now counts)) ⌝ }
-    ensures { λ _. ⌜ table (now (hops .exit)) (now (counts .exit)) ≡ merged (table (now (hops .entry)) (now (counts .entry))) at h c ⌝ }
+    ensures { λ _. ⌜ tableOf (now (hops .exit)) (now (counts .exit)) ≡ mergedTable (tableOf (now (hops .entry)) (now (counts .entry))) at h c ⌝ }
 {
     let old = hops[at];
     if h < old {
@@ -61,40 +61,54 @@ fn merge(hops: &mut [u16], counts: &mut [u64], at: usize, h: u16, c: u64)
 }
 
 // Sends what a station has on over one hop more, to the entry at a place.
-fn send(hops: &mut [u16], counts: &mut [u64], near: &[u16], ways: &[u64], v: usize, at: usize)
-    requires { ⌜ Places (table (now hops) (now counts)) (table (now near) (now ways)) at v ⌝ }
-    ensures { λ _. ⌜ table (now (hops .exit)) (now (counts .exit)) ≡ sent (table (now (hops .entry)) (now (counts .entry))) (table (now (near .entry)) (now (ways .entry))) v at ⌝ }
+fn send(
+    hops: &mut [u16],
+    counts: &mut [u64],
+    station_hops: &[u16],
+    station_counts: &[u64],
+    v: usize,
+    at: usize,
+)
+    requires { ⌜ PlacesWithin (tableOf (now hops) (now counts)) (tableOf (now «station_hops») (now «station_counts»)) at v ⌝ }
+    ensures { λ _. ⌜ tableOf (now (hops .exit)) (now (counts .exit)) ≡ sentTable (tableOf (now (hops .entry)) (now (counts .entry))) (tableOf (now («station_hops» .entry)) (now («station_counts» .entry))) v at ⌝ }
 {
-    let h = near[v];
+    let h = station_hops[v];
     if h < 65535 {
-        merge(hops, counts, at, h + 1, ways[v]);
+        merge(hops, counts, at, h + 1, station_counts[v]);
     }
 }
 
 // Takes one appearance's entry into its station's.
-fn settle_one(near: &mut [u16], ways: &mut [u64], hops: &[u16], counts: &[u64], v: usize, at: usize)
-    requires { ⌜ Places (table (now near) (now ways)) (table (now hops) (now counts)) v at ⌝ }
-    ensures { λ _. ⌜ table (now (near .exit)) (now (ways .exit)) ≡ merged (table (now (near .entry)) (now (ways .entry))) v (getD (now (hops .entry)) at 0) (getD (now (counts .entry)) at 0) ⌝ }
+fn settle_one(
+    station_hops: &mut [u16],
+    station_counts: &mut [u64],
+    hops: &[u16],
+    counts: &[u64],
+    v: usize,
+    at: usize,
+)
+    requires { ⌜ PlacesWithin (tableOf (now «station_hops») (now «station_counts»)) (tableOf (now hops) (now counts)) v at ⌝ }
+    ensures { λ _. ⌜ tableOf (now («station_hops» .exit)) (now («station_counts» .exit)) ≡ mergedTable (tableOf (now («station_hops» .entry)) (now («station_counts» .entry))) v (getD (now (hops .entry)) at 0) (getD (now (counts .entry)) at 0) ⌝ }
 {
-    merge(near, ways, v, hops[at], counts[at]);
+    merge(station_hops, station_counts, v, hops[at], counts[at]);
 }
 
 // Takes the appearances of slot u into the stations' entries.
 fn settle(
-    near: &mut [u16],
-    ways: &mut [u64],
+    station_hops: &mut [u16],
+    station_counts: &mut [u64],
     hops: &[u16],
     counts: &[u64],
     n: usize,
     width: usize,
     u: usize,
 )
-    requires { ⌜ Fits n width (table (now hops) (now counts)) (table (now near) (now ways)) × (u < width) ⌝ }
-    ensures { λ _. ⌜ table (now (near .exit)) (now (ways .exit)) ≡ settledFrom width u (table (now (hops .entry)) (now (counts .entry))) (table (now (near .entry)) (now (ways .entry))) 0 n ⌝ }
+    requires { ⌜ Fits n width (tableOf (now hops) (now counts)) (tableOf (now «station_hops») (now «station_counts»)) × (u < width) ⌝ }
+    ensures { λ _. ⌜ tableOf (now («station_hops» .exit)) (now («station_counts» .exit)) ≡ settledTable width u (tableOf (now (hops .entry)) (now (counts .entry))) (tableOf (now («station_hops» .entry)) (now («station_counts» .entry))) 0 n ⌝ }
 {
     let mut v = 0;
     while v < n {
-        settle_one(near, ways, hops, counts, v, v * width + u);
+        settle_one(station_hops, station_counts, hops, counts, v, v * width + u);
         v += 1;
     }
 }
@@ -109,7 +123,7 @@ fn wide(h: u16) -> u64
 // Whether the entry at j has a count over 2^64 - 1.
 fn entry_overflows(hops: &[u16], counts: &[u64], j: usize) -> bool
     requires { ⌜ (j < length (now hops)) × (j < length (now counts)) ⌝ }
-    ensures { λ r. ⌜ r ≡ tableOverflows (table (now (hops .entry)) (now (counts .entry))) j ⌝ }
+    ensures { λ r. ⌜ r ≡ tableOverflows (tableOf (now (hops .entry)) (now (counts .entry))) j ⌝ }
 {
     entries::too_many(wide(hops[j]), counts[j])
 }
@@ -117,7 +131,7 @@ fn entry_overflows(hops: &[u16], counts: &[u64], j: usize) -> bool
 // Whether one of the first k entries has a count over 2^64 - 1.
 fn any_overflows(hops: &[u16], counts: &[u64], k: usize) -> bool
     requires { ⌜ (k ≤ length (now hops)) × (k ≤ length (now counts)) ⌝ }
-    ensures { λ r. ⌜ r ≡ any (tableOverflows (table (now (hops .entry)) (now (counts .entry)))) (below k) ⌝ }
+    ensures { λ r. ⌜ r ≡ any (tableOverflows (tableOf (now (hops .entry)) (now (counts .entry)))) (below k) ⌝ }
 {
     let mut j = 0;
     while j < k {
@@ -133,41 +147,64 @@ fn any_overflows(hops: &[u16], counts: &[u64], k: usize) -> bool
 fn fold_record(
     hops: &mut [u16],
     counts: &mut [u64],
-    near: &[u16],
-    ways: &[u64],
+    station_hops: &[u16],
+    station_counts: &[u64],
     plan: &[u8],
     n: usize,
     width: usize,
     j: usize,
 )
-    requires { ⌜ Foldable (now plan) n width j (table (now hops) (now counts)) (table (now near) (now ways)) ⌝ }
-    ensures { λ _. ⌜ table (now (hops .exit)) (now (counts .exit)) ≡ folded width (table (now (hops .entry)) (now (counts .entry))) (table (now (near .entry)) (now (ways .entry))) (contactAt (now (plan .entry)) j) ⌝ }
+    requires { ⌜ FoldableTables (now plan) n width j (tableOf (now hops) (now counts)) (tableOf (now «station_hops») (now «station_counts»)) ⌝ }
+    ensures { λ _. ⌜ tableOf (now (hops .exit)) (now (counts .exit)) ≡ foldedTable width (tableOf (now (hops .entry)) (now (counts .entry))) (tableOf (now («station_hops» .entry)) (now («station_counts» .entry))) (contactAt (now (plan .entry)) j) ⌝ }
 {
     let c = plan::contact_at(plan, j);
-    send(hops, counts, near, ways, c.a, c.b * width + c.slot);
-    send(hops, counts, near, ways, c.b, c.a * width + c.slot);
+    send(
+        hops,
+        counts,
+        station_hops,
+        station_counts,
+        c.a,
+        c.b * width + c.slot,
+    );
+    send(
+        hops,
+        counts,
+        station_hops,
+        station_counts,
+        c.b,
+        c.a * width + c.slot,
+    );
 }
 
 // One turn of the pass: folds the record at j in where it lies in slot u, and else settles the slot. True where it folded.
 fn turn(
     hops: &mut [u16],
     counts: &mut [u64],
-    near: &mut [u16],
-    ways: &mut [u64],
+    station_hops: &mut [u16],
+    station_counts: &mut [u64],
     plan: &[u8],
     n: usize,
     width: usize,
     u: usize,
     j: usize,
 ) -> bool
-    requires { ⌜ Turnable (now plan) n width u (tables (now hops) (now counts) (now near) (now ways)) ⌝ }
-    ensures { λ r. ⌜ (r ≡ inSlot (now (plan .entry)) j u) × (tables (now (hops .exit)) (now (counts .exit)) (now (near .exit)) (now (ways .exit)) ≡ turned (now (plan .entry)) n width u j (tables (now (hops .entry)) (now (counts .entry)) (now (near .entry)) (now (ways .entry)))) ⌝ }
+    requires { ⌜ Turnable (now plan) n width u (tablesOf (now hops) (now counts) (now «station_hops») (now «station_counts»)) ⌝ }
+    ensures { λ r. ⌜ (r ≡ inSlot (now (plan .entry)) j u) × (tablesOf (now (hops .exit)) (now (counts .exit)) (now («station_hops» .exit)) (now («station_counts» .exit)) ≡ turnedTables (now (plan .entry)) n width u j (tablesOf (now (hops .entry)) (now (counts .entry)) (now («station_hops» .entry)) (now («station_counts» .entry)))) ⌝ }
 {
     if plan::in_slot(plan, j, u) {
-        fold_record(hops, counts, near, ways, plan, n, width, j);
+        fold_record(
+            hops,
+            counts,
+            station_hops,
+            station_counts,
+            plan,
+            n,
+            width,
+            j,
+        );
         return true;
     }
-    settle(near, ways, hops, counts, n, width, u);
+    settle(station_hops, station_counts, hops, counts, n, width, u);
     false
 }
 
@@ -175,20 +212,20 @@ fn turn(
 fn begin(
     hops: &mut [u16],
     counts: &mut [u64],
-    near: &mut [u16],
-    ways: &mut [u64],
+    station_hops: &mut [u16],
+    station_counts: &mut [u64],
     n: usize,
     width: usize,
     source: usize,
 )
-    requires { ⌜ Fits n width (table (now hops) (now counts)) (table (now near) (now ways)) × (source < n) × (0 < width) ⌝ }
-    ensures { λ _. ⌜ tables (now (hops .exit)) (now (counts .exit)) (now (near .exit)) (now (ways .exit)) ≡ begun n width source (tables (now (hops .entry)) (now (counts .entry)) (now (near .entry)) (now (ways .entry))) ⌝ }
+    requires { ⌜ Fits n width (tableOf (now hops) (now counts)) (tableOf (now «station_hops») (now «station_counts»)) × (source < n) × (0 < width) ⌝ }
+    ensures { λ _. ⌜ tablesOf (now (hops .exit)) (now (counts .exit)) (now («station_hops» .exit)) (now («station_counts» .exit)) ≡ begunTables n width source (tablesOf (now (hops .entry)) (now (counts .entry)) (now («station_hops» .entry)) (now («station_counts» .entry))) ⌝ }
 {
     let places = n * width;
     memory::fill16(hops, places, 65535);
     memory::fill64(counts, places, 0);
-    memory::fill16(near, n, 65535);
-    memory::fill64(ways, n, 0);
+    memory::fill16(station_hops, n, 65535);
+    memory::fill64(station_counts, n, 0);
     let at = source * width;
     hops[at] = 0;
     counts[at] = 1;
@@ -198,59 +235,69 @@ fn begin(
 fn clear(
     hops: &mut [u16],
     counts: &mut [u64],
-    near: &mut [u16],
-    ways: &mut [u64],
+    station_hops: &mut [u16],
+    station_counts: &mut [u64],
     n: usize,
     width: usize,
 )
-    requires { ⌜ Fits n width (table (now hops) (now counts)) (table (now near) (now ways)) ⌝ }
-    ensures { λ _. ⌜ tables (now (hops .exit)) (now (counts .exit)) (now (near .exit)) (now (ways .exit)) ≡ emptied n width (tables (now (hops .entry)) (now (counts .entry)) (now (near .entry)) (now (ways .entry))) ⌝ }
+    requires { ⌜ Fits n width (tableOf (now hops) (now counts)) (tableOf (now «station_hops») (now «station_counts»)) ⌝ }
+    ensures { λ _. ⌜ tablesOf (now (hops .exit)) (now (counts .exit)) (now («station_hops» .exit)) (now («station_counts» .exit)) ≡ emptiedTables n width (tablesOf (now (hops .entry)) (now (counts .entry)) (now («station_hops» .entry)) (now («station_counts» .entry))) ⌝ }
 {
     let places = n * width;
     memory::fill16(hops, places, 0);
     memory::fill64(counts, places, 0);
-    memory::fill16(near, n, 0);
-    memory::fill64(ways, n, 0);
+    memory::fill16(station_hops, n, 0);
+    memory::fill64(station_counts, n, 0);
 }
 
 // Whether an appearance or a station has a count over 2^64 - 1.
 fn overflowed(
     hops: &[u16],
     counts: &[u64],
-    near: &[u16],
-    ways: &[u64],
+    station_hops: &[u16],
+    station_counts: &[u64],
     n: usize,
     width: usize,
 ) -> bool
-    requires { ⌜ Fits n width (table (now hops) (now counts)) (table (now near) (now ways)) ⌝ }
-    ensures { λ r. ⌜ r ≡ overflowing n width (tables (now (hops .entry)) (now (counts .entry)) (now (near .entry)) (now (ways .entry))) ⌝ }
+    requires { ⌜ Fits n width (tableOf (now hops) (now counts)) (tableOf (now «station_hops») (now «station_counts»)) ⌝ }
+    ensures { λ r. ⌜ r ≡ tablesOverflow n width (tablesOf (now (hops .entry)) (now (counts .entry)) (now («station_hops» .entry)) (now («station_counts» .entry))) ⌝ }
 {
     if any_overflows(hops, counts, n * width) {
         return true;
     }
-    any_overflows(near, ways, n)
+    any_overflows(station_hops, station_counts, n)
 }
 
 // Fills the four tables from a source, slot by slot.
 fn fill(
     hops: &mut [u16],
     counts: &mut [u64],
-    near: &mut [u16],
-    ways: &mut [u64],
+    station_hops: &mut [u16],
+    station_counts: &mut [u64],
     plan: &[u8],
     n: usize,
     t: usize,
     source: usize,
 )
-    requires { ⌜ Ready (now plan) n t source (tables (now hops) (now counts) (now near) (now ways)) ⌝ }
-    ensures { λ _. ⌜ Filled (now (plan .entry)) n t source (tables (now (hops .entry)) (now (counts .entry)) (now (near .entry)) (now (ways .entry))) (tables (now (hops .exit)) (now (counts .exit)) (now (near .exit)) (now (ways .exit))) ⌝ }
+    requires { ⌜ ReachReady (now plan) n t source (tablesOf (now hops) (now counts) (now «station_hops») (now «station_counts»)) ⌝ }
+    ensures { λ _. ⌜ FilledTables (now (plan .entry)) n t source (tablesOf (now (hops .entry)) (now (counts .entry)) (now («station_hops» .entry)) (now («station_counts» .entry))) (tablesOf (now (hops .exit)) (now (counts .exit)) (now («station_hops» .exit)) (now («station_counts» .exit))) ⌝ }
 {
     let width = t + 1;
-    begin(hops, counts, near, ways, n, width, source);
+    begin(hops, counts, station_hops, station_counts, n, width, source);
     let mut u = 0;
     let mut j = 0;
     while u < width {
-        if turn(hops, counts, near, ways, plan, n, width, u, j) {
+        if turn(
+            hops,
+            counts,
+            station_hops,
+            station_counts,
+            plan,
+            n,
+            width,
+            u,
+            j,
+        ) {
             j += 1;
         } else {
             u += 1;
@@ -262,19 +309,28 @@ fn fill(
 fn work(
     hops: &mut [u16],
     counts: &mut [u64],
-    near: &mut [u16],
-    ways: &mut [u64],
+    station_hops: &mut [u16],
+    station_counts: &mut [u64],
     plan: &[u8],
     n: usize,
     t: usize,
     source: usize,
 ) -> ReachAnswer
-    requires { ⌜ Ready (now plan) n t source (tables (now hops) (now counts) (now near) (now ways)) ⌝ }
-    ensures { λ r. ⌜ reachOutcome r (lentTables (now (hops .exit)) (now (counts .exit)) (now (near .exit)) (now (ways .exit))) ≡ reached (planOf (now (plan .entry)) n t) source (lentTables (now (hops .entry)) (now (counts .entry)) (now (near .entry)) (now (ways .entry))) ⌝ }
+    requires { ⌜ ReachReady (now plan) n t source (tablesOf (now hops) (now counts) (now «station_hops») (now «station_counts»)) ⌝ }
+    ensures { λ r. ⌜ reachOutcome r (lentTables (now (hops .exit)) (now (counts .exit)) (now («station_hops» .exit)) (now («station_counts» .exit))) ≡ reached (planOf (now (plan .entry)) n t) source (lentTables (now (hops .entry)) (now (counts .entry)) (now («station_hops» .entry)) (now («station_counts» .entry))) ⌝ }
 {
-    fill(hops, counts, near, ways, plan, n, t, source);
-    if overflowed(hops, counts, near, ways, n, t + 1) {
-        clear(hops, counts, near, ways, n, t + 1);
+    fill(
+        hops,
+        counts,
+        station_hops,
+        station_counts,
+        plan,
+        n,
+        t,
+        source,
+    );
+    if overflowed(hops, counts, station_hops, station_counts, n, t + 1) {
+        clear(hops, counts, station_hops, station_counts, n, t + 1);
         return ReachAnswer::Refused(Fault::Call(CallFault::TooMany));
     }
     ReachAnswer::Reached
@@ -284,15 +340,15 @@ fn work(
 fn reach_accepted(
     hops: &mut [u16],
     counts: &mut [u64],
-    near: &mut [u16],
-    ways: &mut [u64],
+    station_hops: &mut [u16],
+    station_counts: &mut [u64],
     plan: &[u8],
     n: usize,
     t: usize,
     source: usize,
 ) -> ReachAnswer
     requires { ⌜ planFault (now plan) n t ≡ 0 ⌝ }
-    ensures { λ r. ⌜ reachOutcome r (lentTables (now (hops .exit)) (now (counts .exit)) (now (near .exit)) (now (ways .exit))) ≡ reach (now (plan .entry)) n t source (lentTables (now (hops .entry)) (now (counts .entry)) (now (near .entry)) (now (ways .entry))) ⌝ }
+    ensures { λ r. ⌜ reachOutcome r (lentTables (now (hops .exit)) (now (counts .exit)) (now («station_hops» .exit)) (now («station_counts» .exit))) ≡ reach (now (plan .entry)) n t source (lentTables (now (hops .entry)) (now (counts .entry)) (now («station_hops» .entry)) (now («station_counts» .entry))) ⌝ }
 {
     if n <= source {
         return ReachAnswer::Refused(Fault::Call(CallFault::Station));
@@ -304,13 +360,22 @@ fn reach_accepted(
     if counts.len() < places {
         return ReachAnswer::Refused(Fault::Call(CallFault::Short));
     }
-    if near.len() < n {
+    if station_hops.len() < n {
         return ReachAnswer::Refused(Fault::Call(CallFault::Short));
     }
-    if ways.len() < n {
+    if station_counts.len() < n {
         return ReachAnswer::Refused(Fault::Call(CallFault::Short));
     }
-    work(hops, counts, near, ways, plan, n, t, source)
+    work(
+        hops,
+        counts,
+        station_hops,
+        station_counts,
+        plan,
+        n,
+        t,
+        source,
+    )
 }
 
 // Operation 2, reach: fills, from a source, the hops and counts of the appearances, place v (t + 1) + u, and of the
@@ -322,13 +387,22 @@ pub fn reach(
     source: usize,
     hops: &mut [u16],
     counts: &mut [u64],
-    near: &mut [u16],
-    ways: &mut [u64],
+    station_hops: &mut [u16],
+    station_counts: &mut [u64],
 ) -> ReachAnswer
-    ensures { λ r. ⌜ reachOutcome r (lentTables (now (hops .exit)) (now (counts .exit)) (now (near .exit)) (now (ways .exit))) ≡ reach (now (plan .entry)) n t source (lentTables (now (hops .entry)) (now (counts .entry)) (now (near .entry)) (now (ways .entry))) ⌝ }
+    ensures { λ r. ⌜ reachOutcome r (lentTables (now (hops .exit)) (now (counts .exit)) (now («station_hops» .exit)) (now («station_counts» .exit))) ≡ reach (now (plan .entry)) n t source (lentTables (now (hops .entry)) (now (counts .entry)) (now («station_hops» .entry)) (now («station_counts» .entry))) ⌝ }
 {
     let CheckAnswer::Refused(fault) = plan::check(plan, n, t) else {
-        return reach_accepted(hops, counts, near, ways, plan, n, t, source);
+        return reach_accepted(
+            hops,
+            counts,
+            station_hops,
+            station_counts,
+            plan,
+            n,
+            t,
+            source,
+        );
     };
     ReachAnswer::Refused(Fault::Plan(fault))
 }

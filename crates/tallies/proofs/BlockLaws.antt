@@ -14,7 +14,7 @@ use Rattle.temporal.specs.Plan.{Plan}
 use Rattle.temporal.specs.Bytes.{planOf}
 use Rattle.temporal.specs.Cause.{tooMany}
 use Rattle.temporal.proofs.Accepted.{accepted}
-use Rattle.pass.specs.Passed.{areaSize, Ready, Passed}
+use Rattle.pass.specs.Passed.{areaSize, PassReady, Passed}
 use Rattle.tallies.specs.Progress.{pairTerm, loadTerm, TallyEntry, State, Kept, Working, Workable, DestinationsAdded}
 use Rattle.tallies.specs.Sources.{BlockReady, BlockDone, SourceReady, SourceDone}
 use Rattle.tallies.proofs.TermLaws.{partly-source}
@@ -63,7 +63,7 @@ module _ (p : Plan) (n base s low : ℕ) where
 
 module _ (bs : List ℕ) (n t base s low block : ℕ) (old : List ℕ) (pre : BlockReady bs n t base s low block old) where
   -- the pass can run
-  pub block-ready : Ready bs n t s low block old
+  pub block-ready : PassReady bs n t s low block old
   block-ready =
       record {
         accepted = pre .accepted;

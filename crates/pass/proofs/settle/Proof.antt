@@ -3,12 +3,12 @@
 -- Assumes nothing.
 use Prim.Native.Nat.{_-_}
 use native.Mathlib.Omega.{arith}
-use Rattle.pass.proofs.PlaceLaws.{area-kept, Settling, settling-none, settling-more, settling-all}
+use Rattle.pass.proofs.PlaceLaws.{area-kept, SettlingArea, settling-none, settling-more, settling-all}
 use Rattle.pass.proofs.settle.Statement.{statement}
 use Rattle.pass.proofs.settle.Tie as tie
 
 abbrev Inv-loop : tie.InvT-loop
-Inv-loop work₀ n block source low over₀ v₀ work over v = Settling n block source low work₀ v over work
+Inv-loop work₀ n block source low over₀ v₀ work over v = SettlingArea n block source low work₀ v over work
 
 abbrev μ-loop : tie.MeasureT-loop
 μ-loop work₀ n block source low over₀ v₀ work over v = n - v

@@ -5,14 +5,14 @@ use Prim.Native.Nat.{_-_, _≤_}
 use native.Mathlib.Omega.{arith}
 use mathlib.Core.Path.{_≡_, sym, _∙_}
 use Rattle.temporal.specs.Lists.{any, from, below}
-use Rattle.reach.specs.Table.{table, tableOverflows}
+use Rattle.reach.specs.Table.{tableOf, tableOverflows}
 use Rattle.entries.proofs.SearchLaws.{any-start, any-found, any-pass, any-end}
 use Rattle.reach.proofs.any_overflows.Statement.{statement}
 use Rattle.reach.proofs.any_overflows.Tie as tie
 
 abbrev Inv-loop : tie.InvT-loop
 Inv-loop hops counts k j₀ j =
-    (j ≤ k) × (any (tableOverflows (table hops counts)) (below k) ≡ any (tableOverflows (table hops counts)) (from j (k - j)))
+    (j ≤ k) × (any (tableOverflows (tableOf hops counts)) (below k) ≡ any (tableOverflows (tableOf hops counts)) (from j (k - j)))
 
 abbrev μ-loop : tie.MeasureT-loop
 μ-loop hops counts k j₀ j = k - j

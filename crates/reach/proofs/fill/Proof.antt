@@ -6,7 +6,7 @@ use native.Mathlib.Omega.{arith}
 use mathlib.Core.Path.{refl, sym, _∙_}
 use Rattle.temporal.specs.Bytes.{records}
 use Rattle.temporal.proofs.Accepted.{accepted}
-use Rattle.reach.specs.Pass.{tables}
+use Rattle.reach.specs.Pass.{tablesOf}
 use Rattle.reach.proofs.TurnLaws.{
   Running,
   running-begin,
@@ -21,11 +21,11 @@ use Rattle.reach.proofs.fill.Statement.{statement}
 use Rattle.reach.proofs.fill.Tie as tie
 
 abbrev Inv-loop : tie.InvT-loop
-Inv-loop hops₀ counts₀ near₀ ways₀ plan n t source width u₀ j₀ hops counts near ways u j =
-    Running plan n t source width (tables hops₀ counts₀ near₀ ways₀) u j (tables hops counts near ways)
+Inv-loop hops₀ counts₀ sh₀ sc₀ plan n t source width u₀ j₀ hops counts sh sc u j =
+    Running plan n t source width (tablesOf hops₀ counts₀ sh₀ sc₀) u j (tablesOf hops counts sh sc)
 
 abbrev μ-loop : tie.MeasureT-loop
-μ-loop hops₀ counts₀ near₀ ways₀ plan n t source width u₀ j₀ hops counts near ways u j = (records plan - j) + (width - u)
+μ-loop hops₀ counts₀ sh₀ sc₀ plan n t source width u₀ j₀ hops counts sh sc u j = (records plan - j) + (width - u)
 
 add-width : tie.Need-add-width Inv-loop μ-loop
 add-width c = omega (arith, accepted _ _ _ (c .before .before .before .before .before .pre .accepted) .slots)

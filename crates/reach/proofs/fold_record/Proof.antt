@@ -2,7 +2,7 @@
 -- Assumes nothing.
 use native.Mathlib.Omega.{arith}
 use mathlib.Core.Path.{refl}
-use Rattle.reach.proofs.PlaceLaws.{place-below, places, fits-kept, read-within, folded-twice}
+use Rattle.reach.proofs.PlaceLaws.{place-below, places-within, fits-kept, read-within, folded-twice}
 use borrow.Author.Needs.{needs}
 use Rattle.reach.proofs.fold_record.Statement.{statement}
 use Rattle.reach.proofs.fold_record.Tie as tie
@@ -23,7 +23,7 @@ add-send c =
 send-requires : tie.Need-send-requires
 send-requires c κs =
     let at = read-within _ _ _ _ _ _ _ (c .before .before .before .before .before .before .before .before .before .before .pre) (c .before .before .before .before .contact-at .ensures) in
-    places _ _ _ _ (c .before .before .before .before .before .before .before .before .before .before .pre .fits) _ _ _ (at .b) (at .slot) (at .a)
+    places-within _ _ _ _ (c .before .before .before .before .before .before .before .before .before .before .pre .fits) _ _ _ (at .b) (at .slot) (at .a)
 
 mul-send-2 : tie.Need-mul-send-2
 mul-send-2 c =
@@ -38,7 +38,7 @@ add-send-2 c =
 send-requires-2 : tie.Need-send-requires-2
 send-requires-2 c κs =
     let at = read-within _ _ _ _ _ _ _ (c .before .before .before .before .before .before .before .before .before .before .before .before .before .before .before .before .before .before .before .pre) (c .before .before .before .before .before .before .before .before .before .before .before .before .before .contact-at .ensures) in
-    places _ _ _ _ (fits-kept _ _ _ _ _ _ (c .before .before .before .before .before .before .before .before .before .before .before .before .before .before .before .before .before .before .before .pre .fits) (c .before .before .before .before .before .before .before .before .send .kept .0) (c .before .before .before .before .before .before .before .before .send .kept .1 .0) refl refl)
+    places-within _ _ _ _ (fits-kept _ _ _ _ _ _ (c .before .before .before .before .before .before .before .before .before .before .before .before .before .before .before .before .before .before .before .pre .fits) (c .before .before .before .before .before .before .before .before .send .kept .0) (c .before .before .before .before .before .before .before .before .send .kept .1 .0) refl refl)
     _ _ _ (at .a) (at .slot) (at .b)
 
 same-length : tie.Need-same-length

@@ -5,16 +5,16 @@ use lib.Arith.{digits-lt}
 use Prim.Native.Nat.{_-_}
 use native.Mathlib.Omega.{arith}
 use mathlib.Core.Path.{sym, _∙_}
-use Rattle.reach.specs.Table.{table}
-use Rattle.reach.proofs.MergeLaws.{Settling, settling-none, settling-more, settling-all}
+use Rattle.reach.specs.Table.{tableOf}
+use Rattle.reach.proofs.MergeLaws.{SettlingTable, settling-none, settling-more, settling-all}
 use Rattle.reach.proofs.settle.Statement.{statement}
 use Rattle.reach.proofs.settle.Tie as tie
 
 abbrev Inv-loop : tie.InvT-loop
-Inv-loop near₀ ways₀ hops counts n width u v₀ near ways v = Settling width u n (table hops counts) (table near₀ ways₀) v (table near ways)
+Inv-loop sh₀ sc₀ hops counts n width u v₀ sh sc v = SettlingTable width u n (tableOf hops counts) (tableOf sh₀ sc₀) v (tableOf sh sc)
 
 abbrev μ-loop : tie.MeasureT-loop
-μ-loop near₀ ways₀ hops counts n width u v₀ near ways v = n - v
+μ-loop sh₀ sc₀ hops counts n width u v₀ sh sc v = n - v
 
 loop-holds : tie.Need-loop-holds Inv-loop μ-loop
 loop-holds c = settling-none _ _ _ _ _
