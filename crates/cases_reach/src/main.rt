@@ -75,14 +75,14 @@ fn mark_tables(
     head: &[u8],
     hops: &mut [u16],
     counts: &mut [u64],
-    near: &mut [u16],
-    ways: &mut [u64],
+    station_hops: &mut [u16],
+    station_counts: &mut [u64],
 ) {
     let mark = cases::word(head, 12);
     mark16(hops, mark as u16);
     cases::mark64(counts, mark as u64);
-    mark16(near, mark as u16);
-    cases::mark64(ways, mark as u64);
+    mark16(station_hops, mark as u16);
+    cases::mark64(station_counts, mark as u64);
 }
 
 // Calls reach on the lent parts, and writes its answer.
@@ -91,19 +91,28 @@ fn run_reach(
     plan: &[u8],
     hops: &mut [u16],
     counts: &mut [u64],
-    near: &mut [u16],
-    ways: &mut [u64],
+    station_hops: &mut [u16],
+    station_counts: &mut [u64],
 ) {
-    mark_tables(head, hops, counts, near, ways);
+    mark_tables(head, hops, counts, station_hops, station_counts);
     let n = cases::word(head, 2);
     let t = cases::word(head, 4);
     let source = cases::word(head, 6);
-    let answer = reach::reach(plan, n, t, source, hops, counts, near, ways);
+    let answer = reach::reach(
+        plan,
+        n,
+        t,
+        source,
+        hops,
+        counts,
+        station_hops,
+        station_counts,
+    );
     cases::write_number(reach_number(answer) as u64);
     write16(hops);
     cases::write64(counts);
-    write16(near);
-    cases::write64(ways);
+    write16(station_hops);
+    cases::write64(station_counts);
 }
 
 // Calls row and its sister on the lent part, and writes the answers.
@@ -124,21 +133,21 @@ fn run_named(
     plan: &[u8],
     hops: &mut [u16],
     counts: &mut [u64],
-    near: &mut [u16],
-    ways: &mut [u64],
+    station_hops: &mut [u16],
+    station_counts: &mut [u64],
 ) {
     let a = cases::lent(head, 14, hops.len());
     let b = cases::lent(head, 18, counts.len());
-    let c = cases::lent(head, 22, near.len());
-    let d = cases::lent(head, 26, ways.len());
+    let c = cases::lent(head, 22, station_hops.len());
+    let d = cases::lent(head, 26, station_counts.len());
     if cases::word(head, 0) == 0 {
         run_reach(
             head,
             plan,
             &mut hops[..a],
             &mut counts[..b],
-            &mut near[..c],
-            &mut ways[..d],
+            &mut station_hops[..c],
+            &mut station_counts[..d],
         );
     } else {
         run_row(head, &mut counts[..b]);
@@ -152,8 +161,8 @@ fn run_case(
     plan: &mut [u8],
     hops: &mut [u16],
     counts: &mut [u64],
-    near: &mut [u16],
-    ways: &mut [u64],
+    station_hops: &mut [u16],
+    station_counts: &mut [u64],
 ) -> bool {
     if !cases::read_case(head, label, plan, 10, 8) {
         return false;
@@ -161,7 +170,14 @@ fn run_case(
     cases::write_part(label, cases::word(head, 10));
     cases::write_part(b":", 1);
     let size = cases::least(cases::word(head, 8), plan.len());
-    run_named(head, &plan[..size], hops, counts, near, ways);
+    run_named(
+        head,
+        &plan[..size],
+        hops,
+        counts,
+        station_hops,
+        station_counts,
+    );
     cases::end_line();
     true
 }
@@ -172,8 +188,8 @@ fn main() {
     let mut plan = [0u8; 24600];
     let mut hops = [0u16; 65600];
     let mut counts = [0u64; 65600];
-    let mut near = [0u16; 320];
-    let mut ways = [0u64; 320];
+    let mut station_hops = [0u16; 320];
+    let mut station_counts = [0u64; 320];
     let mut left = cases::MOST;
     while 0 < left
         && run_case(
@@ -182,8 +198,8 @@ fn main() {
             &mut plan,
             &mut hops,
             &mut counts,
-            &mut near,
-            &mut ways,
+            &mut station_hops,
+            &mut station_counts,
         )
     {
         left -= 1;
