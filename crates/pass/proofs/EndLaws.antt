@@ -5,7 +5,7 @@ use native.Mathlib.Omega.{arith}
 use native.Mathlib.Nat.{mod-eq-of-lt}
 use mathlib.Core.Path.{_≡_, refl, sym, ap, subst, _∙_}
 use mathlib.Core.Bool.{Bool, true, false, cond}
-use mathlib.Core.List.{List, [], _∷_, List·Memᴰ, List·Memᴰ·head, List·Memᴰ·tail}
+use mathlib.Core.List.{List}
 use mathlib.Core.Logic.{_≢_}
 use borrow.Author.Tests.{lt-ltb, le-ltb, ne-eqb}
 use lib.Dec.{ltb}
@@ -16,9 +16,8 @@ use Rattle.temporal.specs.Walk.{isAt, isAppearance, isWalk}
 use Rattle.temporal.specs.Shortest.{shortestWalks, shortestPaths, hops, count, through}
 use Rattle.temporal.specs.Bytes.{planOf}
 use Rattle.temporal.specs.Cause.{planFault, tooMany}
-use Rattle.temporal.proofs.ListLaws.{any-true, any-false, mem-below}
+use Rattle.temporal.proofs.ListLaws.{any-true, any-false, any-ext, mem-below}
 use Rattle.temporal.proofs.WalkLaws.{SlotsWithin}
-use Rattle.temporal.proofs.Accepted.{accepted}
 use Rattle.temporal.proofs.PlanLaws.{slots-within}
 use Rattle.temporal.proofs.Adequacy.{bounded-ends, shortest-walks-are-paths}
 use Rattle.counting.proofs.Weights.{total, everywhere, total-zero}
@@ -29,17 +28,12 @@ use Rattle.pass.specs.Row.{rowAt}
 use Rattle.entries.specs.Entry.{stored}
 use Rattle.entries.proofs.CountLaws.{stored-small}
 use Rattle.entries.proofs.EntryLaws.{Large, Small, overflow-large, overflow-small}
+use Rattle.entries.proofs.HopLaws.{few-slots}
 use Rattle.pass.specs.Entry.{areaOverflows}
 use Rattle.pass.specs.Passed.{Counted}
 use Rattle.pass.proofs.BestLaws.{Best}
 use Rattle.pass.proofs.StateLaws.{AreaState}
 use Rattle.pass.proofs.PlanWalks.{kept, walksAt}
-
--- tests that agree on a list
-any-ext : (f g : ℕ → Bool) (l : List ℕ) → ((x : ℕ) → List·Memᴰ x l → f x ≡ g x) → any f l ≡ any g l
-unfolding any
-any-ext f g [] h = refl
-any-ext f g (x ∷ l) h = rw (h x (List·Memᴰ·head refl), any-ext f g l (λ y m. h y (List·Memᴰ·tail m)))
 
 -- one may go on from another station
 avoids-other : (s x z : ℕ) → x ≢ z → avoiding s x z ≡ true
@@ -88,11 +82,6 @@ start-small p s v = record { small = λ h f. go h }
     go zero = rw (total-zero p everywhere (start s) (atAppearance v 0)) (one (isAppearance v 0 (start s)))
     go (suc k) = rw (start-later p s everywhere v k) (omega arith)
 
--- an accepted plan has few slots
-pub few-slots : (bs : List ℕ) (n t : ℕ) → planFault bs n t ≡ 0 → planOf bs n t .slots < 65535
-unfolding planOf
-few-slots bs n t ok = let a = accepted bs n t ok .slots in omega arith
-
 module _ (bs : List ℕ) (n t : ℕ) (ok : planFault bs n t ≡ 0) (s : ℕ) where
   -- ---- cause 9
 
@@ -118,8 +107,7 @@ module _ (bs : List ℕ) (n t : ℕ) (ok : planFault bs n t ≡ 0) (s : ℕ) whe
   too-many-station f small e =
       rw (any-false _ (below n) .1 (λ v m. any-false _ (below (t + 1)) .1 (λ u l. le-ltb 18446744073709551615 _
       (small v u (mem-below n .0 m) (let h = mem-below (t + 1) .0 l in omega arith)))))
-      (any-ext f (λ v. ltb 18446744073709551615 (count (shortestPaths (planOf bs n t) s v))) (below n)
-      (λ v m. e v (mem-below n .0 m)))
+      (any-ext (below n) (λ v m. e v (mem-below n .0 m)))
 
   -- ---- stations
 

@@ -23,6 +23,7 @@ use Rattle.temporal.proofs.PlanLaws.{contact-there, contact-inv, contacts-lengt
 use Rattle.counting.proofs.Weights.{everywhere}
 use Rattle.plan.specs.Record.{inSlot}
 use Rattle.plan.proofs.SlotLaws.{in-slot-inv, in-slot-none}
+use Rattle.entries.proofs.HopLaws.{few-slots}
 use Rattle.pass.specs.Entry.{areaOverflows}
 use Rattle.pass.specs.Sweep.{foldedArea, sweepOf, settledFrom, begunArea, Area, FoldableArea}
 use Rattle.pass.specs.Passed.{areaSize, PassReady, Passed}
@@ -31,7 +32,7 @@ use Rattle.pass.proofs.StateLaws.{AreaState}
 use Rattle.pass.proofs.SettleLaws.{SomeLarge, settled-all, settled-over, settled-within}
 use Rattle.pass.proofs.PlanWalks.{walksAt, folded-state, settles-slot, arrived}
 use Rattle.pass.proofs.BeginLaws.{begun-state}
-use Rattle.pass.proofs.EndLaws.{few-slots, appearance-small, appearance-large, start-small}
+use Rattle.pass.proofs.EndLaws.{appearance-small, appearance-large, start-small}
 use Rattle.pass.proofs.EndLaws.{too-many-appearance, too-many-station, station-overflows, counted}
 
 -- lists that agree from k on

@@ -5,27 +5,24 @@ use Prim.Native.Nat.{ℕ, suc, _+_, _<_, _≤_}
 use native.Mathlib.Omega.{arith}
 use native.Mathlib.Decide.{ℕ-discrete}
 use native.Mathlib.Numerals.{add-one}
-use mathlib.Core.Path.{_≡_, refl, sym, ap, _∙_}
+use mathlib.Core.Path.{_≡_, refl, sym, _∙_}
 use mathlib.Core.Bool.{Bool, true, false, cond, _&&_}
 use mathlib.Core.List.{List}
-use mathlib.Core.Logic.{by-cases, ⊎-elim, _≢_}
+use mathlib.Core.Logic.{by-cases, _≢_}
 use mathlib.Core.Option.{some}
 use borrow.Author.Tests.{eq-eqb, ne-eqb}
 use lib.Dec.{eqb}
 use lib.ListN.{length, getElem?}
-use Rattle.temporal.specs.Plan.{Contact, Plan, Appearance, start, mayFollow}
-use Rattle.temporal.specs.Walk.{isAt, endsIn}
-use Rattle.temporal.specs.Shortest.{ofHops, count}
-use Rattle.temporal.proofs.ListLaws.{empty-or-member}
+use Rattle.temporal.specs.Plan.{Contact, Plan, start, mayFollow}
+use Rattle.temporal.specs.Walk.{isAt}
 use Rattle.temporal.proofs.WalkLaws.{SlotsWithin}
-use Rattle.temporal.proofs.ShortestLaws.{mem-ofHops}
-use Rattle.temporal.proofs.Adequacy.{bounded-ends}
-use Rattle.counting.proofs.Weights.{total, everywhere, cond-less, total-less, counts}
+use Rattle.counting.proofs.Weights.{total, everywhere, cond-less, total-less}
 use Rattle.counting.proofs.Fewest.{Fewest, plus, delayed}
 use Rattle.counting.proofs.Recurrence.{before, atAppearance, arrivals, arrivals-suc, inflow-to-a, inflow-to-b}
 use Rattle.counting.proofs.Recurrence.{inflow-other-station, arrivals-same, arrivals-zero, arrivals-all, settle}
 use Rattle.counting.proofs.Recurrence.{arrivals-less}
 use Rattle.counting.proofs.Through.{avoiding}
+use Rattle.entries.proofs.HopLaws.{walks-few}
 use Rattle.pass.specs.Sweep.{sentArea, foldedArea, Area}
 use Rattle.pass.proofs.StateLaws.{Walks, Sound, AreaState, sent-state, delayed-less}
 use Rattle.pass.proofs.SettleLaws.{Settles}
@@ -170,20 +167,7 @@ module _ (p : Plan) (s low u j : ℕ) (later : 0 < u)
 few-hops : (p : Plan) → SlotsWithin p → (s v u h : ℕ) → Fewest (kept p s everywhere v u) h → h < 65535
     → h ≤ p .slots
 unfolding kept everywhere before
-few-hops p fits s v u h f q =
-    ⊎-elim (λ empty. absurd (omega (arith, f .some q, many, ap length empty)))
-    (λ m. let (long, _, ends) = mem-ofHops p test h .0 (m .1) in
-    let most = bounded-ends p fits s at-v .within (m .0) ends .0 in omega arith)
-    (empty-or-member (ofHops p test h))
-  where
-    at-v : Appearance → Bool
-    at-v y = isAt v y && mayFollow p (y .slot) u
-
-    test : List ℕ → Bool
-    test = endsIn p (start s) at-v
-
-    many : count (ofHops p test h) ≡ total p everywhere (start s) (λ y. cond (at-v y) 1 0) h
-    many = counts p at-v (start s) h
+few-hops p fits s v u h f q = walks-few p fits s h (λ y. isAt v y && mayFollow p (y .slot) u) (f .some q)
 
 -- ---- a record is folded in
 

@@ -1,7 +1,7 @@
 -- What an answer to one record says about the plan: a refused record decides, an accepted one is passed over.
 -- Assumes nothing.
 use Prim.Native.Nat.{ℕ, _+_, _<_}
-use mathlib.Core.Path.{_≡_, refl, sym, ap, subst, _∙_}
+use mathlib.Core.Path.{_≡_, sym, ap, subst, _∙_}
 use mathlib.Core.List.{List}
 use lib.Dec.{lit<}
 use Rattle.temporal.specs.Bytes.{records}

@@ -1,30 +1,30 @@
 -- The state of the pass at its begin, and what it gives at its end. Assumes nothing.
-use Prim.Native.Nat.{ℕ, zero, suc, _+_, _*_, _<_, _≤_}
+use Prim.Native.Nat.{ℕ, _+_, _*_, _<_, _≤_}
 use native.Mathlib.Omega.{arith}
 use native.Mathlib.Decide.{ℕ-discrete}
-use mathlib.Core.Path.{_≡_, refl, sym, ap, subst, _∙_}
+use mathlib.Core.Path.{_≡_, sym, ap, subst, _∙_}
 use mathlib.Core.Bool.{cond}
 use mathlib.Core.Logic.{_≢_, by-cases}
 use mathlib.Core.List.{List, _++_}
-use lib.ListN.{length, getD, set, drop, replicate, length-replicate, getD-replicate, List·getD-append, length-append}
+use lib.ListN.{length, getD, drop, replicate, length-replicate, getD-replicate, List·getD-append, length-append}
 use lib.ListN.{length-drop, length-set}
 use lib.Seq.{getD-set-same, getD-set-other, drop-set-lt, drop-at}
 use Rattle.temporal.specs.Plan.{start}
-use Rattle.temporal.specs.Walk.{endsIn, isAt, isAppearance, isWalk}
-use Rattle.temporal.specs.Shortest.{shortest, shortestWalks, shortestPaths, hops, count}
-use Rattle.temporal.specs.Bytes.{records, planOf}
+use Rattle.temporal.specs.Walk.{isAt, isAppearance, isWalk}
+use Rattle.temporal.specs.Shortest.{shortestWalks, shortestPaths, hops, count}
+use Rattle.temporal.specs.Bytes.{planOf}
 use Rattle.temporal.specs.Cause.{planFault}
 use Rattle.temporal.specs.Outcome.{over}
-use Rattle.temporal.proofs.Accepted.{accepted}
 use Rattle.temporal.proofs.Adequacy.{bounded-ends, shortest-walks-are-paths}
 use Rattle.temporal.proofs.PlanLaws.{slots-within}
 use Rattle.counting.proofs.Weights.{total, everywhere}
-use Rattle.counting.proofs.Fewest.{Fewest, fewest-intro, fewest-unique, fewest-shortest, count-shortest}
-use Rattle.counting.proofs.Recurrence.{atAppearance, before, before-zero, start-here, start-other, whole-station}
+use Rattle.counting.proofs.Fewest.{fewest-intro, fewest-unique, fewest-shortest, count-shortest}
+use Rattle.counting.proofs.Recurrence.{atAppearance, before-zero, start-here, start-other, whole-station}
 use Rattle.reach.specs.Table.{Table, Fits}
 use Rattle.entries.specs.Entry.{stored}
 use Rattle.entries.proofs.CountLaws.{stored-small}
 use Rattle.entries.proofs.EntryLaws.{entry-none, entry-ext}
+use Rattle.entries.proofs.HopLaws.{few-slots}
 use Rattle.reach.specs.Pass.{Tables, begunTables, Beyond, EntryHolds, FilledTables}
 use Rattle.reach.proofs.EntryLaws.{EntryAt}
 use Rattle.reach.proofs.TableLaws.{slots-apart, stations-apart}
@@ -159,17 +159,13 @@ module _ (bs : List ℕ) (n t s : ℕ) (ok : planFault bs n t ≡ 0) (source : s
 -- ---- the end
 
 module _ (bs : List ℕ) (n t s : ℕ) (ok : planFault bs n t ≡ 0) where
-  few-slots : planOf bs n t .slots < 65535
-  unfolding planOf
-  few-slots = let few = accepted bs n t ok .slots in omega arith
-
   -- an entry of walks to an appearance holds its hops and count
   holds-appearance :
       (x : Table) (i v u : ℕ) → EntryAt (reaching bs n t s v u) x i → EntryHolds x i (shortestWalks (planOf bs n t) s v u)
   unfolding shortestWalks isWalk atAppearance
   holds-appearance x i v u e =
       let b = bounded-ends (planOf bs n t) (slots-within bs n t ok) s (isAppearance v u) in
-      let same = fewest-unique (e .fewest) (fewest-shortest (planOf bs n t) (start s) (isAppearance v u) b few-slots) in
+      let same = fewest-unique (e .fewest) (fewest-shortest (planOf bs n t) (start s) (isAppearance v u) b (few-slots bs n t ok)) in
       record {
         hops-there = same;
         count-there = e .count ∙
@@ -183,7 +179,7 @@ module _ (bs : List ℕ) (n t s : ℕ) (ok : planFault bs n t ≡ 0) where
   holds-station x i v e =
       let b = bounded-ends (planOf bs n t) (slots-within bs n t ok) s (isAt v) in
       let all = entry-ext (λ k. sym (whole-station (planOf bs n t) s everywhere (slots-within bs n t ok) v k)) e in
-      let same = fewest-unique (all .fewest) (fewest-shortest (planOf bs n t) (start s) (isAt v) b few-slots) in
+      let same = fewest-unique (all .fewest) (fewest-shortest (planOf bs n t) (start s) (isAt v) b (few-slots bs n t ok)) in
       rw (shortest-walks-are-paths bs n t ok s v)
       (record {
         hops-there = same;

@@ -1,41 +1,29 @@
 -- A record folded in keeps the state of the pass. Assumes nothing.
-use Prim.Native.Nat.{ℕ, zero, suc, _+_, _*_, _<_, _≤_}
+use Prim.Native.Nat.{ℕ, zero, suc, _+_, _*_, _<_}
 use native.Mathlib.Omega.{arith}
 use native.Mathlib.Numerals.{add-one}
-use native.Mathlib.Decide.{decLe, ℕ-discrete}
+use native.Mathlib.Decide.{ℕ-discrete}
 use mathlib.Core.Path.{_≡_, refl, sym, ap, subst, _∙_}
-use mathlib.Core.Bool.{Bool, true, false, cond, _&&_}
+use mathlib.Core.Bool.{true, _&&_}
 use mathlib.Core.Logic.{_≢_, by-cases}
-use mathlib.Core.List.{List, []}
-use lib.ListN.{length, getD, getElem?}
-use Rattle.temporal.specs.Plan.{Contact, Plan, Appearance, start, mayFollow}
-use Rattle.temporal.specs.Walk.{endsIn, isAt}
-use Rattle.temporal.specs.Shortest.{ofHops}
+use mathlib.Core.List.{List}
+use lib.ListN.{getD}
+use Rattle.temporal.specs.Plan.{Contact, mayFollow}
+use Rattle.temporal.specs.Walk.{isAt}
 use Rattle.temporal.specs.Bytes.{contactAt, records, planOf}
 use Rattle.temporal.specs.Cause.{planFault}
 use Rattle.temporal.proofs.Accepted.{accepted}
-use Rattle.temporal.proofs.Adequacy.{bounded-ends}
-use Rattle.temporal.proofs.ListLaws.{no-member-empty}
 use Rattle.temporal.proofs.PlanLaws.{contact-there, slots-within}
-use Rattle.temporal.proofs.ShortestLaws.{mem-ofHops-bounded}
-use Rattle.temporal.proofs.WalkLaws.{SlotsWithin}
-use Rattle.counting.proofs.Weights.{total, everywhere, counts}
+use Rattle.counting.proofs.Weights.{everywhere}
 use Rattle.counting.proofs.Fewest.{Fewest, plus, delayed}
-use Rattle.counting.proofs.Recurrence.{
-  before,
-  arrivals,
-  arrivals-suc,
-  inflow,
-  inflow-other-station,
-  inflow-to-a,
-  inflow-to-b,
-}
+use Rattle.counting.proofs.Recurrence.{before, arrivals, arrivals-suc, inflow-other-station, inflow-to-a, inflow-to-b}
 use Rattle.reach.specs.Table.{Table, foldedTable, sentTable, Fits}
 use Rattle.reach.specs.Pass.{Tables, Beyond}
 use Rattle.reach.proofs.PlaceLaws.{place-below}
 use Rattle.plan.specs.Record.{inSlot}
 use Rattle.plan.proofs.SlotLaws.{in-slot-inv}
 use Rattle.entries.proofs.EntryLaws.{entry-ext}
+use Rattle.entries.proofs.HopLaws.{walks-few}
 use Rattle.reach.proofs.EntryLaws.{EntryAt, entry-sent, sent-other-hops, sent-other-counts}
 use Rattle.reach.proofs.TableLaws.{
   slots-apart,
@@ -45,20 +33,6 @@ use Rattle.reach.proofs.TableLaws.{
   beyond-sent,
 }
 use Rattle.reach.proofs.StateLaws.{TablesState, ready, pendingWalks, fits-beyond}
-
--- walks have no more hops than a plan has slots
-walks-few :
-    (p : Plan) → SlotsWithin p → (s h : ℕ) (t : Appearance → Bool) →
-    0 < total p everywhere (start s) (λ y. cond (t y) 1 0) h → h ≤ p .slots
-walks-few p g s h t there =
-    by-cases (decLe h (p .slots)) (λ q. q)
-    (λ more. absurd (
-    let none : ofHops p (endsIn p (start s) t) h ≡ [] = no-member-empty (ofHops p (endsIn p (start s) t) h)
-    (λ w m.
-    let (len, passes) = mem-ofHops-bounded (bounded-ends p g s t) h .0 m in
-    let few = bounded-ends p g s t .within w passes .0 in omega arith) in
-    let zero-there = sym (counts p t (start s) h) ∙ ap length none in
-    omega arith))
 
 -- what may be sent on in a slot has few hops
 pub ready-few :

@@ -1,6 +1,6 @@
 -- what merging an entry leaves
 mod MergeLaws
-pub mod PlaceLaws
+mod PlaceLaws
 mod PassLaws
 mod EntryLaws
 mod TableLaws
@@ -11,4 +11,9 @@ mod EndLaws
 mod TurnLaws
 mod OutcomeLaws
 mod ReachedLaws
+<<<<<<< HEAD
 pub mod CallLaws
+=======
+mod CallLaws
+pub mod Demand2
+>>>>>>> 1013181 (Laws on the hops of walks once for reach and the pass; unused imports removed)

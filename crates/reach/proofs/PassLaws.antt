@@ -1,17 +1,17 @@
 -- What a turn of the pass, its begin and its end leave, from what the functions that they call leave. Assumes nothing.
-use Prim.Native.Nat.{ℕ, _+_, _-_, _*_, _<_, _≤_}
+use Prim.Native.Nat.{ℕ, _-_, _*_}
 use native.Mathlib.Omega.{arith}
-use mathlib.Core.Path.{_≡_, refl, sym, ap, _∙_}
-use mathlib.Core.Bool.{Bool, true, false, _||_}
+use mathlib.Core.Path.{_≡_, ap}
+use mathlib.Core.Bool.{true, false}
 use mathlib.Core.List.{List}
-use lib.ListN.{length, set, replicate}
+use lib.ListN.{set, replicate}
 use Rattle.temporal.specs.Bytes.{contactAt}
 use Rattle.temporal.specs.Lists.{any, below}
 use Rattle.temporal.specs.Outcome.{over}
 use Rattle.temporal.proofs.Accepted.{accepted}
 use Rattle.plan.specs.Record.{inSlot}
 use Rattle.plan.proofs.SlotLaws.{in-slot-inv}
-use Rattle.reach.specs.Table.{Table, tableOf, foldedTable, settledTable, tableOverflows, Fits, FoldableTables}
+use Rattle.reach.specs.Table.{Table, foldedTable, settledTable, tableOverflows, FoldableTables}
 use Rattle.reach.specs.Pass.{Tables, tablesOf, begunTables, emptiedTables, tablesOverflow, turnedTables, Turnable}
 
 module _ (bs : List ℕ) (n width u j : ℕ) (x : Tables) where

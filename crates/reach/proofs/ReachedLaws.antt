@@ -1,30 +1,19 @@
 -- Filled tables are document 01's tables of reach, or give cause 9 and are cleared. Assumes nothing.
-use Prim.Native.Nat.{ℕ, _+_, _-_, _*_, _/_, _%_, _^_, _<_, _≤_}
+use Prim.Native.Nat.{ℕ, _+_, _-_, _*_, _/_, _%_, _^_, _<_}
 use native.Mathlib.Omega.{arith}
 use native.Mathlib.Nat.{div-add-mod', mod-lt, div-lt-iff-lt-mul}
-use mathlib.Core.Path.{_≡_, refl, sym, ap, ap₂, subst, _∙_}
-use mathlib.Core.Bool.{Bool, true, false, cond, _||_}
+use mathlib.Core.Path.{_≡_, sym, ap₂, subst, _∙_}
+use mathlib.Core.Bool.{true, false, _||_}
 use mathlib.Core.Logic.{_⊎_, inl, inr, ⊎-elim}
-use mathlib.Core.List.{List, [], map}
+use mathlib.Core.List.{List}
 use borrow.Author.Tests.{ltb-false}
 use lib.Dec.{ltb}
-use lib.ListN.{length, getD, replicate}
 use Rattle.temporal.specs.Lists.{any, below}
-use Rattle.temporal.specs.Plan.{Plan}
 use Rattle.temporal.specs.Walk.{isAppearance, isWalk}
 use Rattle.temporal.specs.Shortest.{shortestWalks, shortestPaths, hops, count}
 use Rattle.temporal.specs.Bytes.{planOf}
 use Rattle.temporal.specs.Cause.{planFault, tooMany}
-use Rattle.temporal.specs.Outcome.{
-  Outcome,
-  over,
-  cleared,
-  places,
-  ReachTables,
-  appearanceTable,
-  stationTable,
-  reached,
-}
+use Rattle.temporal.specs.Outcome.{Outcome, over, cleared, ReachTables, appearanceTable, stationTable, reached}
 use Rattle.temporal.proofs.Accepted.{accepted}
 use Rattle.temporal.proofs.Adequacy.{bounded-ends, bounded-paths}
 use Rattle.temporal.proofs.CauseLaws.{or-false-left, or-false-right}
@@ -33,7 +22,7 @@ use Rattle.temporal.proofs.PlanLaws.{slots-within}
 use Rattle.temporal.proofs.ShortestLaws.{hops-bound}
 use Rattle.entries.specs.Entry.{stored}
 use Rattle.entries.proofs.CountLaws.{stored-small}
-use Rattle.reach.specs.Table.{Table, tableOverflows, Fits}
+use Rattle.reach.specs.Table.{tableOverflows, Fits}
 use Rattle.reach.specs.Pass.{Tables, lentTables, tablesOverflow, emptiedTables, EntryHolds, FilledTables}
 use Rattle.temporal.proofs.BufferLaws.{over-by, fill-beyond, getD-made, length-made}
 use Rattle.reach.proofs.OutcomeLaws.{Few, any-places, overflows-exactly}

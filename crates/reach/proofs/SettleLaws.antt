@@ -2,30 +2,21 @@
 use Prim.Native.Nat.{ℕ, zero, suc, _+_, _-_, _*_, _<_, _≤_}
 use native.Mathlib.Omega.{arith}
 use native.Mathlib.Numerals.{add-one}
-use native.Mathlib.Decide.{decLt, ℕ-discrete}
+use native.Mathlib.Decide.{ℕ-discrete}
 use mathlib.Core.Path.{_≡_, refl, sym, ap, subst, _∙_}
-use mathlib.Core.Bool.{Bool, true, false}
-use mathlib.Core.Logic.{_≢_, by-cases}
+use mathlib.Core.Bool.{false}
+use mathlib.Core.Logic.{by-cases}
 use mathlib.Core.List.{List}
-use mathlib.Core.Option.{some}
-use lib.ListN.{length, getD, getElem?}
-use Rattle.temporal.specs.Plan.{Contact, Plan, start}
+use lib.ListN.{length}
+use Rattle.temporal.specs.Plan.{start}
 use Rattle.temporal.specs.Bytes.{contactAt, records, planOf}
 use Rattle.temporal.specs.Cause.{planFault}
 use Rattle.temporal.proofs.PlanLaws.{contact-inv, contacts-length, slots-sorted}
 use Rattle.counting.proofs.Weights.{total, everywhere}
 use Rattle.counting.proofs.Fewest.{plus}
-use Rattle.counting.proofs.Recurrence.{
-  atAppearance,
-  before,
-  arrivals,
-  arrivals-zero,
-  arrivals-same,
-  arrivals-all,
-  settle,
-}
+use Rattle.counting.proofs.Recurrence.{before, arrivals-zero, arrivals-same, arrivals-all, settle}
 use Rattle.reach.specs.Table.{Table, settledTable}
-use Rattle.reach.specs.Pass.{Tables, Beyond}
+use Rattle.reach.specs.Pass.{Tables}
 use Rattle.plan.specs.Record.{inSlot}
 use Rattle.plan.proofs.SlotLaws.{in-slot-none}
 use Rattle.entries.proofs.EntryLaws.{entry-none, entry-ext}

@@ -3,48 +3,16 @@
 -- Assumes nothing.
 use Prim.Native.Nat.{ℕ, zero, suc, _+_, _*_, _<_, _≤_}
 use native.Mathlib.Omega.{arith}
-use native.Mathlib.Numerals.{add-one}
-use native.Mathlib.Decide.{decLt, decLe, ℕ-discrete}
-use mathlib.Core.Path.{_≡_, refl, sym, ap, subst, _∙_}
-use mathlib.Core.Bool.{Bool, true, false, cond, false≢true}
-use mathlib.Core.Logic.{_≢_, by-cases}
+use mathlib.Core.Path.{_≡_}
 use mathlib.Core.List.{List}
-use mathlib.Core.Option.{some}
-use borrow.Author.Tests.{lt-ltb, eq-eqb}
-use lib.ListN.{length, getD, getElem?}
-use Rattle.temporal.specs.Plan.{Contact, Plan, Appearance, start}
+use lib.ListN.{getD}
+use Rattle.temporal.specs.Plan.{start}
 use Rattle.temporal.specs.Bytes.{contactAt, records, planOf}
-use Rattle.temporal.specs.Cause.{planFault}
-use Rattle.temporal.proofs.Accepted.{accepted}
-use Rattle.temporal.proofs.PlanLaws.{contact-there, contact-inv, slots-within, slots-sorted}
 use Rattle.counting.proofs.Weights.{total, everywhere}
-use Rattle.counting.proofs.Fewest.{Fewest, plus, delayed}
-use Rattle.counting.proofs.Recurrence.{
-  atAppearance,
-  before,
-  arrivals,
-  arrivals-zero,
-  arrivals-suc,
-  inflow,
-  inflow-other-station,
-  inflow-to-a,
-  inflow-to-b,
-  arrivals-same,
-  arrivals-all,
-  settle,
-}
-use Rattle.reach.specs.Table.{Table, foldedTable, settledTable, sentTable, Fits}
-use Rattle.reach.specs.Pass.{Tables, turnedTables, Beyond}
-use Rattle.reach.proofs.PlaceLaws.{place-below}
+use Rattle.counting.proofs.Recurrence.{atAppearance, before, arrivals}
+use Rattle.reach.specs.Table.{Fits}
+use Rattle.reach.specs.Pass.{Tables, Beyond}
 use Rattle.reach.proofs.EntryLaws.{EntryAt}
-use Rattle.reach.proofs.TableLaws.{
-  slots-apart,
-  stations-apart,
-  entry-kept,
-  beyond-sent,
-  entry-settled,
-  beyond-settled,
-}
 
 -- walks from s to the appearance (v, u), by hops
 abbrev pub reaching : List ℕ → ℕ → ℕ → ℕ → ℕ → ℕ → ℕ → ℕ

@@ -5,12 +5,11 @@ use native.Mathlib.Omega.{arith}
 use native.Mathlib.Decide.{decLt, ℕ-discrete}
 use mathlib.Core.Path.{_≡_, refl, sym, ap, _∙_}
 use mathlib.Core.Logic.{_≢_, by-cases}
-use mathlib.Core.List.{List}
 use lib.Arith.{digits-div, digits-mod}
-use lib.ListN.{length, getD, set, drop, length-set}
+use lib.ListN.{length, getD, length-set}
 use lib.Seq.{drop-set-lt}
 use Rattle.counting.proofs.Fewest.{plus}
-use Rattle.reach.specs.Table.{Table, mergedTable, sentTable, foldedTable, settledTable}
+use Rattle.reach.specs.Table.{Table, mergedTable, sentTable, settledTable}
 use Rattle.reach.specs.Pass.{Beyond}
 use Rattle.reach.proofs.MergeLaws.{sent-some, sent-none, merged-hops-length, merged-counts-length}
 use Rattle.reach.proofs.EntryLaws.{EntryAt, entry-merged, merged-other-hops, merged-other-counts}

@@ -1,13 +1,10 @@
 // Operation 2, reach: fills the tables of hops and counts from a source.
 // The tables are the state: the stations' tables hold what may be sent on, the appearances' tables what each slot brings.
 ghost use mathlib.Core.Path.{_≡_};
-ghost use mathlib.Core.Bool.{_&&_};
 ghost use Prim.Native.Nat.{_+_, _*_, _-_, _<_, _≤_};
-ghost use lib.Dec.{ltb, eqb};
 ghost use lib.ListN.{length, getD};
-ghost use Rattle.temporal.specs.Lists.{any, from, below};
+ghost use Rattle.temporal.specs.Lists.{any, below};
 ghost use Rattle.temporal.specs.Bytes.{contactAt, planOf};
-ghost use Rattle.temporal.specs.Plan.{Contact};
 ghost use Rattle.temporal.specs.Cause.{planFault};
 ghost use Rattle.temporal.specs.Outcome.{reached, reach};
 ghost use Rattle.plan.specs.Record.{inSlot};
@@ -33,7 +30,7 @@ ghost use Rattle.reach.specs.Pass.{
   ReachReady,
   FilledTables,
 };
-ghost use Rattle.reach.specs.Answer.{reachNumber, reachOutcome};
+ghost use Rattle.reach.specs.Answer.{reachOutcome};
 use plan::CallFault;
 use plan::CheckAnswer;
 use plan::Fault;

@@ -1,7 +1,7 @@
 -- `plan::check` meets its contract. The loop's invariant: the plan's first cause is the first cause of the records from i
 -- on. The measure is the number of records left.
 -- Assumes nothing.
-use Prim.Native.Nat.{ℕ, _-_, _*_, _/_, _≤_}
+use Prim.Native.Nat.{ℕ, _-_, _*_, _≤_}
 use native.Mathlib.Omega.{arith}
 use mathlib.Core.Path.{_≡_, sym, _∙_}
 use mathlib.Core.List.{List}

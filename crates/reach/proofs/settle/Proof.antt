@@ -4,7 +4,6 @@
 use lib.Arith.{digits-lt}
 use Prim.Native.Nat.{_-_}
 use native.Mathlib.Omega.{arith}
-use mathlib.Core.Path.{sym, _∙_}
 use Rattle.reach.specs.Table.{tableOf}
 use Rattle.reach.proofs.MergeLaws.{SettlingTable, settling-none, settling-more, settling-all}
 use Rattle.reach.proofs.settle.Statement.{statement}
