@@ -15,8 +15,7 @@ use Rattle.plan.specs.Fault.{checkNumber}
 use Rattle.plan.specs.declared.CheckAnswer.{CheckAnswer}
 use Rattle.plan.specs.declared.CheckAnswer.the-variants as check-answer
 use Rattle.plan.proofs.Answers.{number-positive}
-use Rattle.reach.proofs.CallLaws.{row-refused, row-part, row-within}
-use Rattle.reach.proofs.PlaceLaws.{row-end}
+use Rattle.rows.proofs.RowLaws.{row-refused, row-part, row-within, row-end}
 use Rattle.loads.specs.Answer.{BusiestIs, busiestNumber, busiestStation}
 use Rattle.loads.specs.declared.BusiestAnswer.{BusiestAnswer}
 use Rattle.listing.specs.Answer.{question}
@@ -160,7 +159,7 @@ demand1 =
       of-check = check-judged;
       of-reach = λ bs n t s old x r e.
           subst (Judged (reachCauses bs n t s old) tt old (reachEmptied n t old)) (sym e) (reach-judged bs n t s old);
-      of-row = row-judged;
+      of-row = λ n t v table part k e is. row-judged n t v (table .now) (part .now) k e (is .entries);
       of-pair = λ bs n t s z old x r e.
           subst (Judged (pairAllCauses bs n t s z old) (record { hops = 0; count = 0 }) old (pairEmptied n t old)) (sym e)
           (pair-judged bs n t s z old);

@@ -6,14 +6,16 @@ use Prim.Native.Nat.{ℕ}
 use mathlib.Core.Path.{_≡_}
 use mathlib.Core.Logic.{_↔_, _≢_}
 use mathlib.Core.List.{List, [], _∷_}
+use denote.Ref.{RefT}
 use Rattle.temporal.specs.Cause.{first, planCauses, planFault}
-use Rattle.temporal.specs.Outcome.{Outcome, cleared, workSize, ReachTables, reach, rowNumber, row}
+use Rattle.temporal.specs.Outcome.{Outcome, cleared, workSize, ReachTables, reach, rowNumber}
 use Rattle.temporal.specs.OutcomePair.{PairBuffers, pair, LoadBuffers, loads}
 use Rattle.temporal.specs.Cursor.{Reply, path, no-path, last-path, refused, first-way, next-way}
 use Rattle.temporal.specs.FirstNext.{WayContract}
 use Rattle.plan.specs.Fault.{checkNumber}
 use Rattle.plan.specs.declared.CheckAnswer.{CheckAnswer}
 use Rattle.plan.specs.declared.CheckAnswer.the-variants as check-answer
+use Rattle.rows.specs.Part.{RowPart}
 use Rattle.reach.specs.Answer.{reachOutcome}
 use Rattle.reach.specs.declared.ReachAnswer.{ReachAnswer}
 use Rattle.pair.specs.Answer.{pairOutcome}
@@ -100,8 +102,8 @@ pub record Demand1 : Type 0 where
   pub of-check : (bs : List ℕ) (n t : ℕ) (r : CheckAnswer) → checkNumber r ≡ planFault bs n t → CheckJudged bs n t r
   pub of-reach : (bs : List ℕ) (n t s : ℕ) (old x : ReachTables) (r : ReachAnswer) → reachOutcome r x ≡ reach bs n t s old
       → Judged (reachCauses bs n t s old) tt old (reachEmptied n t old) (reachOutcome r x)
-  pub of-row : (n t v : ℕ) (table part : List ℕ) (k : ℕ) → k ≡ rowNumber n t v table → part ≡ row n t v table
-      → RowJudged n t v table k part
+  pub of-row : (n t v : ℕ) (table part : RefT (List ℕ)) (k : ℕ) → k ≡ rowNumber n t v (table .now) → RowPart n t v table part
+      → RowJudged n t v (table .now) k (part .now)
   pub of-pair : (bs : List ℕ) (n t s z : ℕ) (old x : PairBuffers) (r : PairAnswer) → pairOutcome r x ≡ pair bs n t s z old
       → Judged (pairAllCauses bs n t s z old) (record { hops = 0; count = 0 }) old (pairEmptied n t old) (pairOutcome r x)
   pub of-loads : (bs : List ℕ) (n t : ℕ) (old x : LoadBuffers) (r : LoadsAnswer) → loadsOutcome r x ≡ loads bs n t old

@@ -11,9 +11,4 @@ mod EndLaws
 mod TurnLaws
 mod OutcomeLaws
 mod ReachedLaws
-<<<<<<< HEAD
-pub mod CallLaws
-=======
 mod CallLaws
-pub mod Demand2
->>>>>>> 1013181 (Laws on the hops of walks once for reach and the pass; unused imports removed)
