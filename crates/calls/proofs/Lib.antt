@@ -1,3 +1,2 @@
--- how a call that names a pair begins, and the places within the limits
+-- how a call that names a pair begins
 pub mod CallLaws
-pub mod PlaceLaws

@@ -126,7 +126,7 @@ module _ (bs : List ℕ) (n t : ℕ) (ok : planFault bs n t ≡ 0) (s : ℕ) whe
   station-avoiding z x k d =
       rw (avoids-other s x z d) (sym (whole-station (planOf bs n t) s (avoiding s x) (slots-within bs n t ok) z k))
 
-  -- so its fewest hops and its number there are those of the shortest paths
+  -- (kept) so its fewest hops and its number there are those of the shortest paths
   station-fewest : (z : ℕ)
       → Fewest (kept (planOf bs n t) s everywhere z (t + 1)) (hops (shortestPaths (planOf bs n t) s z))
   station-fewest z =
@@ -136,6 +136,7 @@ module _ (bs : List ℕ) (n t : ℕ) (ok : planFault bs n t ≡ 0) (s : ℕ) whe
       (bounded-ends (planOf bs n t) (slots-within bs n t ok) s (isAt z))
       (few-slots bs n t ok)))
 
+  -- (kept)
   station-count : (z : ℕ) → count (shortestPaths (planOf bs n t) s z)
       ≡ kept (planOf bs n t) s everywhere z (t + 1) (hops (shortestPaths (planOf bs n t) s z))
   station-count z =
@@ -152,7 +153,7 @@ module _ (bs : List ℕ) (n t : ℕ) (ok : planFault bs n t ≡ 0) (s : ℕ) whe
     unfolding walksAt
     entry z q = state .settled z q
 
-    -- a station's settled entry overflows just where its count is over 2^64 - 1
+    -- (kept) a station's settled entry overflows just where its count is over 2^64 - 1
     pub station-overflows : (z : ℕ) → z < n
         → areaOverflows n w z ≡ ltb 18446744073709551615 (count (shortestPaths (planOf bs n t) s z))
     station-overflows z q = go (areaOverflows n w z) refl
@@ -170,7 +171,7 @@ module _ (bs : List ℕ) (n t : ℕ) (ok : planFault bs n t ≡ 0) (s : ℕ) whe
             sym (le-ltb 18446744073709551615 (count (shortestPaths (planOf bs n t) s z))
             (omega (arith, station-count z)))
 
-    -- Where no count is over 2^64 - 1 the settled entries are hops, counts and rows.
+    -- (kept) Where no count is over 2^64 - 1 the settled entries are hops, counts and rows.
     pub counted : ((z : ℕ) → z < n → count (shortestPaths (planOf bs n t) s z) ≤ 18446744073709551615)
         → Counted bs n t s low block w
     counted small =

@@ -172,7 +172,7 @@ module _ (bs : List ℕ) (n t s : ℕ) (ok : planFault bs n t ≡ 0) where
             ap stored (ap (reaching bs n t s v u) same ∙ sym (count-shortest (planOf bs n t) (start s) (isAppearance v u) b));
       }
 
-  -- an entry of all walks to a station holds its hops and count
+  -- (kept) an entry of all walks to a station holds its hops and count
   holds-station :
       (x : Table) (i v : ℕ) → EntryAt (ready bs n t s v (t + 1)) x i → EntryHolds x i (shortestPaths (planOf bs n t) s v)
   unfolding planOf
@@ -188,7 +188,7 @@ module _ (bs : List ℕ) (n t s : ℕ) (ok : planFault bs n t ≡ 0) where
             sym (count-shortest (planOf bs n t) (start s) (isAt v) b));
       })
 
-  -- at the end of the last slot the tables are filled
+  -- (kept) at the end of the last slot the tables are filled
   pub end-state : (old x : Tables) (j : ℕ) → TablesState bs n t s old (t + 1) j x → FilledTables bs n t s old x
   end-state old x j st =
       record {

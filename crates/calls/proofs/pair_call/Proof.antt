@@ -1,6 +1,6 @@
 -- `calls::pair_call` meets its contract: the tests on the way decide the first cause.
 -- Assumes nothing.
-use Rattle.calls.proofs.PlaceLaws.{few-places}
+use Rattle.plan.proofs.LimitLaws.{limited-places}
 use native.Mathlib.Omega.{arith}
 use mathlib.Core.Path.{sym}
 use Rattle.calls.proofs.CallLaws.{call-source, call-destination, call-same, call-short, call-area, call-free}
@@ -24,10 +24,10 @@ add-if5 : tie.Need-add-if5
 add-if5 c = search needs
 
 mul-if5 : tie.Need-mul-if5
-mul-if5 c = omega (arith, few-places _ _ (c .before .before .before .before .pre .0) (c .before .before .before .before .pre .1))
+mul-if5 c = omega (arith, limited-places _ _ (c .before .before .before .before .pre .0) (c .before .before .before .before .pre .1))
 
 mul-if5-2 : tie.Need-mul-if5-2
-mul-if5-2 c = omega (arith, few-places _ _ (c .before .before .before .before .pre .0) (c .before .before .before .before .pre .1))
+mul-if5-2 c = omega (arith, limited-places _ _ (c .before .before .before .before .pre .0) (c .before .before .before .before .pre .1))
 
 returns-5 : tie.Need-returns-5
 returns-5 c =

@@ -3,7 +3,7 @@
 use native.Mathlib.Omega.{arith}
 use lib.Dec.{lit<}
 use Rattle.temporal.proofs.Accepted.{accepted}
-use Rattle.calls.proofs.PlaceLaws.{few-places}
+use Rattle.plan.proofs.LimitLaws.{limited-places}
 use Rattle.loads.proofs.LoadLaws.{busiest-short, given-refused}
 use borrow.Author.Needs.{needs}
 use Rattle.loads.proofs.busiest_accepted.Statement.{statement}
@@ -13,10 +13,10 @@ add-if1 : tie.Need-add-if1
 add-if1 c = omega (arith, accepted _ _ _ (c .before .before .pre) .slots)
 
 mul-if1 : tie.Need-mul-if1
-mul-if1 c = let a = accepted _ _ _ (c .before .before .pre) in omega (arith, few-places _ _ (a .stations) (a .slots))
+mul-if1 c = let a = accepted _ _ _ (c .before .before .pre) in omega (arith, limited-places _ _ (a .stations) (a .slots))
 
 mul-if1-2 : tie.Need-mul-if1-2
-mul-if1-2 c = let a = accepted _ _ _ (c .before .before .pre) in omega (arith, few-places _ _ (a .stations) (a .slots))
+mul-if1-2 c = let a = accepted _ _ _ (c .before .before .pre) in omega (arith, limited-places _ _ (a .stations) (a .slots))
 
 returns : tie.Need-returns
 returns c =

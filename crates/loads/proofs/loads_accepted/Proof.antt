@@ -3,7 +3,7 @@
 use native.Mathlib.Omega.{arith}
 use mathlib.Core.Path.{sym, _∙_}
 use Rattle.temporal.proofs.Accepted.{accepted}
-use Rattle.calls.proofs.PlaceLaws.{few-places}
+use Rattle.plan.proofs.LimitLaws.{limited-places}
 use Rattle.loads.proofs.LoadLaws.{loads-short-pairs, loads-short-loads, loads-short-area, loads-works}
 use borrow.Author.Needs.{needs}
 use Rattle.loads.proofs.loads_accepted.Statement.{statement}
@@ -19,10 +19,10 @@ add-if3 : tie.Need-add-if3
 add-if3 c = omega (arith, accepted _ _ _ (c .before .before .before .before .before .before .pre) .slots)
 
 mul-if3 : tie.Need-mul-if3
-mul-if3 c = let a = accepted _ _ _ (c .before .before .before .before .before .before .pre) in omega (arith, few-places _ _ (a .stations) (a .slots))
+mul-if3 c = let a = accepted _ _ _ (c .before .before .before .before .before .before .pre) in omega (arith, limited-places _ _ (a .stations) (a .slots))
 
 mul-if3-2 : tie.Need-mul-if3-2
-mul-if3-2 c = let a = accepted _ _ _ (c .before .before .before .before .before .before .pre) in omega (arith, few-places _ _ (a .stations) (a .slots))
+mul-if3-2 c = let a = accepted _ _ _ (c .before .before .before .before .before .before .pre) in omega (arith, limited-places _ _ (a .stations) (a .slots))
 
 returns-3 : tie.Need-returns-3
 returns-3 c = loads-short-area _ _ _ _ _ _ (c .before .before .before .before .before .before .before .pre) (omega arith) (omega arith) (omega arith)
