@@ -119,7 +119,7 @@ static void print_loads(uint64_t *work)
         printf("%zu %" PRIu64 " %" PRIu64 "\n", v, pairs[v], loads[v]);
 }
 
-/* Operation 6: a station whose load no other exceeds. */
+/* Operation 6: the lowest-numbered station whose load no other exceeds. */
 static void print_busiest(uint64_t *work)
 {
     size_t station;

@@ -20,10 +20,10 @@
  * length said at each prototype; entries past it are never touched, and longer is always fine.
  *
  * Proved. For every call that lends memory as said below, the number, the slots and every lent entry at exit are those of
- * the definitions in crates/temporal/specs (of busiest's station, a property), and the function ends. The contracts stand
- * in crates/joftaki_c/src/lib.rt, with the definitions of the slots and of JOFTAKI_NONE and JOFTAKI_LAST in
- * crates/joftaki_c/specs. No contract asks anything of the numbers or of what the lent memory holds. No refusal has the
- * number of JOFTAKI_NONE or JOFTAKI_LAST (crates/joftaki_c/proofs/Told.antt).
+ * the definitions in crates/temporal/specs, and the function ends. The contracts stand in crates/joftaki_c/src/lib.rt, with
+ * the definitions of the slots and of JOFTAKI_NONE and JOFTAKI_LAST in crates/joftaki_c/specs. No contract asks anything of
+ * the numbers or of what the lent memory holds. No refusal has the number of JOFTAKI_NONE or JOFTAKI_LAST
+ * (crates/joftaki_c/proofs/Told.antt).
  *
  * Not proved. That these prototypes, the numbers behind the names and the macros, written by hand, fit the archive and the
  * definitions; how long a call takes; how much stack it takes (measured: docs/MEMORY.md). The archive is for x86-64.
@@ -168,12 +168,13 @@ uint32_t joftaki_loads(const uint8_t *plan, size_t plan_length, size_t n, size_t
                        uint64_t *work, size_t work_length);
 
 /*
- * Operation 6, busiest: in *station a station whose load no other exceeds; among equals any may be given.
+ * Operation 6, busiest: in *station the station with the largest load, the lowest-numbered of them where several have it.
+ * Where all loads are 0 that is station 0.
  *
  * Lend: work JOFTAKI_WORK_LENGTH(n, t) entries.
  * Gives 0, or the first of 1, 2, 3, 4, 5, 8, 9; every source is worked on. 9 sets the named part of work to 0.
- * Proved: the number, every entry of work at exit, that the station is one of the n and that no other's load exceeds its
- * load; 0 on refusal. Which of several such stations is given is left open.
+ * Proved: the number, the slot, and every entry of work at exit. No load exceeds the load of the station given, and every
+ * lower-numbered station's is smaller (crates/temporal/proofs/BusiestLaws.antt).
  * Not covered: each pointer is valid for its length, aligned and not null, also where its length is 0; station is valid,
  * aligned and not null; the slot, work and the plan do not overlap.
  */

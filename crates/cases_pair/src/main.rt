@@ -6,9 +6,8 @@
 // (loads) and of the work area. All of them hold the mark before the call.
 //
 // For each case a line: the label, a colon, a space and the number of the answer, then what was lent, each behind " |":
-// pair: hops, count, the through table; loads: the table of pairs and the table of loads; busiest: the load of the station
-// that it gives, by operation 5, 0 where it refuses; each then the work area. A run of one value is written " i: x" or
-// " i .. j: x"; entries of 0 are left out.
+// pair: hops, count, the through table; loads: the table of pairs and the table of loads; busiest: the station, 0 where it
+// refuses; each then the work area. A run of one value is written " i: x" or " i .. j: x"; entries of 0 are left out.
 use loads::BusiestAnswer;
 use loads::LoadsAnswer;
 use pair::PairAnswer;
@@ -29,28 +28,20 @@ fn write_pair(answer: PairAnswer) {
     }
 }
 
-// The number of loads' answer, 0 where the call is accepted.
-fn loads_number(answer: LoadsAnswer) -> usize {
+// Writes the number of loads' answer.
+fn write_loads(answer: LoadsAnswer) {
     match answer {
-        LoadsAnswer::Loaded => 0,
-        LoadsAnswer::Refused(fault) => plan::fault_number(fault),
+        LoadsAnswer::Loaded => cases::write_number(0),
+        LoadsAnswer::Refused(fault) => cases::write_number(plan::fault_number(fault) as u64),
     }
 }
 
-// The entry of a station, 0 where the table has none.
-fn entry(table: &[u64], v: usize) -> u64 {
-    if v < table.len() {
-        return table[v];
-    }
-    0
-}
-
-// Writes the number of busiest's answer, and the load of the station that it gives; zero beside a refusal.
-fn write_busiest(answer: BusiestAnswer, loads: &[u64]) {
+// Writes the number of busiest's answer and the station; zero beside a refusal.
+fn write_busiest(answer: BusiestAnswer) {
     match answer {
         BusiestAnswer::Station(v) => {
             cases::write_number(0);
-            cases::write_number(entry(loads, v));
+            cases::write_number(v as u64);
         }
         BusiestAnswer::Refused(fault) => {
             cases::write_number(plan::fault_number(fault) as u64);
@@ -77,40 +68,29 @@ fn run_pair(head: &[u8], plan: &[u8], through: &mut [u64], work: &mut [u64]) {
     cases::write64(work);
 }
 
-// Calls loads on tables and a work area; the number of its answer.
-fn loads_of(
-    head: &[u8],
-    plan: &[u8],
-    pairs: &mut [u64],
-    loads: &mut [u64],
-    work: &mut [u64],
-) -> usize {
-    mark(head, pairs);
-    mark(head, loads);
-    let n = cases::word(head, 2);
-    let t = cases::word(head, 4);
-    loads_number(loads::loads(plan, n, t, pairs, loads, work))
-}
-
 // Calls loads on the lent parts, and writes its answer.
 fn run_loads(head: &[u8], plan: &[u8], pairs: &mut [u64], loads: &mut [u64], work: &mut [u64]) {
+    mark(head, pairs);
+    mark(head, loads);
     mark(head, work);
-    cases::write_number(loads_of(head, plan, pairs, loads, work) as u64);
+    let n = cases::word(head, 2);
+    let t = cases::word(head, 4);
+    write_loads(loads::loads(plan, n, t, pairs, loads, work));
     cases::write64(pairs);
     cases::write64(loads);
     cases::write64(work);
 }
 
-// Calls busiest on the lent part, and writes its answer beside a table of loads.
-fn run_busiest(head: &[u8], plan: &[u8], loads: &[u64], work: &mut [u64]) {
+// Calls busiest on the lent part, and writes its answer.
+fn run_busiest(head: &[u8], plan: &[u8], work: &mut [u64]) {
     mark(head, work);
     let n = cases::word(head, 2);
     let t = cases::word(head, 4);
-    write_busiest(loads::busiest(plan, n, t, work), loads);
+    write_busiest(loads::busiest(plan, n, t, work));
     cases::write64(work);
 }
 
-// Lends what the head names, and runs the case. For busiest, loads fills the second table before.
+// Lends what the head names, and runs the case.
 fn run_named(head: &[u8], plan: &[u8], first: &mut [u64], second: &mut [u64], work: &mut [u64]) {
     let a = cases::lent(head, 16, first.len());
     let b = cases::lent(head, 20, second.len());
@@ -127,8 +107,7 @@ fn run_named(head: &[u8], plan: &[u8], first: &mut [u64], second: &mut [u64], wo
             &mut work[..c],
         );
     } else {
-        loads_of(head, plan, first, second, work);
-        run_busiest(head, plan, second, &mut work[..c]);
+        run_busiest(head, plan, &mut work[..c]);
     }
 }
 

@@ -1,25 +1,29 @@
--- What pair and loads answer, from their contracts' own equations where the number is 0: pair counts the complete list, and
--- loads leaves each station's pairs and load. Assumes nothing.
+-- What pair, loads and busiest answer, from their contracts' own equations where the number is 0: pair counts the complete list,
+-- loads leaves each station's pairs and load, and busiest gives the busiest station. Assumes nothing.
 use Prim.Native.Nat.{ℕ, _<_}
 use native.Mathlib.Omega.{arith}
-use mathlib.Core.Path.{_≡_, refl, sym, ap, _∙_}
+use mathlib.Core.Path.{_≡_, refl, sym, ap, subst, _∙_}
 use mathlib.Core.Logic.{⊎-elim}
 use mathlib.Core.List.{List}
 use lib.ListN.{getD}
 use Rattle.temporal.specs.Shortest.{hops, through}
-use Rattle.temporal.specs.Load.{pairs, load}
+use Rattle.temporal.specs.Load.{pairs, load, busiestOf, Busiest}
 use Rattle.temporal.specs.Bytes.{planOf}
-use Rattle.temporal.specs.Cause.{tooMany, tooManyAnywhere}
+use Rattle.temporal.specs.Cause.{planCauses, planFault, tooMany, tooManyAnywhere}
 use Rattle.temporal.specs.Outcome.{Outcome}
-use Rattle.temporal.specs.OutcomePair.{PairValues, PairBuffers, paired, pair, LoadBuffers, loaded, loads}
+use Rattle.temporal.specs.OutcomePair.{PairValues, PairBuffers, paired, pair, LoadBuffers, loaded, loads, compared, busiest}
 use Rattle.temporal.specs.FirstNext.{Question, listOf}
+use Rattle.temporal.proofs.Accepted.{accepted}
 use Rattle.temporal.proofs.BufferLaws.{written}
-use Rattle.temporal.proofs.EnteredLaws.{no-cause}
+use Rattle.temporal.proofs.BusiestLaws.{busiest-is}
+use Rattle.temporal.proofs.CauseLaws.{first-append-left}
+use Rattle.temporal.proofs.EnteredLaws.{no-first, no-cause}
 use Rattle.temporal.proofs.ListLaws.{true-or-false}
 use Rattle.counting.proofs.ExactSum.{within-exact-sum}
 use Rattle.pair.specs.Answer.{pairValues}
+use Rattle.loads.specs.Answer.{busiestStation}
 use Rattle.pair.specs.declared.PairAnswer.{PairAnswer}
-use Rattle.demands.specs.PairLoads.{CountedByPair, PairDemand, Loaded, LoadsDemand}
+use Rattle.demands.specs.PairLoads.{CountedByPair, PairDemand, Loaded, LoadsDemand, BusiestDemand}
 
 module _ (q : Question) (old : PairBuffers) (r : PairAnswer) (new : PairBuffers) where
   -- pair's work without cause 9 counts the complete list
@@ -75,3 +79,26 @@ pub loads-demand : LoadsDemand
 unfolding loads
 loads-demand bs n t old r new a =
     loads-summed bs n t old new (no-cause _ tt tt old new _ (rw (a .accepted) at (a .contract)))
+
+module _ (bs : List ℕ) (n t : ℕ) (old new : List ℕ) (v : ℕ) where
+  -- busiest's work without cause 9 gives the busiest station
+  station-compared :
+      _≡_ {A = Outcome ℕ (List ℕ)} (record { number = 0; values = v; buffers = new }) (compared (planOf bs n t) old) →
+      v ≡ busiestOf (planOf bs n t)
+  unfolding compared
+  station-compared e =
+      ⊎-elim
+      (λ many. absurd (let z : _≡_ {A = ℕ} 0 9 = ap (λ o. o .number) (rw many at e) in omega arith))
+      (λ few. ap (λ o. o .values) (rw few at e))
+      (true-or-false (tooManyAnywhere (planOf bs n t)))
+
+-- Busiest: where it is accepted, its work was done, and an accepted plan has a station.
+pub busiest-demand : BusiestDemand
+unfolding busiest planFault planOf
+busiest-demand bs n t old new r e z =
+    let here = rw z at e in
+    let ok : planFault bs n t ≡ 0 =
+    first-append-left (planCauses bs n t) _ (no-first _ 0 (busiestStation r) old new _ here) in
+    subst (λ v. Busiest (planOf bs n t) v)
+    (sym (station-compared bs n t old new (busiestStation r) (no-cause _ 0 (busiestStation r) old new _ here)))
+    (busiest-is (planOf bs n t) (accepted bs n t ok .some-station))

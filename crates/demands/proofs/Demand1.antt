@@ -10,14 +10,12 @@ use lib.ListN.{length, take, drop, length-take, length-drop}
 use Rattle.temporal.specs.Bytes.{planOf}
 use Rattle.temporal.specs.Cause.{cause, first, planFault, planCauses, tooMany, tooManyAnywhere}
 use Rattle.temporal.specs.Outcome.{cleared, workSize, ReachTables, reached, reach, rowNumber, row}
-use Rattle.temporal.specs.OutcomePair.{PairBuffers, paired, pair, LoadBuffers, loaded, loads, busiest, BusiestGiven}
+use Rattle.temporal.specs.OutcomePair.{PairBuffers, paired, pair, LoadBuffers, loaded, loads, compared, busiest}
 use Rattle.plan.specs.Fault.{checkNumber}
 use Rattle.plan.specs.declared.CheckAnswer.{CheckAnswer}
 use Rattle.plan.specs.declared.CheckAnswer.the-variants as check-answer
 use Rattle.plan.proofs.Answers.{number-positive}
 use Rattle.rows.proofs.RowLaws.{row-refused, row-part, row-within, row-end}
-use Rattle.loads.specs.Answer.{BusiestIs, busiestNumber, busiestStation}
-use Rattle.loads.specs.declared.BusiestAnswer.{BusiestAnswer}
 use Rattle.listing.specs.Answer.{question}
 use Rattle.demands.specs.Causes.{
   reachCauses,
@@ -32,7 +30,7 @@ use Rattle.demands.specs.Causes.{
   nextWayCauses,
   wayEmptied,
 }
-use Rattle.demands.specs.Demand1.{Judged, CheckJudged, RowJudged, busiestResult, Demand1}
+use Rattle.demands.specs.Demand1.{Judged, CheckJudged, RowJudged, Demand1}
 use Rattle.demands.proofs.LimitLaws.{within-limits}
 use Rattle.demands.proofs.JudgedLaws.{
   numbered,
@@ -114,41 +112,14 @@ loads-judged bs n t old =
     (judged-entered tt old (loadsEmptied n t old) _ _ _ (plain-short bs n t _)
     (judged-work tt old (loadsEmptied n t old) (tooManyAnywhere (planOf bs n t)) _ refl))
 
--- busiest's work: the buffer is emptied in either case
-busiest-work : (many : Bool) (old emptied : List ℕ)
-    → Judged {Values = Unit {0}} (cause 9 many ∷ []) tt old emptied
-    (record { number = cause 9 many; values = tt; buffers = emptied })
-unfolding cause first
-busiest-work true old emptied = judged-too-many tt old emptied (9 ∷ []) refl
-busiest-work false old emptied = judged-accepted tt old emptied (0 ∷ []) _ refl refl
-
 busiest-judged : (bs : List ℕ) (n t : ℕ) (old : List ℕ)
-    → Judged (busiestCauses bs n t old) tt old (cleared (workSize n t) old) (busiest bs n t old)
-unfolding busiest busiestCauses
+    → Judged (busiestCauses bs n t old) 0 old (cleared (workSize n t) old) (busiest bs n t old)
+unfolding busiest compared busiestCauses planOf
 busiest-judged bs n t old =
-    subst (λ l. Judged l tt old (cleared (workSize n t) old) (busiest bs n t old))
+    subst (λ l. Judged l 0 old (cleared (workSize n t) old) (busiest bs n t old))
     (append-assoc (planCauses bs n t) (_ ∷ []) (_ ∷ []))
-    (judged-entered tt old (cleared (workSize n t) old) _ _ _ (plain-short bs n t _)
-    (busiest-work (tooManyAnywhere (planOf bs n t)) old (cleared (workSize n t) old)))
-
--- beside a refusal the station is 0
-station-zero : (bs : List ℕ) (n t k v : ℕ) → BusiestGiven bs n t k v → k ≢ 0 → v ≡ 0
-unfolding BusiestGiven
-station-zero bs n t zero v given h = absurd (h refl)
-station-zero bs n t (suc k) v given h = given
-
-busiest-given : (bs : List ℕ) (n t : ℕ) (old x : List ℕ) (r : BusiestAnswer) → BusiestIs bs n t old x r
-    → Judged (busiestCauses bs n t old) 0 old (cleared (workSize n t) old) (busiestResult r x)
-busiest-given bs n t old x r is =
-    let j = subst (Judged (busiestCauses bs n t old) tt old (cleared (workSize n t) old)) (sym (is .outcome))
-    (busiest-judged bs n t old) in
-    record {
-      numbered = j .numbered;
-      beside = station-zero bs n t (busiestNumber r) (busiestStation r) (is .station);
-      untouched = j .untouched;
-      too-many = j .too-many;
-      unoffered = j .unoffered;
-    }
+    (judged-entered 0 old (cleared (workSize n t) old) _ _ _ (plain-short bs n t _)
+    (judged-work 0 old (cleared (workSize n t) old) (tooManyAnywhere (planOf bs n t)) _ refl))
 
 -- ---- the theorem
 
@@ -165,7 +136,8 @@ demand1 =
           (pair-judged bs n t s z old);
       of-loads = λ bs n t old x r e.
           subst (Judged (loadsCauses bs n t old) tt old (loadsEmptied n t old)) (sym e) (loads-judged bs n t old);
-      of-busiest = busiest-given;
+      of-busiest = λ bs n t old x r e.
+          subst (Judged (busiestCauses bs n t old) 0 old (cleared (workSize n t) old)) (sym e) (busiest-judged bs n t old);
       of-first-way = λ bs n t s z old x r e.
           subst (Judged (firstWayCauses (question bs n t s z) old) 0 old (wayEmptied n t old)) (sym (ap outcomeOf e))
           (first-way-judged (question bs n t s z) old);

@@ -3,7 +3,7 @@
 use Rattle.trace.proofs.TraceFollows.{every-trace-follows}
 use Rattle.trace.proofs.TraceGives.{every-trace-gives}
 use Rattle.demands.specs.Demand3.{Demand3}
-use Rattle.demands.proofs.CountLaws.{pair-demand, loads-demand}
+use Rattle.demands.proofs.CountLaws.{pair-demand, loads-demand, busiest-demand}
 use Rattle.demands.proofs.AccountLaws.{every-way-accounted}
 use Rattle.demands.proofs.TracedLaws.{every-listing-traced}
 use Rattle.demands.proofs.TenLaws.{ten-where-not-offered}
@@ -16,6 +16,7 @@ demand3 =
       accounted = every-way-accounted;
       pair = pair-demand;
       loads = loads-demand;
+      busiest = busiest-demand;
       traced = every-listing-traced;
       ten = ten-where-not-offered;
     }

@@ -9,7 +9,7 @@ use mathlib.Core.List.{List, [], _∷_}
 use denote.Ref.{RefT}
 use Rattle.temporal.specs.Cause.{first, planCauses, planFault}
 use Rattle.temporal.specs.Outcome.{Outcome, cleared, workSize, ReachTables, reach, rowNumber}
-use Rattle.temporal.specs.OutcomePair.{PairBuffers, pair, LoadBuffers, loads}
+use Rattle.temporal.specs.OutcomePair.{PairBuffers, pair, LoadBuffers, loads, busiest}
 use Rattle.temporal.specs.Cursor.{Reply, path, no-path, last-path, refused, first-way, next-way}
 use Rattle.temporal.specs.FirstNext.{WayContract}
 use Rattle.plan.specs.Fault.{checkNumber}
@@ -19,7 +19,7 @@ use Rattle.rows.specs.Part.{RowPart}
 use Rattle.reach.specs.Answer.{reachOutcome}
 use Rattle.reach.specs.declared.ReachAnswer.{ReachAnswer}
 use Rattle.pair.specs.Answer.{pairOutcome}
-use Rattle.loads.specs.Answer.{loadsOutcome, busiestNumber, busiestStation, BusiestIs}
+use Rattle.loads.specs.Answer.{loadsOutcome, busiestOutcome}
 use Rattle.pair.specs.declared.PairAnswer.{PairAnswer}
 use Rattle.loads.specs.declared.LoadsAnswer.{LoadsAnswer}
 use Rattle.loads.specs.declared.BusiestAnswer.{BusiestAnswer}
@@ -92,10 +92,6 @@ replyHops (refused k) = 0
 abbrev pub wayResult : WayAnswer → WayBuffers → Outcome ℕ WayBuffers
 wayResult r b = record { number = replyNumber (replyOf r); values = replyHops (replyOf r); buffers = b }
 
--- what busiest answers, with the work area at exit
-abbrev pub busiestResult : BusiestAnswer → List ℕ → Outcome ℕ (List ℕ)
-busiestResult r work = record { number = busiestNumber r; values = busiestStation r; buffers = work }
-
 -- Demand 1, operation by operation, of every call: r the answer, old and x the lent buffers at entry and at exit.
 pub record Demand1 : Type 0 where
   pub limits : (bs : List ℕ) (n t : ℕ) → (planFault bs n t ≡ 0) ↔ WithinLimits bs n t
@@ -108,8 +104,8 @@ pub record Demand1 : Type 0 where
       → Judged (pairAllCauses bs n t s z old) (record { hops = 0; count = 0 }) old (pairEmptied n t old) (pairOutcome r x)
   pub of-loads : (bs : List ℕ) (n t : ℕ) (old x : LoadBuffers) (r : LoadsAnswer) → loadsOutcome r x ≡ loads bs n t old
       → Judged (loadsCauses bs n t old) tt old (loadsEmptied n t old) (loadsOutcome r x)
-  pub of-busiest : (bs : List ℕ) (n t : ℕ) (old x : List ℕ) (r : BusiestAnswer) → BusiestIs bs n t old x r
-      → Judged (busiestCauses bs n t old) 0 old (cleared (workSize n t) old) (busiestResult r x)
+  pub of-busiest : (bs : List ℕ) (n t : ℕ) (old x : List ℕ) (r : BusiestAnswer) → busiestOutcome r x ≡ busiest bs n t old
+      → Judged (busiestCauses bs n t old) 0 old (cleared (workSize n t) old) (busiestOutcome r x)
   pub of-first-way : (bs : List ℕ) (n t s z : ℕ) (old x : WayBuffers) (r : WayAnswer)
       → WayContract first-way (question bs n t s z) (old .way) (old .work) (replyOf r) (x .way) (x .work)
       → Judged (firstWayCauses (question bs n t s z) old) 0 old (wayEmptied n t old) (wayResult r x)

@@ -16,7 +16,7 @@ use Rattle.temporal.specs.Trace.{causeOf, Event, called, wrote, Asked, EveryTra
 use Rattle.temporal.specs.TraceGiven.{given, FromFirstWay, EveryTraceGives}
 use Rattle.pair.specs.declared.PairAnswer.{PairAnswer}
 use Rattle.demands.specs.Listing.{EveryListingTraced}
-use Rattle.demands.specs.PairLoads.{PairAccepts, CountedByPair, PairDemand, LoadsDemand}
+use Rattle.demands.specs.PairLoads.{PairAccepts, CountedByPair, PairDemand, LoadsDemand, BusiestDemand}
 
 -- whether an event says that there is no further way: "none" or "last"
 unfoldable pub saysEnd : Event → Bool
@@ -56,9 +56,10 @@ pub record Demand3 : Type 0 where
   pub gives : EveryTraceGives
   -- where they came to the end, they are as many as pair counts
   pub accounted : EveryWayAccounted
-  -- pair and loads count what the definitions say
+  -- pair and loads count what the definitions say, and busiest compares the loads
   pub pair : PairDemand
   pub loads : LoadsDemand
+  pub busiest : BusiestDemand
   -- there are traces: every listing, with any buffers, has one
   pub traced : EveryListingTraced
   -- 10 is what document 01 says

@@ -1,4 +1,4 @@
--- What demand 3 says of pair and of loads. Definitions only.
+-- What demand 3 says of pair, of loads and of busiest. Definitions only.
 -- Assumes nothing.
 use Prim.Native.Nat.{ℕ, _<_}
 use mathlib.Core.Path.{_≡_}
@@ -7,14 +7,15 @@ use lib.ListN.{length, getD}
 use Rattle.temporal.specs.Lists.{select}
 use Rattle.temporal.specs.Walk.{isInterior}
 use Rattle.temporal.specs.Shortest.{hops}
-use Rattle.temporal.specs.Load.{pairs, load, WithinExactSum}
+use Rattle.temporal.specs.Load.{pairs, load, WithinExactSum, Busiest}
 use Rattle.temporal.specs.Bytes.{planOf}
-use Rattle.temporal.specs.OutcomePair.{PairBuffers, pair, LoadBuffers, loads}
+use Rattle.temporal.specs.OutcomePair.{PairBuffers, pair, LoadBuffers, loads, busiest}
 use Rattle.temporal.specs.FirstNext.{Question, listOf}
 use Rattle.pair.specs.Answer.{pairNumber, pairValues, pairOutcome}
-use Rattle.loads.specs.Answer.{loadsNumber, loadsOutcome}
+use Rattle.loads.specs.Answer.{loadsNumber, loadsOutcome, busiestNumber, busiestStation, busiestOutcome}
 use Rattle.pair.specs.declared.PairAnswer.{PairAnswer}
 use Rattle.loads.specs.declared.LoadsAnswer.{LoadsAnswer}
+use Rattle.loads.specs.declared.BusiestAnswer.{BusiestAnswer}
 
 -- Pair accepted the question: its ensures holds of the answer and the buffers before and after, and the number is 0.
 pub record PairAccepts (q : Question) (old : PairBuffers) (r : PairAnswer) (new : PairBuffers) : Type 0 where
@@ -51,3 +52,10 @@ abbrev pub LoadsDemand : Type 0
 LoadsDemand =
     (bs : List ℕ) (n t : ℕ) (old : LoadBuffers) (r : LoadsAnswer) (new : LoadBuffers) → LoadsAccepts bs n t old r new →
     (v : ℕ) → v < n → Loaded bs n t new v
+
+-- Busiest: where its ensures holds and the number is 0, the station is one of the n, no other's load exceeds its load, and every
+-- lower-numbered one's is smaller.
+abbrev pub BusiestDemand : Type 0
+BusiestDemand =
+    (bs : List ℕ) (n t : ℕ) (old new : List ℕ) (r : BusiestAnswer) → busiestOutcome r new ≡ busiest bs n t old →
+    busiestNumber r ≡ 0 → Busiest (planOf bs n t) (busiestStation r)

@@ -6,7 +6,7 @@ use mathlib.Core.List.{List}
 use lib.ListN.{take, drop}
 use Rattle.temporal.specs.Cause.{unless}
 use Rattle.temporal.specs.Outcome.{Outcome, rowNumber, row}
-use Rattle.temporal.specs.OutcomePair.{PairValues, PairBuffers, busiest, BusiestGiven}
+use Rattle.temporal.specs.OutcomePair.{PairValues, PairBuffers}
 
 -- a number with the lent buffers at exit
 abbrev pub answered : {Buffers : Type 0} → ℕ → Buffers → Outcome (Unit {0}) Buffers
@@ -23,8 +23,6 @@ pub record RowGiven (n t v : ℕ) (table : List ℕ) (r offset size : ℕ) : Typ
   pub entries : size ≡ unless (rowNumber n t v table) (λ _. 0) (t + 1)
   pub part : take size (drop offset table) ≡ row n t v table
 
--- The number and the work area at exit are those of document 01; the station's slot holds one that is busiest, whichever,
--- and 0 on refusal.
-pub record BusiestSlot (bs : List ℕ) (n t : ℕ) (work after : List ℕ) (r v : ℕ) : Type 0 where
-  pub outcome : answered r after ≡ busiest bs n t work
-  pub station : BusiestGiven bs n t r v
+-- a number with busiest's slot and the work area at exit
+abbrev pub busiestGiven : ℕ → ℕ → List ℕ → Outcome ℕ (List ℕ)
+busiestGiven r station work = record { number = r; values = station; buffers = work }

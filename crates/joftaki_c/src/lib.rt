@@ -3,7 +3,7 @@
 ghost use mathlib.Core.Path.{_≡_};
 ghost use Rattle.temporal.specs.Cause.{planFault};
 ghost use Rattle.temporal.specs.Outcome.{reach, rowNumber};
-ghost use Rattle.temporal.specs.OutcomePair.{pair, loads};
+ghost use Rattle.temporal.specs.OutcomePair.{pair, loads, busiest};
 ghost use Rattle.temporal.specs.Cursor.{first-way, next-way};
 ghost use Rattle.temporal.specs.FirstNext.{wayAnswer};
 ghost use Rattle.plan.specs.Fault.{faultNumber};
@@ -11,7 +11,7 @@ ghost use Rattle.reach.specs.Pass.{lentTables};
 ghost use Rattle.pair.specs.Answer.{pairBuffers};
 ghost use Rattle.loads.specs.Answer.{loadBuffers};
 ghost use Rattle.listing.specs.Answer.{replyOf, question};
-ghost use Rattle.joftaki_c.specs.Slots.{answered, pairGiven, RowGiven, BusiestSlot};
+ghost use Rattle.joftaki_c.specs.Slots.{answered, pairGiven, RowGiven, busiestGiven};
 ghost use Rattle.joftaki_c.specs.Code.{replyCode, replyHops, wayGiven, wayExit};
 use listing::WayAnswer;
 use loads::BusiestAnswer;
@@ -142,7 +142,7 @@ pub extern "C" fn joftaki_busiest(
     station: &mut usize,
     work: &mut [u64],
 ) -> u32
-    ensures { λ r. ⌜ BusiestSlot (now (plan .entry)) n t (now (work .entry)) (now (work .exit)) r (now (station .exit)) ⌝ }
+    ensures { λ r. ⌜ busiestGiven r (now (station .exit)) (now (work .exit)) ≡ busiest (now (plan .entry)) n t (now (work .entry)) ⌝ }
 {
     match loads::busiest(plan, n, t, work) {
         BusiestAnswer::Station(v) => {

@@ -3,18 +3,18 @@ use Prim.Native.Nat.{ℕ, _+_, _<_, _≤_}
 use native.Mathlib.Omega.{arith}
 use native.Mathlib.Decide.{decLt, ℕ-discrete}
 use borrow.Author.Tests.{lt-ltb, le-ltb}
-use mathlib.Core.Path.{_≡_, refl, sym, ap, subst, _∙_}
+use mathlib.Core.Path.{_≡_}
 use mathlib.Core.Logic.{by-cases}
 use mathlib.Core.List.{List}
-use lib.ListN.{length, getD, set, drop, length-set}
-use lib.Seq.{getD-set-same, getD-set-other, drop-set-lt}
+use lib.ListN.{getD}
 use Rattle.loads.specs.Largest.{betterOf, Largest}
 
--- best is the place of the largest of the first u entries
+-- best is the lowest place of the largest of the first u entries
 pub record Best (l : List ℕ) (from k best u : ℕ) : Type 0 where
   pub few : u ≤ k
   pub within : best < u
   pub largest : (v : ℕ) → v < u → getD l (from + v) 0 ≤ getD l (from + best) 0
+  pub lowest : (v : ℕ) → v < best → getD l (from + v) 0 < getD l (from + best) 0
 
 module _ (l : List ℕ) (from k : ℕ) where
   pub best-first : 0 < k → Best l from k 0 1
@@ -23,6 +23,7 @@ module _ (l : List ℕ) (from k : ℕ) where
         few = omega arith;
         within = omega arith;
         largest = λ v g. let q : v ≡ 0 = omega arith in rw q (omega arith);
+        lowest = λ v g. absurd (omega arith);
       }
 
   pub best-kept :
@@ -33,6 +34,7 @@ module _ (l : List ℕ) (from k : ℕ) where
         few = omega arith;
         within = omega arith;
         largest = λ v g. by-cases (ℕ-discrete v u) (λ q. rw q less) (λ ne. b .largest v (omega arith));
+        lowest = b .lowest;
       }
 
   pub best-new :
@@ -44,6 +46,7 @@ module _ (l : List ℕ) (from k : ℕ) where
         largest = λ v g.
             by-cases (ℕ-discrete v u) (λ q. rw q (omega arith))
             (λ ne. let less = b .largest v (omega arith) in omega arith);
+        lowest = λ v g. let less = b .largest v g in omega arith;
       }
 
   pub better-new : (best u : ℕ) → getD l (from + best) 0 < getD l (from + u) 0 → betterOf l from best u ≡ u
@@ -65,4 +68,4 @@ module _ (l : List ℕ) (from k : ℕ) where
   best-all best u h b =
       let f = b .few in
       let w = b .within in
-      record { within = omega arith; largest = λ v g. b .largest v (omega arith) }
+      record { within = omega arith; largest = λ v g. b .largest v (omega arith); lowest = b .lowest }

@@ -1,7 +1,7 @@
 -- Loads and busiest as document 01 has them, from what the tally leaves. Assumes nothing.
-use Prim.Native.Nat.{ℕ, zero, suc, _+_, _*_, _<_, _≤_}
+use Prim.Native.Nat.{ℕ, _+_, _<_, _≤_}
 use native.Mathlib.Omega.{arith}
-use mathlib.Core.Path.{_≡_, refl, sym, ap, subst, _∙_}
+use mathlib.Core.Path.{_≡_, sym, ap, ap₂, _∙_}
 use mathlib.Core.Bool.{Bool, true, false, cond, _||_}
 use mathlib.Core.List.{List, [], _∷_, map}
 use borrow.Author.Tests.{lt-ltb, le-ltb}
@@ -9,10 +9,11 @@ use lib.ListN.{length, getD, drop, replicate}
 use Rattle.temporal.specs.Lists.{below}
 use Rattle.temporal.specs.Load.{pairs, load, Busiest}
 use Rattle.temporal.specs.Bytes.{planOf}
-use Rattle.temporal.specs.Cause.{cause, planFault, tooManyAnywhere}
+use Rattle.temporal.specs.Cause.{planFault, tooManyAnywhere}
 use Rattle.temporal.specs.Outcome.{Outcome, over, cleared, short, workSize}
-use Rattle.temporal.specs.OutcomePair.{LoadBuffers, loaded, loads, busiest, BusiestGiven}
+use Rattle.temporal.specs.OutcomePair.{LoadBuffers, loaded, loads, compared, busiest}
 use Rattle.temporal.proofs.Accepted.{accepted}
+use Rattle.temporal.proofs.BusiestLaws.{busiest-unique}
 use Rattle.temporal.proofs.BufferLaws.{over-by, fill-beyond, getD-made, length-made}
 use Rattle.temporal.proofs.EnteredLaws.{
   refusedWith,
@@ -132,83 +133,65 @@ tally-room bs n t base size ok e fits =
 
 -- ---- busiest
 
--- beside a number that is not 0 station 0 is given
-pub given-refused : (bs : List ℕ) (n t k : ℕ) → 0 < k → BusiestGiven bs n t k 0
-unfolding BusiestGiven
-given-refused bs n t zero h = absurd (omega arith)
-given-refused bs n t (suc k) h = refl
-
--- beside 0 one that is busiest
-pub given-busiest : (bs : List ℕ) (n t v : ℕ) → Busiest (planOf bs n t) v → BusiestGiven bs n t 0 v
-unfolding BusiestGiven
-given-busiest bs n t v b = b
-
 module _ (bs : List ℕ) (n t : ℕ) (area : List ℕ) where
   pub busiest-plan :
       (r : CheckAnswer) (f : PlanFault) → checkNumber r ≡ planFault bs n t → r ≡ check-answer.Refused f →
-      _≡_ {A = Outcome (Unit {0}) (List ℕ)} (record { number = planNumber f; values = tt; buffers = area })
-      (busiest bs n t area)
+      _≡_ {A = Outcome ℕ (List ℕ)} (record { number = planNumber f; values = 0; buffers = area }) (busiest bs n t area)
   unfolding busiest
   busiest-plan r f answer e =
       let number : planNumber f ≡ planFault bs n t = ap checkNumber (sym e) ∙ answer in
       let some = number-positive f in
-      ap (λ k. record { number = k; values = tt; buffers = area }) number ∙
-      sym (entered-plan tt area _ bs n t _ (omega arith))
-
-  pub busiest-plan-given :
-      (r : CheckAnswer) (f : PlanFault) → r ≡ check-answer.Refused f → BusiestGiven bs n t (planNumber f) 0
-  busiest-plan-given r f e = given-refused bs n t (planNumber f) (number-positive f)
+      ap (refusedWith 0 area (compared (planOf bs n t) area)) number ∙
+      sym (entered-plan 0 area (compared (planOf bs n t) area) bs n t _ (omega arith))
 
   module _ (ok : planFault bs n t ≡ 0) where
     pub busiest-short :
         length area < workSize n t →
-        _≡_ {A = Outcome (Unit {0}) (List ℕ)} (record { number = 8; values = tt; buffers = area }) (busiest bs n t area)
+        _≡_ {A = Outcome ℕ (List ℕ)} (record { number = 8; values = 0; buffers = area }) (busiest bs n t area)
     unfolding busiest
     busiest-short h =
-        sym (entered-call tt area _ bs n t _ ok ∙ entered-cause tt area _ 7 _ [] (lt-ltb (length area) (workSize n t) h))
+        sym (entered-call 0 area _ bs n t _ ok ∙ entered-cause 0 area _ 7 _ [] (lt-ltb (length area) (workSize n t) h))
 
-    module _ (room : workSize n t ≤ length area) (area′ : List ℕ) (r : Bool) (f : Tallied bs n t area area′ r)
-        (area″ : List ℕ) (c : area″ ≡ over (replicate (workSize n t) 0) area′) where
-      works :
-          busiest bs n t area ≡
-          record { number = cause 9 (tooManyAnywhere (planOf bs n t)); values = tt; buffers = cleared (workSize n t) area }
-      unfolding busiest
-      works =
-          entered-call tt area _ bs n t _ ok ∙
-          entered-pass tt area _ 8 _ [] (le-ltb (length area) (workSize n t) room) ∙ entered-work tt area _
+    pub busiest-works : workSize n t ≤ length area → busiest bs n t area ≡ compared (planOf bs n t) area
+    unfolding busiest
+    busiest-works h =
+        entered-call 0 area _ bs n t _ ok ∙
+        entered-pass 0 area _ 8 _ [] (le-ltb (length area) (workSize n t) h) ∙ entered-work 0 area _
 
-      same : area″ ≡ cleared (workSize n t) area
-      unfolding cleared
-      same = c ∙ fill-beyond (workSize n t) 0 area′ area (f .beyond)
+  module _ (area′ : List ℕ) (r : Bool) (f : Tallied bs n t area area′ r) (area″ : List ℕ)
+      (c : area″ ≡ over (replicate (workSize n t) 0) area′) where
+    same : area″ ≡ cleared (workSize n t) area
+    unfolding cleared
+    same = c ∙ fill-beyond (workSize n t) 0 area′ area (f .beyond)
 
-      -- too many
-      pub busiest-refused :
-          r ≡ true →
-          _≡_ {A = Outcome (Unit {0}) (List ℕ)} (record { number = 9; values = tt; buffers = area″ }) (busiest bs n t area)
-      unfolding cause
-      busiest-refused e =
-          let many = sym (f .too-many) ∙ e in
-          rw (works, many) (ap (λ l. record { number = 9; values = tt; buffers = l }) same)
+    -- too many
+    pub compared-refused :
+        r ≡ true →
+        _≡_ {A = Outcome ℕ (List ℕ)} (record { number = 9; values = 0; buffers = area″ }) (compared (planOf bs n t) area)
+    unfolding compared planOf
+    compared-refused e =
+        let many = sym (f .too-many) ∙ e in
+        rw many (ap (λ l. record { number = 9; values = 0; buffers = l }) same)
 
-      -- a station is given
-      pub busiest-found :
-          r ≡ false →
-          _≡_ {A = Outcome (Unit {0}) (List ℕ)} (record { number = 0; values = tt; buffers = area″ }) (busiest bs n t area)
-      unfolding cause
-      busiest-found e =
-          let few = sym (f .too-many) ∙ e in
-          rw (works, few) (ap (λ l. record { number = 0; values = tt; buffers = l }) same)
+    -- the lowest station with the largest load
+    pub compared-found :
+        r ≡ false → (base v : ℕ) → base ≡ tallyBase n t → Largest area′ (base + n) n v →
+        _≡_ {A = Outcome ℕ (List ℕ)} (record { number = 0; values = v; buffers = area″ }) (compared (planOf bs n t) area)
+    unfolding compared planOf
+    compared-found e base v at l =
+        let few = sym (f .too-many) ∙ e in
+        rw few
+        (ap₂ (λ u w. record { number = 0; values = u; buffers = w }) (sym (busiest-unique (planOf bs n t) v found)) same)
+      where
+        there : (u : ℕ) → u < n → getD area′ (base + n + u) 0 ≡ load (planOf bs n t) u
+        there u h = ap (λ i. getD area′ (i + n + u) 0) at ∙ f .station-loads e u h
 
-      -- the one with the largest load
-      pub busiest-largest :
-          r ≡ false → (v : ℕ) → Largest area′ (tallyBase n t + n) n v → Busiest (planOf bs n t) v
-      unfolding planOf
-      busiest-largest e v l =
-          record {
-            station = l .within;
-            largest = λ u h.
-                let a = f .station-loads e u h in
-                let b = f .station-loads e v (l .within) in
-                let more = l .largest u h in
-                omega arith;
-          }
+        found : Busiest (planOf bs n t) v
+        found =
+            record {
+              station = l .within;
+              largest = λ u h. omega (arith, there u h, there v (l .within), l .largest u h);
+              lowest = λ u h.
+                  let inside = l .within in
+                  omega (arith, there u (omega arith), there v (l .within), l .lowest u h);
+            }

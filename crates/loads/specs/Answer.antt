@@ -1,10 +1,9 @@
 -- What loads and busiest answer, in document 01's numbers and values. Definitions only.
 -- Assumes nothing.
 use Prim.Native.Nat.{ℕ}
-use mathlib.Core.Path.{_≡_}
 use mathlib.Core.List.{List}
 use Rattle.temporal.specs.Outcome.{Outcome}
-use Rattle.temporal.specs.OutcomePair.{LoadBuffers, busiest, BusiestGiven}
+use Rattle.temporal.specs.OutcomePair.{LoadBuffers}
 use Rattle.plan.specs.Fault.{faultNumber}
 use Rattle.loads.specs.declared.LoadsAnswer.{LoadsAnswer}
 use Rattle.loads.specs.declared.LoadsAnswer.the-variants as loads-answer
@@ -31,9 +30,6 @@ abbrev pub busiestStation : BusiestAnswer → ℕ
 busiestStation (busiest-answer.Station v) = v
 busiestStation (busiest-answer.Refused f) = 0
 
--- The number and the work area at exit are those of document 01; the station given is one that is busiest, whichever.
-pub record BusiestIs (bs : List ℕ) (n t : ℕ) (work after : List ℕ) (r : BusiestAnswer) : Type 0 where
-  pub outcome :
-      _≡_ {A = Outcome (Unit {0}) (List ℕ)} (record { number = busiestNumber r; values = tt; buffers = after })
-      (busiest bs n t work)
-  pub station : BusiestGiven bs n t (busiestNumber r) (busiestStation r)
+-- the answer with the work area at exit
+abbrev pub busiestOutcome : BusiestAnswer → List ℕ → Outcome ℕ (List ℕ)
+busiestOutcome r work = record { number = busiestNumber r; values = busiestStation r; buffers = work }

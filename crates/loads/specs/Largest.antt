@@ -13,10 +13,11 @@ use Rattle.temporal.specs.Outcome.{workSize}
 unfoldable pub betterOf : List ℕ → ℕ → ℕ → ℕ → ℕ
 betterOf l from best u = cond (ltb (getD l (from + best) 0) (getD l (from + u) 0)) u best
 
--- r is one of the k places from a place on, and no other holds a larger number
+-- r is the lowest of the k places from a place on that hold the largest number
 pub record Largest (l : List ℕ) (from k r : ℕ) : Type 0 where
   pub within : r < k
   pub largest : (u : ℕ) → u < k → getD l (from + u) 0 ≤ getD l (from + r) 0
+  pub lowest : (u : ℕ) → u < r → getD l (from + u) 0 < getD l (from + r) 0
 
 -- what loads asks once 1 to 8 are excluded
 pub record LoadsReady (bs : List ℕ) (n t : ℕ) (pairTable loadTable work : List ℕ) : Type 0 where

@@ -4,8 +4,8 @@ ghost use Prim.Native.Nat.{_+_, _<_, _≤_};
 ghost use lib.ListN.{length};
 ghost use Rattle.temporal.specs.Bytes.{planOf};
 ghost use Rattle.temporal.specs.Cause.{planFault};
-ghost use Rattle.temporal.specs.OutcomePair.{loaded, loads};
-ghost use Rattle.loads.specs.Answer.{loadsOutcome, loadBuffers, BusiestIs};
+ghost use Rattle.temporal.specs.OutcomePair.{loaded, loads, compared, busiest};
+ghost use Rattle.loads.specs.Answer.{loadsOutcome, loadBuffers, busiestOutcome};
 ghost use Rattle.loads.specs.Largest.{betterOf, Largest, LoadsReady, BusiestReady};
 use plan::CallFault;
 use plan::CheckAnswer;
@@ -119,7 +119,7 @@ pub fn loads(
 // Busiest once 1 to 8 are excluded.
 fn busiest_work(work: &mut [u64], plan: &[u8], n: usize, t: usize) -> BusiestAnswer
     requires { ⌜ BusiestReady (now plan) n t (now work) ⌝ }
-    ensures { λ r. ⌜ BusiestIs (now (plan .entry)) n t (now (work .entry)) (now (work .exit)) r ⌝ }
+    ensures { λ r. ⌜ busiestOutcome r (now (work .exit)) ≡ compared (planOf (now (plan .entry)) n t) (now (work .entry)) ⌝ }
 {
     if tallies::tally(work, plan, n, t) {
         memory::clear(work, 4 * (n * (t + 1)));
@@ -134,7 +134,7 @@ fn busiest_work(work: &mut [u64], plan: &[u8], n: usize, t: usize) -> BusiestAns
 // Busiest on an accepted plan: 8, then the work.
 fn busiest_accepted(work: &mut [u64], plan: &[u8], n: usize, t: usize) -> BusiestAnswer
     requires { ⌜ planFault (now plan) n t ≡ 0 ⌝ }
-    ensures { λ r. ⌜ BusiestIs (now (plan .entry)) n t (now (work .entry)) (now (work .exit)) r ⌝ }
+    ensures { λ r. ⌜ busiestOutcome r (now (work .exit)) ≡ busiest (now (plan .entry)) n t (now (work .entry)) ⌝ }
 {
     if work.len() < 4 * (n * (t + 1)) {
         return BusiestAnswer::Refused(Fault::Call(CallFault::Short));
@@ -142,9 +142,9 @@ fn busiest_accepted(work: &mut [u64], plan: &[u8], n: usize, t: usize) -> Busies
     busiest_work(work, plan, n, t)
 }
 
-// Operation 6, busiest: a station whose load no other exceeds.
+// Operation 6, busiest: the lowest-numbered station whose load no other exceeds.
 pub fn busiest(plan: &[u8], n: usize, t: usize, work: &mut [u64]) -> BusiestAnswer
-    ensures { λ r. ⌜ BusiestIs (now (plan .entry)) n t (now (work .entry)) (now (work .exit)) r ⌝ }
+    ensures { λ r. ⌜ busiestOutcome r (now (work .exit)) ≡ busiest (now (plan .entry)) n t (now (work .entry)) ⌝ }
 {
     let CheckAnswer::Refused(fault) = plan::check(plan, n, t) else {
         return busiest_accepted(work, plan, n, t);

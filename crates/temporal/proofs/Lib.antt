@@ -1,5 +1,7 @@
 -- What follows from the definitions. Adequacy has the theorems by which a reader can trust them.
 pub mod Adequacy
+-- the busiest station
+pub mod BusiestLaws
 -- a load in which rounding each share differs from rounding the sum
 mod Rounding
 -- the causes of refusal, what an accepted plan keeps, and what a check of a plan rests on

@@ -38,6 +38,11 @@ module _ {A : Type 0} where
   any t [] = false
   any t (x ∷ l) = t x || any t l
 
+-- the first number of a list that passes a test; 0 where none does
+unfoldable pub firstWhere : (ℕ → Bool) → List ℕ → ℕ
+firstWhere t [] = 0
+firstWhere t (x ∷ l) = let r = firstWhere t l in cond (t x) x r
+
 -- whether a number stands in a list
 unfoldable pub member : ℕ → List ℕ → Bool
 member v l = any (eqb v) l

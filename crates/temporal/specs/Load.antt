@@ -6,7 +6,7 @@ use mathlib.Core.Bool.{Bool, not, _&&_}
 use mathlib.Core.List.{List, map, flatMap}
 use lib.Dec.{ltb, eqb}
 use lib.ListN.{length}
-use Rattle.temporal.specs.Lists.{below, sum, product, select}
+use Rattle.temporal.specs.Lists.{below, sum, product, select, any, firstWhere}
 use Rattle.temporal.specs.Plan.{Plan}
 use Rattle.temporal.specs.Shortest.{shortestPaths, count, through}
 
@@ -62,7 +62,17 @@ pub record WithinExactSum (p : Plan) (v : ℕ) : Type 0 where
   pub less : 0 < pairs p v → 2 ^ 32 * exactSum p v < (load p v + pairs p v) * commonCount p v
   pub none : pairs p v ≡ 0 → (load p v ≡ 0) × (exactSum p v ≡ 0)
 
--- Document 01's busiest: one of the stations, and no other's load exceeds its load. Among equals any may be given.
+-- whether no station's load exceeds the load of v
+unfoldable pub isLargest : Plan → ℕ → Bool
+isLargest p v = not (any (λ u. ltb (load p v) (load p u)) (below (p .stations)))
+
+-- Document 02's busiest (C-11), document 01's made definite: the lowest-numbered station whose load no other exceeds, the first
+-- of 0, 1, .. of which this holds. (There always is one: proofs/BusiestLaws.)
+unfoldable pub busiestOf : Plan → ℕ
+busiestOf p = firstWhere (isLargest p) (below (p .stations))
+
+-- What is to hold of it: it is one of the stations, no other's load exceeds its load, and every lower-numbered one's is smaller.
 pub record Busiest (p : Plan) (v : ℕ) : Type 0 where
   pub station : v < p .stations
   pub largest : (u : ℕ) → u < p .stations → load p u ≤ load p v
+  pub lowest : (u : ℕ) → u < v → load p u < load p v

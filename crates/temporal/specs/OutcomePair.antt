@@ -1,13 +1,12 @@
 -- What operations 4 to 6 answer, and what every lent buffer holds afterwards, for every call. Definitions only.
 -- Assumes nothing.
-use Prim.Native.Nat.{ℕ, zero, suc}
-use mathlib.Core.Path.{_≡_}
+use Prim.Native.Nat.{ℕ}
 use mathlib.Core.Bool.{cond, _||_}
 use mathlib.Core.List.{List, [], _∷_, _++_, map}
 use Rattle.temporal.specs.Lists.{below}
 use Rattle.temporal.specs.Plan.{Plan}
 use Rattle.temporal.specs.Shortest.{shortestPaths, hops, count, through}
-use Rattle.temporal.specs.Load.{pairs, load, Busiest}
+use Rattle.temporal.specs.Load.{pairs, load, busiestOf}
 use Rattle.temporal.specs.Bytes.{planOf}
 use Rattle.temporal.specs.Cause.{cause, planCauses, pairCauses, tooMany, tooManyAnywhere}
 use Rattle.temporal.specs.Outcome.{Outcome, entered, over, cleared, short, workSize}
@@ -88,17 +87,14 @@ loads bs n t old =
 
 -- ---- Operation 6, busiest
 
--- what is determined: the number, and the work area at exit
-unfoldable pub busiest : List ℕ → ℕ → ℕ → List ℕ → Outcome (Unit {0}) (List ℕ)
-busiest bs n t work =
-    entered (planCauses bs n t ++ cause 8 (short (workSize n t) work) ∷ []) tt work
-    (record {
-      number = cause 9 (tooManyAnywhere (planOf bs n t));
-      values = tt;
-      buffers = cleared (workSize n t) work;
-    })
+-- busiest once 1 to 8 are excluded; every source is worked on
+unfoldable pub compared : Plan → List ℕ → Outcome ℕ (List ℕ)
+compared p old =
+    cond (tooManyAnywhere p)
+    (record { number = 9; values = 0; buffers = cleared (workSize (p .stations) (p .slots)) old })
+    (record { number = 0; values = busiestOf p; buffers = cleared (workSize (p .stations) (p .slots)) old })
 
--- The station v given beside a number: 0 on refusal. On acceptance it is open: one that is busiest, whichever.
-unfoldable pub BusiestGiven : List ℕ → ℕ → ℕ → ℕ → ℕ → Type 0
-BusiestGiven bs n t zero v = Busiest (planOf bs n t) v
-BusiestGiven bs n t (suc k) v = v ≡ 0
+-- its value is the station, and the work area is all that is lent
+unfoldable pub busiest : List ℕ → ℕ → ℕ → List ℕ → Outcome ℕ (List ℕ)
+busiest bs n t old =
+    entered (planCauses bs n t ++ cause 8 (short (workSize n t) old) ∷ []) 0 old (compared (planOf bs n t) old)

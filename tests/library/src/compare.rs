@@ -27,8 +27,7 @@ impl Comparison {
         told += &tables_text("16-bit", &lent.narrow, &seen.lent.narrow);
         told += &tables_text("64-bit", &lent.wide, &seen.lent.wide);
         if !told.is_empty() {
-            let values: Vec<Vec<u64>> = seen.values.iter().map(|value| vec![*value]).collect();
-            let given = answer_text(call.operation, seen.number, &values);
+            let given = answer_text(call.operation, seen.number, &seen.values);
             let asked = answer_text(call.operation, expected.number, &expected.values);
             let name = means.name();
             return Err(format!("{call}{name}: {asked}\nlibrary: {given}\n{told}"));
@@ -84,10 +83,10 @@ fn number_name(number: u32) -> String {
     }
 }
 
-/// The number, and the values that may stand beside it.
-fn answer_text(operation: Operation, number: u32, values: &[Vec<u64>]) -> String {
+/// The number, and the values beside it.
+fn answer_text(operation: Operation, number: u32, values: &[u64]) -> String {
     let values = operation.values().iter().zip(values);
-    let texts = values.map(|(name, any)| format!(", {name} {any:?}"));
+    let texts = values.map(|(name, value)| format!(", {name} {value}"));
     format!("number {number}{}", texts.collect::<String>())
 }
 
@@ -98,9 +97,9 @@ fn differences(call: &Call, expected: &Answered, seen: &Seen) -> String {
         let _ = writeln!(text, "numbers differ");
     }
     for (place, name) in call.operation.values().iter().enumerate() {
-        let (any, value) = (&expected.values[place], seen.values[place]);
-        if !any.contains(&value) {
-            let _ = writeln!(text, "{name}: one of {any:?}, and the library {value}");
+        let (asked, value) = (expected.values[place], seen.values[place]);
+        if asked != value {
+            let _ = writeln!(text, "{name}: {asked}, and the library {value}");
         }
     }
     if !seen.outside_kept {

@@ -147,7 +147,7 @@ fn offer(random: &mut Random, call: &mut Call, means: Means) {
         let (given, lent) = call.expected(means);
         if given.number == 0 {
             call.lent.narrow = lent.narrow;
-            hops = given.values[0][0] as usize;
+            hops = given.values[0] as usize;
         }
         call.operation = Operation::NextWay;
     }

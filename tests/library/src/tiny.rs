@@ -1,8 +1,9 @@
-//! All plans of tiny sizes, in all calls.
+//! All plans of tiny sizes and plans with equal loads, in all calls.
 
 use lister::cases::{plan_bytes, Record, PLAN_A};
 use lister::means::LISTED;
 use lister::operation::{Operation, OPERATIONS};
+use lister::pair_cases::TIED_PLANS;
 use lister::plan::PlanInput;
 use lister::plans::{all_lists, all_plans, pairs, possible_records, Owned};
 use lister::random::Random;
@@ -20,6 +21,9 @@ pub fn compare(comparison: &mut Comparison, seed: u64) -> Result<(), Difference>
                 every_buffer(comparison, random, &owned)?;
             }
         }
+    }
+    for tied in TIED_PLANS {
+        every_call(comparison, random, &tied.owned())?;
     }
     every_size(comparison, random)?;
     every_sequence(comparison, random)?;

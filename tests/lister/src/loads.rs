@@ -14,30 +14,16 @@ pub struct Load {
     pub load: u64,
 }
 
-/// All stations whose load no other exceeds; busiest may answer any one of them.
-#[derive(Clone, Debug, PartialEq, Eq)]
-pub struct Busiest {
-    pub stations: Vec<usize>,
-}
-
-impl Default for Busiest {
-    /// Beside a refusal, busiest answers 0 and nothing else.
-    fn default() -> Busiest {
-        Busiest { stations: vec![0] }
-    }
-}
-
 /// A share: the whole part of 2^32 × through ÷ count.
 pub fn share(through: u64, count: u64) -> u64 {
     ((u128::from(through) << 32) / u128::from(count)) as u64
 }
 
-/// The stations whose load no other exceeds.
-fn largest(loads: &[Load]) -> Busiest {
+/// The lowest-numbered station whose load no other exceeds.
+fn lowest_of_the_largest(loads: &[Load]) -> usize {
     let exceeded = |station: &usize| loads.iter().any(|other| other.load > loads[*station].load);
-    Busiest {
-        stations: (0..loads.len()).filter(|v| !exceeded(v)).collect(),
-    }
+    let largest = (0..loads.len()).find(|station| !exceeded(station));
+    largest.expect("an accepted plan has a station")
 }
 
 impl Means {
@@ -83,22 +69,10 @@ impl Means {
         Ok(())
     }
 
-    /// The loads that busiest compares.
-    fn compared(self, input: PlanInput, scratch: &mut [u64]) -> Answer<Vec<Load>> {
+    /// Busiest: the lowest-numbered of the stations with the largest load.
+    pub fn busiest(self, input: PlanInput, scratch: &mut [u64]) -> Answer<usize> {
         let plan = read(input)?;
         clear(&mut [(scratch, scratch_length(plan.stations, plan.slots))])?;
-        self.loads_of(&plan)
-    }
-
-    /// Busiest: the stations with the largest load.
-    pub fn busiest(self, input: PlanInput, scratch: &mut [u64]) -> Answer<Busiest> {
-        let loads = self.compared(input, scratch)?;
-        Ok(largest(&loads))
-    }
-
-    /// The load of a station that busiest may give.
-    pub fn largest_load(self, input: PlanInput, scratch: &mut [u64]) -> Answer<u64> {
-        let loads = self.compared(input, scratch)?;
-        Ok(loads[largest(&loads).stations[0]].load)
+        Ok(lowest_of_the_largest(&self.loads_of(&plan)?))
     }
 }

@@ -115,20 +115,19 @@ pub struct Lent {
     pub wide: Vec<Vec<u64>>,
 }
 
-/// The number of a call, and for each value beside it those that may stand there: one, but for
-/// busiest's station.
+/// The number of a call, and the values beside it.
 #[derive(Clone, Debug, PartialEq, Eq)]
 pub struct Answered {
     pub number: u32,
-    pub values: Vec<Vec<u64>>,
+    pub values: Vec<u64>,
 }
 
 impl Answered {
-    /// The number of an answer with one value in each place.
+    /// The number of an answer, with the values.
     fn new<V>(answer: &Answer<V>, values: &[u64]) -> Answered {
         Answered {
             number: number(answer).into(),
-            values: values.iter().map(|value| vec![*value]).collect(),
+            values: values.to_vec(),
         }
     }
 }
@@ -174,7 +173,7 @@ impl Means {
                 let start = table.as_ptr();
                 let part = row(input.stations, input.slots, station, table);
                 let offset = (part.as_ptr() as usize - start as usize) / size_of::<u64>();
-                let values = [offset, part.len()].map(|value| vec![value as u64]);
+                let values = [offset, part.len()].map(|value| value as u64);
                 Answered {
                     number: number.into(),
                     values: values[..operation.values().len()].to_vec(),
@@ -190,12 +189,7 @@ impl Means {
             }
             (Busiest, [], [scratch]) => {
                 let answer = self.busiest(input, scratch);
-                let stations = beside(&answer).stations.into_iter();
-                let any = stations.map(|station| station as u64).collect();
-                Answered {
-                    number: number(&answer).into(),
-                    values: vec![any],
-                }
+                Answered::new(&answer, &[beside(&answer) as u64])
             }
             (FirstWay | NextWay, [buffer], [scratch]) => {
                 let way = match operation {
@@ -205,7 +199,7 @@ impl Means {
                 let answer = self.way(way, input, ends, buffer, scratch);
                 Answered {
                     number: way_number(&answer),
-                    values: vec![vec![way_hops(&answer)]],
+                    values: vec![way_hops(&answer)],
                 }
             }
             (operation, _, _) => panic!("{operation:?} lends other tables"),

@@ -8,9 +8,9 @@
 //! scratch; all of them hold the mark before the call.
 //!
 //! The expected output has one line a case: the label, a colon, a space, and the number. For pair
-//! hops and count follow, for busiest the load of its station, zeros beside a refusal. Then come the
-//! lent tables after the call and the scratch, each behind " |", in runs as in `reach_cases`; the
-//! value 0 is left out.
+//! hops and count follow, for busiest the station, zeros beside a refusal. Then come the lent tables
+//! after the call and the scratch, each behind " |", in runs as in `reach_cases`; the value 0 is left
+//! out.
 
 mod examples;
 mod ladders;
@@ -18,6 +18,7 @@ mod limits;
 mod refusals;
 mod shares;
 mod small;
+mod ties;
 
 use std::mem;
 
@@ -32,6 +33,7 @@ use crate::reach_cases::{counts_text, Builder};
 
 pub use limits::BLOCKS;
 pub use shares::{mixed_ladders, MixedLadder};
+pub use ties::{TiedPlan, TIED_PLANS};
 
 /// The longest label, in bytes.
 pub const LONGEST_LABEL: usize = 64;
@@ -123,8 +125,8 @@ impl Case {
                 (number(&answer), Vec::new())
             }
             Operation::Busiest => {
-                let answer = means.largest_load(input, &mut scratch);
-                (number(&answer), vec![beside(&answer)])
+                let answer = means.busiest(input, &mut scratch);
+                (number(&answer), vec![beside(&answer) as u64])
             }
         };
         let mut lent = [first, second, scratch];
@@ -245,6 +247,7 @@ impl LabelledPlan {
 pub fn all_cases() -> Vec<Case> {
     [
         examples::cases(),
+        ties::cases(),
         refusals::cases(),
         limits::cases(),
         ladders::cases(),

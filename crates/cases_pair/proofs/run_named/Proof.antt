@@ -55,9 +55,6 @@ slice-aggregate-run-loads-3 c = sym (length-take-le _ _ (omega arith))
 run-loads-requires : tie.Need-run-loads-requires
 run-loads-requires c κs = search needs
 
-loads-of-requires : tie.Need-loads-of-requires
-loads-of-requires c κs = search needs
-
 slice-relend-prefix-run-busiest : tie.Need-slice-relend-prefix-run-busiest
 slice-relend-prefix-run-busiest c = search needs
 
@@ -91,12 +88,6 @@ returns-2 c = search needs
 same-length-6 : tie.Need-same-length-6
 same-length-6 c = search needs
 
-same-length-7 : tie.Need-same-length-7
-same-length-7 c = search needs
-
-same-length-8 : tie.Need-same-length-8
-same-length-8 c = search needs
-
 returns-3 : tie.Need-returns-3
 returns-3 c = search needs
 
@@ -120,7 +111,6 @@ run-named-spec =
     slice-relend-prefix-run-loads-3
     slice-aggregate-run-loads-3
     run-loads-requires
-    loads-of-requires
     slice-relend-prefix-run-busiest
     slice-aggregate-run-busiest
     run-busiest-requires
@@ -132,6 +122,4 @@ run-named-spec =
     same-length-5
     returns-2
     same-length-6
-    same-length-7
-    same-length-8
     returns-3)

@@ -20,10 +20,7 @@ same-length : tie.Need-same-length
 same-length c = search needs
 
 returns : tie.Need-returns
-returns c =
-    let at = c .before .before .before .before .before in
-    let here = rw (c .before .v .given .1) at (at .busiest .ensures) in
-    record { outcome = here .outcome; station = here .station }
+returns c = let at = c .before .before .before .before .before in rw (c .before .v .given .1) at (at .busiest .ensures)
 
 same-length-2 : tie.Need-same-length-2
 same-length-2 c = search needs
@@ -31,8 +28,7 @@ same-length-2 c = search needs
 returns-2 : tie.Need-returns-2
 returns-2 c =
     let at = c .before .before .before .before .before .before in
-    let here = rw (c .before .before .fault .given .1) at (at .busiest .ensures) in
-    rw (c .fault-code .ensures) (record { outcome = here .outcome; station = here .station })
+    rw (c .fault-code .ensures) (rw (c .before .before .fault .given .1) at (at .busiest .ensures))
 
 pub joftaki-busiest-spec : {M : Type 1} → statement M
 joftaki-busiest-spec =

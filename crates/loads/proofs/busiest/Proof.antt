@@ -2,7 +2,7 @@
 -- Assumes nothing.
 use mathlib.Core.Path.{sym, ap, _∙_}
 use Rattle.plan.specs.Fault.{checkNumber}
-use Rattle.loads.proofs.LoadLaws.{busiest-plan, busiest-plan-given}
+use Rattle.loads.proofs.LoadLaws.{busiest-plan}
 use borrow.Author.Needs.{needs}
 use Rattle.loads.proofs.busiest.Statement.{statement}
 use Rattle.loads.proofs.busiest.Tie as tie
@@ -26,11 +26,7 @@ returns : tie.Need-returns
 returns c = search needs
 
 returns-2 : tie.Need-returns-2
-returns-2 c =
-    record {
-      outcome = busiest-plan _ _ _ _ _ _ (c .before .before .before .check .ensures) (c .before .fault .given .1);
-      station = busiest-plan-given _ _ _ (c .before .before .before .before .before .before .args .work .now) _ _ (c .before .fault .given .1);
-    }
+returns-2 c = busiest-plan _ _ _ _ _ _ (c .before .before .before .check .ensures) (c .before .fault .given .1)
 
 pub busiest-spec : {M : Type 1} → statement M
 busiest-spec =

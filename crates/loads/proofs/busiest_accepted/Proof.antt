@@ -1,10 +1,10 @@
 -- `loads::busiest_accepted` meets its contract: the test of the length decides 8.
 -- Assumes nothing.
 use native.Mathlib.Omega.{arith}
-use lib.Dec.{lit<}
+use mathlib.Core.Path.{sym, _∙_}
 use Rattle.temporal.proofs.Accepted.{accepted}
 use Rattle.plan.proofs.LimitLaws.{limited-places}
-use Rattle.loads.proofs.LoadLaws.{busiest-short, given-refused}
+use Rattle.loads.proofs.LoadLaws.{busiest-short, busiest-works}
 use borrow.Author.Needs.{needs}
 use Rattle.loads.proofs.busiest_accepted.Statement.{statement}
 use Rattle.loads.proofs.busiest_accepted.Tie as tie
@@ -19,8 +19,7 @@ mul-if1-2 : tie.Need-mul-if1-2
 mul-if1-2 c = let a = accepted _ _ _ (c .before .before .pre) in omega (arith, limited-places _ _ (a .stations) (a .slots))
 
 returns : tie.Need-returns
-returns c =
-    record { outcome = busiest-short _ _ _ _ (c .before .before .before .pre) (omega arith); station = given-refused _ _ _ 8 (lit< tt) }
+returns c = busiest-short _ _ _ _ (c .before .before .before .pre) (omega arith)
 
 busiest-work-requires : tie.Need-busiest-work-requires
 busiest-work-requires c κs = search needs
@@ -29,7 +28,7 @@ same-length : tie.Need-same-length
 same-length c = search needs
 
 returns-2 : tie.Need-returns-2
-returns-2 c = search needs
+returns-2 c = c .before .before .busiest-work .ensures ∙ sym (busiest-works _ _ _ _ (c .before .before .before .before .before .before .before .pre) (omega arith))
 
 pub busiest-accepted-spec : {M : Type 1} → statement M
 busiest-accepted-spec =

@@ -1,20 +1,9 @@
--- `loads::busiest_work` meets its contract: too many clears the work area; else the station with the largest load is found
--- before it is cleared.
+-- `loads::busiest_work` meets its contract: too many clears the work area; else the lowest station with the largest load is
+-- found before it is cleared.
 -- Assumes nothing.
-use Prim.Native.Nat.{_+_}
 use native.Mathlib.Omega.{arith}
-use mathlib.Core.Path.{subst}
-use lib.Dec.{lit<}
 use Rattle.temporal.proofs.Accepted.{accepted}
-use Rattle.loads.specs.Largest.{Largest}
-use Rattle.loads.proofs.LoadLaws.{
-  tally-room,
-  given-refused,
-  given-busiest,
-  busiest-refused,
-  busiest-found,
-  busiest-largest,
-}
+use Rattle.loads.proofs.LoadLaws.{tally-room, compared-refused, compared-found}
 use borrow.Author.Needs.{needs}
 use Rattle.loads.proofs.busiest_work.Statement.{statement}
 use Rattle.loads.proofs.busiest_work.Tie as tie
@@ -39,12 +28,8 @@ same-length c = search needs
 
 returns : tie.Need-returns
 returns c =
-    record {
-      outcome =
-          busiest-refused _ _ _ _ (c .before .before .before .before .before .before .before .before .before .before .before .pre .accepted) (c .before .before .before .before .before .before .before .before .before .before .before .pre .area) _ _ (c .before .before .before .before .before .before .before .tally .ensures) _ (c .before .before .clear .ensures)
-          (c .before .before .before .before .if1 .taken);
-      station = given-refused _ _ _ 9 (lit< tt);
-    }
+    compared-refused _ _ _ _ _ _ (c .before .before .before .before .before .before .before .tally .ensures) _ (c .before .before .clear .ensures)
+    (c .before .before .before .before .if1 .taken)
 
 base-of-requires : tie.Need-base-of-requires
 base-of-requires c κs =
@@ -82,19 +67,9 @@ same-length-2 c = search needs
 
 returns-2 : tie.Need-returns-2
 returns-2 c =
-    let same = c .before .before .before .before .before .before .base-of .ensures in
-    let base = c .before .before .before .before .before .before .base-of .result in
-    record {
-      outcome =
-          busiest-found _ _ _ _ (c .before .before .before .before .before .before .before .before .before .before .before .before .before .before .pre .accepted) (c .before .before .before .before .before .before .before .before .before .before .before .before .before .before .pre .area) _ _ (c .before .before .before .before .before .before .before .before .before .before .tally .ensures) _ (c .before .before .clear2 .ensures)
-          (c .before .before .before .before .before .before .before .if1 .left);
-      station =
-          given-busiest _ _ _ _
-          (busiest-largest _ _ _ _ (c .before .before .before .before .before .before .before .before .before .before .before .before .before .before .pre .accepted) (c .before .before .before .before .before .before .before .before .before .before .before .before .before .before .pre .area) _ _ (c .before .before .before .before .before .before .before .before .before .before .tally .ensures) _ (c .before .before .clear2 .ensures)
-          (c .before .before .before .before .before .before .before .if1 .left) _
-          (subst (λ b. Largest (c .before .before .before .before .before .before .before .before .before .before .tally .last .0) (b + c .before .before .before .before .before .before .before .before .before .before .before .before .before .before .args .n) (c .before .before .before .before .before .before .before .before .before .before .before .before .before .before .args .n) (c .before .before .before .before .largest .result)) same
-          (c .before .before .before .before .largest .ensures)));
-    }
+    compared-found _ _ _ _ _ _ (c .before .before .before .before .before .before .before .before .before .before .tally .ensures) _ (c .before .before .clear2 .ensures)
+    (c .before .before .before .before .before .before .before .if1 .left) _ _ (c .before .before .before .before .before .before .base-of .ensures)
+    (c .before .before .before .before .largest .ensures)
 
 pub busiest-work-spec : {M : Type 1} → statement M
 busiest-work-spec =

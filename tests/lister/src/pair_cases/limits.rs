@@ -44,7 +44,8 @@ fn few_records() -> Vec<Case> {
         row.pair(0, 255),
         row.pair(100, 200),
         row.pair(255, 0),
-        row.counted().loads(),
+        row.clone().counted().loads(),
+        row.counted().busiest(),
     ];
     for pair in [(0, 254), (254, 0), (1, 254), (254, 1), (255, 1)] {
         cases.push(corners.pair(pair.0, pair.1));

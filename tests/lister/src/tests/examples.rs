@@ -3,7 +3,7 @@
 use super::support::Owned;
 use crate::answer::number;
 use crate::cases::PLAN_A;
-use crate::loads::{Busiest, Load};
+use crate::loads::Load;
 use crate::means::{COUNT_LIMIT, LISTED};
 use crate::pair::PairValues;
 use crate::plan::check;
@@ -145,10 +145,7 @@ fn p9_loads() {
         entry(0, 0),
     ];
     assert_eq!(loads, expected);
-    assert_eq!(
-        owned.busiest(COUNT_LIMIT),
-        Ok(Busiest { stations: vec![3] })
-    );
+    assert_eq!(owned.busiest(COUNT_LIMIT), Ok(3));
     let printed = "stations 5 slots 4 contacts 6\n\
                    0 0 0\n\
                    1 2 2863311530\n\

@@ -1,9 +1,11 @@
 //! Pair, loads and busiest by numbers of walks, compared with the plain lister and closed forms.
 
-use super::support::{pairs, random_plan, small_exact_plans, tiny_plans, Owned};
+use super::support::{
+    lowest_of_the_largest, pairs, random_plan, small_exact_plans, tiny_plans, Owned,
+};
 use crate::answer::{number, Answer};
 use crate::cases::plan_bytes;
-use crate::loads::{Busiest, Load};
+use crate::loads::Load;
 use crate::means::{Means, COUNTED, COUNT_LIMIT, LISTED};
 use crate::pair::PairValues;
 use crate::plan::Ends;
@@ -52,24 +54,18 @@ fn loaded(means: Means, owned: &Owned, change: Lengths) -> (Answer<()>, [Vec<u64
     (answer, lent)
 }
 
-/// Asserts that both loads, both busiest and the largest load agree, and gives the number of loads.
+/// Asserts that both loads and both busiest agree, and gives the number of loads.
 fn assert_loads(limit: u64, owned: &Owned, change: Lengths) -> u8 {
     let (lister, counter) = (LISTED.within(limit), COUNTED.within(limit));
     let listed = loaded(lister, owned, change);
     let counted = loaded(counter, owned, change);
     assert_eq!(listed, counted, "limit {limit}, {owned:?}");
     let input = owned.input();
-    let [mut one, mut other, mut third] = [2; 3].map(|_| lend(owned, change)[2].clone());
+    let [[_, _, mut one], [_, _, mut other]] = [0; 2].map(|_| lend(owned, change));
     let busiest = lister.busiest(input, &mut one);
     let counted = counter.busiest(input, &mut other);
     assert_eq!(busiest, counted, "limit {limit}, {owned:?}");
-    let largest = counter.largest_load(input, &mut third);
-    let expected = busiest.map(|Busiest { stations }| match number(&listed.0) {
-        0 => listed.1[1][stations[0]],
-        _ => largest.unwrap(),
-    });
-    assert_eq!(largest, expected, "limit {limit}, {owned:?}");
-    assert_eq!((&one, &one), (&other, &third), "limit {limit}, {owned:?}");
+    assert_eq!(one, other, "limit {limit}, {owned:?}");
     number(&listed.0)
 }
 
@@ -237,15 +233,9 @@ fn loads_of_ladders() {
             let load = pairs * ((1 << 32) / width as u64);
             assert_eq!(*entry, Load { pairs, load }, "{layers} {width} {station}");
         }
-        let largest = loads.iter().map(|entry| entry.load).max();
         let mut scratch = vec![7; owned.scratch_length()];
-        let counted = COUNTED.largest_load(owned.input(), &mut scratch);
-        assert_eq!(counted.ok(), largest);
-        let busiest = COUNTED.busiest(owned.input(), &mut scratch).unwrap();
-        for (station, entry) in loads.iter().enumerate() {
-            let is_largest = Some(entry.load) == largest;
-            assert_eq!(busiest.stations.contains(&station), is_largest);
-        }
+        let busiest = COUNTED.busiest(owned.input(), &mut scratch);
+        assert_eq!(busiest, Ok(lowest_of_the_largest(&loads)));
     }
 }
 

@@ -6,9 +6,10 @@ use std::sync::OnceLock;
 use super::read_back::{assert_labels, entries_of, take, take_number};
 use crate::call_cases::Called;
 use crate::files::{stdin_bytes, stdout_text};
-use crate::means::{Counting, LISTED};
+use crate::means::Counting;
 use crate::pair_cases::{
     all_cases, mixed_ladders, Case, Operation, Outcome, BLOCKS, LONGEST_LABEL, LONGEST_TABLES,
+    TIED_PLANS,
 };
 use crate::reach_cases::LONGEST_PLAN;
 
@@ -83,9 +84,19 @@ fn lines_by_hand() {
             "P9 plan A, loads",
             "0 | 1 .. 2: 2 3: 4 | 1: 2863311530 2: 5726623060 3: 17179869184 |",
         ),
-        ("plan A, busiest", "0 17179869184 |"),
+        ("plan A, busiest", "0 3 |"),
         ("P10 two contacts in slot 1, 0 to 2", "0 65535 0 | |"),
         ("empty plan, n 1, T 1, busiest", "0 0 |"),
+        (
+            "two equal, 2 and 4, and 1 but for rounding, loads",
+            "0 | 0: 1 1: 2 2 .. 4: 1 | 0: 1431655765 1: 4294967295 2: 4294967296 3: 2863311530 \
+             4: 4294967296 |",
+        ),
+        (
+            "two equal, 2 and 4, and 1 but for rounding, busiest",
+            "0 2 |",
+        ),
+        ("n 256, T 255, row, busiest", "0 127 |"),
         (
             "6 for stations of plan A, 5 to 5",
             "6 0 0 | 0 .. 6: 999 | 0 .. 100: 999",
@@ -267,7 +278,7 @@ fn listed_cases_are_counted_alike() {
 }
 
 #[test]
-fn busiest_gives_the_largest_load() {
+fn busiest_gives_the_lowest_of_the_largest_loads() {
     let mut seen = 0;
     for (case, outcome) in cases() {
         let prefix = case.label.strip_suffix("busiest");
@@ -280,15 +291,28 @@ fn busiest_gives_the_largest_load() {
         };
         if outcome.number == 0 && loads.number == 0 {
             let loads = &loads.buffers[1][..case.stations.into()];
-            assert_eq!(Some(&outcome.values[0]), loads.iter().max());
-            let mut scratch = vec![0; case.lengths[2]];
-            let given = LISTED.busiest(case.input(), &mut scratch).unwrap();
-            let equal = |station: &usize| loads[*station] == outcome.values[0];
-            assert!(given.stations.iter().all(equal), "{}", case.label);
+            let station = outcome.values[0] as usize;
+            let (lower, rest) = loads.split_at(station);
+            let (load, later) = rest.split_first().unwrap();
+            assert!(lower.iter().all(|other| other < load), "{}", case.label);
+            assert!(later.iter().all(|other| other <= load), "{}", case.label);
             seen += 1;
         }
     }
     assert!(seen > 300, "{seen}");
+}
+
+#[test]
+fn tied_plans_have_the_largest_loads_stated() {
+    for tied in TIED_PLANS {
+        let (_, loads) = labelled(&format!("{}, loads", tied.label));
+        let loads = &loads.buffers[1];
+        let largest = loads.iter().max();
+        let equal = (0..loads.len()).filter(|station| Some(&loads[*station]) == largest);
+        assert_eq!(equal.collect::<Vec<_>>(), tied.largest, "{}", tied.label);
+        let (_, busiest) = labelled(&format!("{}, busiest", tied.label));
+        assert_eq!(busiest.values, [tied.largest[0] as u64], "{}", tied.label);
+    }
 }
 
 /// How many cases a label's beginning has, by operation, and with which numbers.

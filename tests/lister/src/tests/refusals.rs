@@ -136,7 +136,7 @@ fn run(operation: Operation, arguments: &Arguments, lent: &mut Lent) -> (u32, bo
     };
     let listed = LISTED.within(arguments.limit);
     let Answered { number, values } = listed.call(operation, arguments.input(), stations, lent);
-    (number, values.iter().all(|value| *value == [0]))
+    (number, values.iter().all(|value| *value == 0))
 }
 
 /// The memory after a call with a cause of refusal.

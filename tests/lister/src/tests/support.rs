@@ -2,7 +2,7 @@
 
 use crate::answer::Answer;
 use crate::cases::PLAN_A;
-use crate::loads::{Busiest, Load};
+use crate::loads::Load;
 use crate::means::LISTED;
 use crate::pair::Paired;
 use crate::plan::{read, Plan};
@@ -52,7 +52,7 @@ impl Owned {
     }
 
     /// Busiest on scratch of exactly the named length.
-    pub fn busiest(&self, limit: u64) -> Answer<Busiest> {
+    pub fn busiest(&self, limit: u64) -> Answer<usize> {
         let mut scratch = vec![7; self.scratch_length()];
         let answer = LISTED.within(limit).busiest(self.input(), &mut scratch);
         assert!(scratch.iter().all(|entry| *entry == 0));
@@ -87,6 +87,13 @@ impl Reached {
             tables.appearance_counts[place],
         )
     }
+}
+
+/// The largest load, found first; then the lowest-numbered station that has it.
+pub fn lowest_of_the_largest(loads: &[Load]) -> usize {
+    let largest = loads.iter().map(|entry| entry.load).max();
+    let station = loads.iter().position(|entry| Some(entry.load) == largest);
+    station.unwrap()
 }
 
 /// All plans with n up to 3 and T up to 3, and those with n 4 and T 2.
