@@ -1,5 +1,5 @@
 -- How many walks there are: counted by weights, the fewest hops of such a count, the recurrence by the last leg, and
--- through counts by what avoids a station.
+-- through counts by what avoids a set of stations.
 pub mod Weights
 pub mod Fewest
 pub mod Recurrence

@@ -1,37 +1,39 @@
--- Through counts by what avoids a station: of the shortest paths from s to z, those that have v inside and those that
--- never go on from v are together all.
+-- Through counts by what avoids a set of stations: of the shortest paths from s to z, those that have a member inside and
+-- those that never go on from one are together all. A single station is the set of it alone.
 -- Assumes nothing.
-use Prim.Native.Nat.{ℕ, _+_}
+use Prim.Native.Nat.{ℕ, _+_, _<_}
 use mathlib.Core.Path.{_≡_, refl, sym, ap, _∙_, fun-ext}
-use mathlib.Core.Bool.{Bool, true, false, not, cond, _&&_, _||_, and-true, and-false, or-false, not-and-self}
-use mathlib.Core.List.{List, [], _∷_, List·Memᴰ, Memᴰ·cast}
+use mathlib.Core.Bool.{Bool, true, false, not, cond, _&&_, _||_, and-false, or-false, not-and-self, and-eq-true-iff}
+use mathlib.Core.List.{List, [], _∷_, List·Memᴰ, List·Memᴰ·not-nil, Memᴰ·cast}
 use mathlib.Core.Logic.{by-cases}
 use mathlib.Core.Option.{some}
 use native.Mathlib.Omega.{arith}
 use native.Mathlib.Decide.{ℕ-discrete}
 use borrow.Author.Tests.{eqb-true, eq-eqb, ne-eqb}
 use lib.Dec.{eqb}
-use lib.ListN.{length}
-use Rattle.temporal.specs.Lists.{any, member, distinct, select, tuples}
-use Rattle.temporal.specs.Plan.{Plan, Appearance, start}
+use lib.ListN.{length, getElem?}
+use Rattle.temporal.specs.Lists.{below, any, member, distinct, select, tuples}
+use Rattle.temporal.specs.Plan.{Contact, Plan, Appearance, start}
 use Rattle.temporal.specs.Walk.{run, lastOr, stationsOf, holds, isAt, isWalkTo, isPath, isInterior}
 use Rattle.temporal.specs.Definition3.{startingPoints}
 use Rattle.temporal.specs.Shortest.{ofHops, shortest, shortestPaths, hops, count, through}
+use Rattle.temporal.specs.Set.{touches, touched}
 use Rattle.temporal.specs.Bytes.{planOf}
 use Rattle.temporal.specs.Cause.{planFault}
-use Rattle.temporal.proofs.ListLaws.{distinct-cons, mem-select, select-select, length-select}
-use Rattle.temporal.proofs.ListLaws.{sum-ext, sum-map-add}
+use Rattle.temporal.proofs.ListLaws.{not-both, not-true-false, by-member, mem-below, mem-select, any-true, any-false, any-ext}
+use Rattle.temporal.proofs.ListLaws.{member-true, distinct-cons, select-select, length-select, sum-ext, sum-map-add}
+use Rattle.temporal.proofs.RuleLaws.{leads-below}
 use Rattle.temporal.proofs.ShortestLaws.{shortest-mem}
-use Rattle.temporal.proofs.WalkLaws.{SlotsWithin, run-nil, run-cons}
+use Rattle.temporal.proofs.WalkLaws.{SlotsWithin, step-inv, run-nil, run-cons}
 use Rattle.temporal.proofs.PathLaws.{PathBy, path-inv, last-visited}
-use Rattle.temporal.proofs.PlanLaws.{slots-within}
+use Rattle.temporal.proofs.PlanLaws.{contact-within, slots-within}
 use Rattle.temporal.proofs.Adequacy.{bounded-ends, bounded-paths, shortest-walks-are-paths}
 use Rattle.counting.proofs.Weights.{worth, behind, value, total, everywhere, value-less, value-ends}
 use Rattle.counting.proofs.Fewest.{shortest-ofHops}
 
--- the permission to go on from every station but v, and from the source s in any case
-unfoldable pub avoiding : ℕ → ℕ → ℕ → Bool
-avoiding s v u = not (eqb u v) || eqb u s
+-- the permission to go on from every station that does not pass the test m, and from the source s in any case
+unfoldable pub avoidingSet : ℕ → (ℕ → Bool) → ℕ → Bool
+avoidingSet s m u = not (m u) || eqb u s
 
 -- a walk is worth the weight of its last appearance where it may go on from each of its starting points, and else 0
 pub value-run : (p : Plan) (g : ℕ → Bool) (f : Appearance → ℕ) (x : Appearance) (w : List ℕ) {l : List Appearance}
@@ -46,24 +48,6 @@ value-run p g f x (i ∷ w) e =
     go : (b a : Bool) (n m : ℕ) → n ≡ cond a 0 m → cond b n 0 ≡ cond (not b || a) 0 m
     go true a n m h = h
     go false a n m h = refl
-
--- a test behind one that does not look at the member
-any-and : (c : Bool) (t : ℕ → Bool) (l : List ℕ) → any (λ u. c && t u) l ≡ (c && any t l)
-unfolding any
-any-and true t l = refl
-any-and false t [] = refl
-any-and false t (x ∷ l) = any-and false t l
-
--- a walk goes on from a forbidden station where v is one of its starting points and not the source
-forbidden : (s v : ℕ) (l : List ℕ) → any (λ u. not (avoiding s v u)) l ≡ (not (eqb v s) && member v l)
-unfolding avoiding member
-forbidden s v l = ap (λ t. any t l) (fun-ext one) ∙ any-and (not (eqb v s)) (eqb v) l
-  where
-    one : (u : ℕ) → not (not (eqb u v) || eqb u s) ≡ (not (eqb v s) && eqb v u)
-    one u =
-        by-cases (ℕ-discrete u v)
-        (λ e. rw (e, eq-eqb v v refl, and-true (not (eqb v s))))
-        (λ n. rw (ne-eqb u v n, ne-eqb v u (λ e. n (sym e)), and-false (not (eqb v s))))
 
 -- the starting points of a run that visits no station twice are the stations that it visits without the last
 pub starts-visited : (v : ℕ) (x : Appearance) (l : List Appearance) → distinct (x .station ∷ stationsOf l) ≡ true
@@ -84,89 +68,178 @@ starts-visited v x (y ∷ l) d =
         rw (ne-eqb v (lastOr y l .station) (λ e. new (Memᴰ·cast (sym here ∙ e) (last-visited y l))))
     go false q ih new = ih
 
--- on a path from s to z, v is a starting point and not the source exactly where it is inside
-inside : (p : Plan) (s z v : ℕ) (w : List ℕ) (r : PathBy p s z w)
-    → any (λ u. not (avoiding s v u)) (startingPoints (start s) (r .visits)) ≡ isInterior p s z v w
-unfolding isInterior holds member any
-inside p s z v w r =
-    rw (r .runs)
-    (forbidden s v (startingPoints (start s) (r .visits))
-    ∙ rw (starts-visited v (start s) (r .visits) (r .apart), r .ends) (go (eqb v s)))
+-- a list whose members that pass a test lie below n has one where some number below n passes and stands in it
+any-below : (n : ℕ) (t : ℕ → Bool) (l : List ℕ) → ((v : ℕ) → List·Memᴰ v l → t v ≡ true → v < n)
+    → any t l ≡ any (λ v. t v && member v l) (below n)
+any-below n t l inside = go (any t l) refl
   where
-    go : (b : Bool)
-        → (not b && (not (eqb v z) && (b || member v (stationsOf (r .visits)))))
-        ≡ (not b && (not (eqb v z) && member v (stationsOf (r .visits))))
-    go true = refl
-    go false = refl
+    go : (b : Bool) → any t l ≡ b → b ≡ any (λ v. t v && member v l) (below n)
+    go true e =
+        let (v, m, q) = any-true t l .0 e in
+        sym (any-true (λ v. t v && member v l) (below n) .1
+        (v, mem-below n .1 (inside v m q), and-eq-true-iff (t v) (member v l) .1 (q, member-true v l .1 m)))
+    go false e =
+        sym (any-false (λ v. t v && member v l) (below n) .1 (λ v m.
+        not-true-false (t v && member v l) (λ both.
+        let (q, there) = and-eq-true-iff (t v) (member v l) .0 both in
+        not-both q (any-false t l .0 e v (member-true v l .0 there)))))
 
--- a walk to z that is a path has v inside, or never goes on from v
-one-or-other : (p : Plan) (s z v : ℕ) (w : List ℕ) → (isWalkTo p s z w ≡ true → isPath p s z w ≡ true)
-    → cond (isWalkTo p s z w && isInterior p s z v w) 1 0
-    + value p (avoiding s v) (start s) (λ y. cond (isAt z y) 1 0) w
-    ≡ cond (isWalkTo p s z w) 1 0
-unfolding everywhere
-one-or-other p s z v w path = go (isWalkTo p s z w) refl
-  where
-    at-z : Appearance → ℕ
-    at-z y = cond (isAt z y) 1 0
+-- where the contacts are between stations of the plan
+module _ (p : Plan) (ends : (i : ℕ) (c : Contact) → getElem? (p .contacts) i ≡ some c → c .a < c .b)
+    (within : (i : ℕ) (c : Contact) → getElem? (p .contacts) i ≡ some c → c .b < p .stations) where
+  -- a run visits stations of the plan
+  visited-within : (x : Appearance) (w : List ℕ) {l : List Appearance} → run p x w ≡ some l
+      → (v : ℕ) → List·Memᴰ v (stationsOf l) → v < p .stations
+  visited-within x [] e v m = absurd (List·Memᴰ·not-nil (rw (← run-nil p x e) at m))
+  visited-within x (i ∷ w) e v m =
+      let r = run-cons p x i w e in
+      let s = step-inv p x i (r .steps) in
+      let here : r .next .station < p .stations =
+      leads-below (s .contact) (x .station) (r .next .station) (p .stations) (ends i (s .contact) (s .at-position))
+      (within i (s .contact) (s .at-position)) (s .leads) in
+      by-member (rw (← r .whole) at m) (λ q. rw q here) (visited-within (r .next) w (r .goes-on) v)
 
-    together : (c : Bool) → _≡_ {A = ℕ} (cond c 1 0 + cond c 0 1) 1
-    together true = refl
-    together false = refl
+  -- on a path from s to z, a member is a starting point and not the source exactly where some member is inside
+  inside : (s z : ℕ) (m : ℕ → Bool) (w : List ℕ) (r : PathBy p s z w)
+      → any (λ u. not (avoidingSet s m u)) (startingPoints (start s) (r .visits)) ≡ touches p s z m w
+  unfolding avoidingSet touches isInterior holds member any
+  inside s z m w r =
+      any-below (p .stations) (λ u. not (avoidingSet s m u)) points found
+      ∙ any-ext (below (p .stations)) (λ v q. rw (r .runs)
+      (rw (starts-visited v (start s) (r .visits) (r .apart), r .ends) (go v (m v) (eqb v s))))
+    where
+      points : List ℕ
+      points = startingPoints (start s) (r .visits)
 
-    go : (b : Bool) → isWalkTo p s z w ≡ b
-        → cond (b && isInterior p s z v w) 1 0 + value p (avoiding s v) (start s) (λ y. cond (isAt z y) 1 0) w
-        ≡ cond b 1 0
-    go true q =
-        let r = path-inv p s z w (path q) in
-        rw (value-run p (avoiding s v) at-z (start s) w (r .runs), inside p s z v w r, eq-eqb _ z (r .ends))
-        (together (isInterior p s z v w))
-    go false q =
-        let less = value-less p (avoiding s v) everywhere (λ u h. refl) (start s) at-z w in
-        let none : value p everywhere (start s) at-z w ≡ 0 = rw q at (value-ends p (isAt z) (start s) w) in
-        omega arith
+      other : (a b : Bool) → not (not a || b) ≡ true → b ≡ false
+      other true false e = refl
+      other true true e = sym e
+      other false b e = absurd (not-both e refl)
 
--- where the shortest walks to z are paths
-module _ (p : Plan) (g : SlotsWithin p) (s z v : ℕ) (same : shortestPaths p s z ≡ shortest p (isWalkTo p s z)) where
-  -- all lists of as many positions as the shortest paths have
-  all : List (List ℕ)
-  all = tuples (length (p .contacts)) (hops (shortestPaths p s z))
+      found : (v : ℕ) → List·Memᴰ v points → not (not (m v) || eqb v s) ≡ true → v < p .stations
+      found v there q =
+          let d = other (m v) (eqb v s) q in
+          let visited = sym (starts-visited v (start s) (r .visits) (r .apart)) ∙ member-true v points .1 there in
+          visited-within (start s) w (r .runs) v
+          (member-true v (stationsOf (r .visits)) .0 (rw d at (and-eq-true-iff (not (eqb v _)) _ .0 visited .1)))
 
-  -- the shortest paths are the walks to z among them
-  paths : shortestPaths p s z ≡ select (isWalkTo p s z) all
-  unfolding ofHops all
-  paths =
-      same ∙ shortest-ofHops (bounded-ends p g s (isAt z)) ∙ ap (λ l. ofHops p (isWalkTo p s z) (hops l)) (sym same)
+      go : (v : ℕ) (a b : Bool)
+          → (not (not a || b) && (not (eqb v z) && (b || member v (stationsOf (r .visits)))))
+          ≡ (a && (not b && (not (eqb v z) && member v (stationsOf (r .visits)))))
+      go v true true = refl
+      go v true false = refl
+      go v false b = refl
 
-  -- a walk to z among them is a path
-  is-path : (w : List ℕ) → List·Memᴰ w all → isWalkTo p s z w ≡ true → isPath p s z w ≡ true
-  unfolding shortestPaths
-  is-path w m q =
-      let there : List·Memᴰ w (shortestPaths p s z) = rw paths (mem-select (isWalkTo p s z) all .1 (m, q)) in
-      shortest-mem (bounded-paths p g s z) .0 there .0
+  -- a walk to z that is a path has some member inside, or never goes on from one
+  one-or-other : (s z : ℕ) (m : ℕ → Bool) (w : List ℕ) → (isWalkTo p s z w ≡ true → isPath p s z w ≡ true)
+      → cond (isWalkTo p s z w && touches p s z m w) 1 0
+      + value p (avoidingSet s m) (start s) (λ y. cond (isAt z y) 1 0) w
+      ≡ cond (isWalkTo p s z w) 1 0
+  unfolding everywhere
+  one-or-other s z m w path = go (isWalkTo p s z w) refl
+    where
+      at-z : Appearance → ℕ
+      at-z y = cond (isAt z y) 1 0
 
-  -- the shortest paths that have v inside and those that never go on from v are together all
-  pub through-or-avoiding :
-      through p s z v
-      + total p (avoiding s v) (start s) (λ y. cond (isAt z y) 1 0) (hops (shortestPaths p s z))
-      ≡ count (shortestPaths p s z)
-  unfolding through total all
-  through-or-avoiding =
-      ap (λ n. n + total p (avoiding s v) (start s) (λ y. cond (isAt z y) 1 0) (hops (shortestPaths p s z)))
-      (ap (λ l. length (select (isInterior p s z v) l)) paths
-      ∙ ap length (select-select (isInterior p s z v) (isWalkTo p s z) all)
-      ∙ length-select (λ w. isWalkTo p s z w && isInterior p s z v w) all)
-      ∙ sym (sum-map-add (λ w. cond (isWalkTo p s z w && isInterior p s z v w) 1 0)
-      (value p (avoiding s v) (start s) (λ y. cond (isAt z y) 1 0)) all)
-      ∙ sum-ext all (λ w m. one-or-other p s z v w (is-path w m))
-      ∙ sym (ap length paths ∙ length-select (isWalkTo p s z) all)
+      together : (c : Bool) → _≡_ {A = ℕ} (cond c 1 0 + cond c 0 1) 1
+      together true = refl
+      together false = refl
+
+      go : (b : Bool) → isWalkTo p s z w ≡ b
+          → cond (b && touches p s z m w) 1 0 + value p (avoidingSet s m) (start s) (λ y. cond (isAt z y) 1 0) w
+          ≡ cond b 1 0
+      go true q =
+          let r = path-inv p s z w (path q) in
+          rw (value-run p (avoidingSet s m) at-z (start s) w (r .runs), inside s z m w r, eq-eqb _ z (r .ends))
+          (together (touches p s z m w))
+      go false q =
+          let less = value-less p (avoidingSet s m) everywhere (λ u h. refl) (start s) at-z w in
+          let none : value p everywhere (start s) at-z w ≡ 0 = rw q at (value-ends p (isAt z) (start s) w) in
+          omega arith
+
+  -- where the shortest walks to z are paths
+  module _ (g : SlotsWithin p) (s z : ℕ) (same : shortestPaths p s z ≡ shortest p (isWalkTo p s z)) where
+    -- all lists of as many positions as the shortest paths have
+    all : List (List ℕ)
+    all = tuples (length (p .contacts)) (hops (shortestPaths p s z))
+
+    -- the shortest paths are the walks to z among them
+    paths : shortestPaths p s z ≡ select (isWalkTo p s z) all
+    unfolding ofHops all
+    paths =
+        same ∙ shortest-ofHops (bounded-ends p g s (isAt z)) ∙ ap (λ l. ofHops p (isWalkTo p s z) (hops l)) (sym same)
+
+    -- a walk to z among them is a path
+    is-path : (w : List ℕ) → List·Memᴰ w all → isWalkTo p s z w ≡ true → isPath p s z w ≡ true
+    unfolding shortestPaths
+    is-path w m q =
+        let there : List·Memᴰ w (shortestPaths p s z) = rw paths (mem-select (isWalkTo p s z) all .1 (m, q)) in
+        shortest-mem (bounded-paths p g s z) .0 there .0
+
+    -- the shortest paths that have a member inside and those that never go on from one are together all
+    touched-or-avoiding : (m : ℕ → Bool)
+        → touched p s z m
+        + total p (avoidingSet s m) (start s) (λ y. cond (isAt z y) 1 0) (hops (shortestPaths p s z))
+        ≡ count (shortestPaths p s z)
+    unfolding touched total all
+    touched-or-avoiding m =
+        ap (λ n. n + total p (avoidingSet s m) (start s) (λ y. cond (isAt z y) 1 0) (hops (shortestPaths p s z)))
+        (ap (λ l. length (select (touches p s z m) l)) paths
+        ∙ ap length (select-select (touches p s z m) (isWalkTo p s z) all)
+        ∙ length-select (λ w. isWalkTo p s z w && touches p s z m w) all)
+        ∙ sym (sum-map-add (λ w. cond (isWalkTo p s z w && touches p s z m w) 1 0)
+        (value p (avoidingSet s m) (start s) (λ y. cond (isAt z y) 1 0)) all)
+        ∙ sum-ext all (λ w i. one-or-other s z m w (is-path w i))
+        ∙ sym (ap length paths ∙ length-select (isWalkTo p s z) all)
 
 module _ (bs : List ℕ) (n t : ℕ) (ok : planFault bs n t ≡ 0) where
-  -- (kept) In an accepted plan, for every s, z and v, the shortest paths from s to z that have v inside and those that
-  -- never go on from v are together all.
-  pub through-avoiding : (s z v : ℕ) → through (planOf bs n t) s z v
-      + total (planOf bs n t) (avoiding s v) (start s) (λ y. cond (isAt z y) 1 0)
+  -- (kept) In an accepted plan, for every s and z and every set, the shortest paths from s to z that have a member inside
+  -- and those that never go on from one are together all.
+  pub touched-avoiding : (s z : ℕ) (m : ℕ → Bool) → touched (planOf bs n t) s z m
+      + total (planOf bs n t) (avoidingSet s m) (start s) (λ y. cond (isAt z y) 1 0)
       (hops (shortestPaths (planOf bs n t) s z))
       ≡ count (shortestPaths (planOf bs n t) s z)
-  through-avoiding s z v =
-      through-or-avoiding (planOf bs n t) (slots-within bs n t ok) s z v (shortest-walks-are-paths bs n t ok s z)
+  unfolding planOf
+  touched-avoiding s z m =
+      touched-or-avoiding (planOf bs n t) (λ i c there. contact-within bs n t ok i c there .ends)
+      (λ i c there. contact-within bs n t ok i c there .station) (slots-within bs n t ok) s z
+      (shortest-walks-are-paths bs n t ok s z) m
+
+-- ---- sets that touch the same paths
+
+module _ (p : Plan) (s z : ℕ) where
+  -- sets that touch the same lists of positions
+  touched-ext : (m m′ : ℕ → Bool) → ((w : List ℕ) → touches p s z m w ≡ touches p s z m′ w)
+      → touched p s z m ≡ touched p s z m′
+  unfolding touched
+  touched-ext m m′ e = ap (λ t. length (select t (shortestPaths p s z))) (fun-ext e)
+
+  -- the through count of a station is that of the set of it alone
+  pub through-touched : (v : ℕ) → v < p .stations → through p s z v ≡ touched p s z (eqb v)
+  unfolding through touched touches
+  through-touched v h =
+      ap (λ t. length (select t (shortestPaths p s z))) (fun-ext (λ w.
+      sym (any-one v (λ u. isInterior p s z u w) (below (p .stations)) (mem-below (p .stations) .1 h))))
+    where
+      any-one : (v : ℕ) (t : ℕ → Bool) (l : List ℕ) → List·Memᴰ v l → any (λ u. eqb v u && t u) l ≡ t v
+      any-one v t l there = go (t v) refl
+        where
+          go : (b : Bool) → t v ≡ b → any (λ u. eqb v u && t u) l ≡ b
+          go true e =
+              any-true (λ u. eqb v u && t u) l .1 (v, there, and-eq-true-iff (eqb v v) (t v) .1 (eq-eqb v v refl, e))
+          go false e =
+              any-false (λ u. eqb v u && t u) l .1 (λ u m.
+              by-cases (ℕ-discrete v u) (λ q. rw (← q, e) (and-false (eqb v v))) (λ d. rw (ne-eqb v u d)))
+
+  -- the destination is never inside, member or not
+  pub touched-others : (m : ℕ → Bool) → touched p s z (λ v. not (eqb v z) && m v) ≡ touched p s z m
+  unfolding touches isInterior
+  touched-others m =
+      touched-ext (λ v. not (eqb v z) && m v) m (λ w.
+      ap (λ t. any t (below (p .stations))) (fun-ext (λ v. go (eqb v z) (m v) (eqb v s) _)))
+    where
+      go : (a b c d : Bool) → ((not a && b) && (not c && (not a && d))) ≡ (b && (not c && (not a && d)))
+      go true true true d = refl
+      go true true false d = refl
+      go true false c d = refl
+      go false b c d = refl

@@ -16,7 +16,7 @@ use Rattle.counting.proofs.Weights.{total, everywhere}
 use Rattle.counting.proofs.Fewest.{fewest-intro}
 use Rattle.counting.proofs.Recurrence.{before, atAppearance, arrivals-zero, before-zero, settle, start-here}
 use Rattle.counting.proofs.Recurrence.{start-other}
-use Rattle.counting.proofs.Through.{avoiding}
+use Rattle.counting.proofs.Through.{avoidingSet}
 use Rattle.entries.specs.Entry.{stored}
 use Rattle.entries.proofs.CountLaws.{stored-small}
 use Rattle.memory.specs.Fill.{filled}
@@ -158,9 +158,9 @@ module _ (p : Plan) (s : ℕ) (g : ℕ → Bool) where
       go false e = refl
 
 -- one may go on from the source in any case
-source-open : (s x : ℕ) → avoiding s x s ≡ true
-unfolding avoiding
-source-open s x = rw (eq-eqb s s refl, or-true (not (eqb s x)))
+source-open : (s x : ℕ) → avoidingSet s (eqb x) s ≡ true
+unfolding avoidingSet
+source-open s x = rw (eq-eqb s s refl, or-true (not (eqb x s)))
 
 -- At the beginning the work area holds the walks before slot 1, with no contact folded in.
 pub begun-state : (p : Plan) (s low n block : ℕ) (w : List ℕ) → Area n block w → s < n
@@ -192,7 +192,7 @@ begun-state p s low n block w area inside =
     room : 4 * n ≤ length w
     room = fits n block w s area inside
 
-    source : Best block 65535 (kept p s everywhere s 1) (λ c. kept p s (avoiding s (low + c)) s 1) 0 1 (λ j. 1)
+    source : Best block 65535 (kept p s everywhere s 1) (λ c. kept p s (avoidingSet s (eqb (low + c))) s 1) 0 1 (λ j. 1)
     source =
         let one = kept-source p s everywhere refl in
         record {
@@ -200,5 +200,5 @@ begun-state p s low n block w area inside =
             fewest = fewest-intro (omega arith) (omega arith) (λ k q. absurd (omega arith));
             count = sym (ap stored one ∙ stored-small 1 (omega arith));
           };
-          row = λ j q g. sym (ap (λ x. x % 2 ^ 64) (kept-source p s (avoiding s (low + j)) (source-open s (low + j))));
+          row = λ j q g. sym (ap (λ x. x % 2 ^ 64) (kept-source p s (avoidingSet s (eqb (low + j))) (source-open s (low + j))));
         }

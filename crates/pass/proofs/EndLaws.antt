@@ -8,7 +8,7 @@ use mathlib.Core.Bool.{Bool, true, false, cond}
 use mathlib.Core.List.{List}
 use mathlib.Core.Logic.{_≢_}
 use borrow.Author.Tests.{lt-ltb, le-ltb, ne-eqb}
-use lib.Dec.{ltb}
+use lib.Dec.{ltb, eqb}
 use lib.ListN.{getD}
 use Rattle.temporal.specs.Lists.{below, any}
 use Rattle.temporal.specs.Plan.{Plan, start}
@@ -23,7 +23,7 @@ use Rattle.temporal.proofs.Adequacy.{bounded-ends, shortest-walks-are-paths}
 use Rattle.counting.proofs.Weights.{total, everywhere, total-zero}
 use Rattle.counting.proofs.Fewest.{Fewest, fewest-ext, fewest-unique, fewest-shortest, count-shortest}
 use Rattle.counting.proofs.Recurrence.{atAppearance, whole-station, start-later}
-use Rattle.counting.proofs.Through.{avoiding, through-avoiding}
+use Rattle.counting.proofs.Through.{avoidingSet, through-touched, touched-avoiding}
 use Rattle.pass.specs.Row.{rowAt}
 use Rattle.entries.specs.Entry.{stored}
 use Rattle.entries.proofs.CountLaws.{stored-small}
@@ -36,9 +36,9 @@ use Rattle.pass.proofs.StateLaws.{AreaState}
 use Rattle.pass.proofs.PlanWalks.{kept, walksAt}
 
 -- one may go on from another station
-avoids-other : (s x z : ℕ) → x ≢ z → avoiding s x z ≡ true
-unfolding avoiding
-avoids-other s x z d = rw (ne-eqb z x (λ e. d (sym e)))
+avoids-other : (s x z : ℕ) → x ≢ z → avoidingSet s (eqb x) z ≡ true
+unfolding avoidingSet
+avoids-other s x z d = rw (ne-eqb x z d)
 
 -- ---- appearances
 
@@ -120,11 +120,11 @@ module _ (bs : List ℕ) (n t : ℕ) (ok : planFault bs n t ≡ 0) (s : ℕ) whe
 
   -- and so are those that avoid another station
   station-avoiding : (z x k : ℕ) → x ≢ z
-      → kept (planOf bs n t) s (avoiding s x) z (t + 1) k
-      ≡ total (planOf bs n t) (avoiding s x) (start s) (λ y. cond (isAt z y) 1 0) k
+      → kept (planOf bs n t) s (avoidingSet s (eqb x)) z (t + 1) k
+      ≡ total (planOf bs n t) (avoidingSet s (eqb x)) (start s) (λ y. cond (isAt z y) 1 0) k
   unfolding kept planOf
   station-avoiding z x k d =
-      rw (avoids-other s x z d) (sym (whole-station (planOf bs n t) s (avoiding s x) (slots-within bs n t ok) z k))
+      rw (avoids-other s x z d) (sym (whole-station (planOf bs n t) s (avoidingSet s (eqb x)) (slots-within bs n t ok) z k))
 
   -- (kept) so its fewest hops and its number there are those of the shortest paths
   station-fewest : (z : ℕ)
@@ -148,7 +148,7 @@ module _ (bs : List ℕ) (n t : ℕ) (ok : planFault bs n t ≡ 0) (s : ℕ) whe
   module _ (low block : ℕ) (old w : List ℕ) (j : ℕ)
       (state : AreaState n block old (walksAt (planOf bs n t) s low (t + 1) j) w) where
     entry : (z : ℕ) → z < n → Best block 65535 (kept (planOf bs n t) s everywhere z (t + 1))
-        (λ c. kept (planOf bs n t) s (avoiding s (low + c)) z (t + 1)) (getD w z 0) (getD w (z + n) 0)
+        (λ c. kept (planOf bs n t) s (avoidingSet s (eqb (low + c))) z (t + 1)) (getD w z 0) (getD w (z + n) 0)
         (λ c. getD w (rowAt n block z + c) 0)
     unfolding walksAt
     entry z q = state .settled z q
@@ -172,9 +172,11 @@ module _ (bs : List ℕ) (n t : ℕ) (ok : planFault bs n t ≡ 0) (s : ℕ) whe
             (omega (arith, station-count z)))
 
     -- (kept) Where no count is over 2^64 - 1 the settled entries are hops, counts and rows.
-    pub counted : ((z : ℕ) → z < n → count (shortestPaths (planOf bs n t) s z) ≤ 18446744073709551615)
+    pub counted : low + block ≤ n
+        → ((z : ℕ) → z < n → count (shortestPaths (planOf bs n t) s z) ≤ 18446744073709551615)
         → Counted bs n t s low block w
-    counted small =
+    unfolding planOf
+    counted stations small =
         record {
           station-hops = at-hops;
           station-counts = λ z q.
@@ -194,14 +196,15 @@ module _ (bs : List ℕ) (n t : ℕ) (ok : planFault bs n t ≡ 0) (s : ℕ) whe
             ≡ count (shortestPaths (planOf bs n t) s z)
         at-rows z c q i d some =
             let h = hops (shortestPaths (planOf bs n t) s z) in
-            let m = total (planOf bs n t) (avoiding s (low + c)) (start s) (λ y. cond (isAt z y) 1 0) h in
+            let m = total (planOf bs n t) (avoidingSet s (eqb (low + c))) (start s) (λ y. cond (isAt z y) 1 0) h in
             let parts : through (planOf bs n t) s z (low + c) + m ≡ count (shortestPaths (planOf bs n t) s z) =
-            through-avoiding bs n t ok s z (low + c) in
+            ap (λ k. k + m) (through-touched (planOf bs n t) s z (low + c) (omega arith))
+            ∙ touched-avoiding bs n t ok s z (eqb (low + c)) in
             let here = at-hops z q in
             let fits : m < 2 ^ 64 = let few = small z q in omega arith in
             let held : getD w (rowAt n block z + c) 0 ≡ m =
             entry z q .row c i (omega arith)
-            ∙ ap (λ x. kept (planOf bs n t) s (avoiding s (low + c)) z (t + 1) x % 2 ^ 64) here
+            ∙ ap (λ x. kept (planOf bs n t) s (avoidingSet s (eqb (low + c))) z (t + 1) x % 2 ^ 64) here
             ∙ ap (λ x. x % 2 ^ 64) (station-avoiding z (low + c) h d)
             ∙ mod-eq-of-lt fits in
             omega arith

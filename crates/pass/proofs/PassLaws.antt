@@ -210,7 +210,7 @@ module _ (bs : List ℕ) (n t s low block : ℕ) (old : List ℕ) (ready : PassR
   passed-end u j w r x past e =
       record {
         too-many = e ∙ too-many-station bs n t ok s (areaOverflows n w) (λ v y q h. x .small v y q (omega arith)) exact;
-        counted = λ q. counted bs n t ok s low block old w j state (λ z h.
+        counted = λ q. counted bs n t ok s low block old w j state (ready .stations) (λ z h.
             ltb-false 18446744073709551615 (count (shortestPaths (planOf bs n t) s z))
             (sym (exact z h) ∙ any-false (areaOverflows n w) (below n) .0 (sym e ∙ q) z (mem-below n .1 h)));
         beyond = drop-same (areaSize n block) w old (state .same) (state .beyond);

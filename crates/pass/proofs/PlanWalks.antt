@@ -21,7 +21,7 @@ use Rattle.counting.proofs.Fewest.{Fewest, plus, delayed}
 use Rattle.counting.proofs.Recurrence.{before, atAppearance, arrivals, arrivals-suc, inflow-to-a, inflow-to-b}
 use Rattle.counting.proofs.Recurrence.{inflow-other-station, arrivals-same, arrivals-zero, arrivals-all, settle}
 use Rattle.counting.proofs.Recurrence.{arrivals-less}
-use Rattle.counting.proofs.Through.{avoiding}
+use Rattle.counting.proofs.Through.{avoidingSet}
 use Rattle.entries.proofs.HopLaws.{walks-few}
 use Rattle.pass.specs.Sweep.{sentArea, foldedArea, Area}
 use Rattle.pass.proofs.StateLaws.{Walks, Sound, AreaState, sent-state, delayed-less}
@@ -36,9 +36,9 @@ unfoldable pub walksAt : Plan → ℕ → ℕ → ℕ → ℕ → Walks
 walksAt p s low u j =
     record {
       settled = λ v. kept p s everywhere v u;
-      settled-avoiding = λ v c. kept p s (avoiding s (low + c)) v u;
+      settled-avoiding = λ v c. kept p s (avoidingSet s (eqb (low + c))) v u;
       pending = λ v. arrivals p s everywhere j v u;
-      pending-avoiding = λ v c. arrivals p s (avoiding s (low + c)) j v u;
+      pending-avoiding = λ v c. arrivals p s (avoidingSet s (eqb (low + c))) j v u;
     }
 
 -- ---- a contact's first half
@@ -52,9 +52,9 @@ unfoldable walksHalf : Plan → ℕ → ℕ → ℕ → ℕ → Contact → Walk
 walksHalf p s low u j c =
     record {
       settled = λ v. kept p s everywhere v u;
-      settled-avoiding = λ v x. kept p s (avoiding s (low + x)) v u;
+      settled-avoiding = λ v x. kept p s (avoidingSet s (eqb (low + x))) v u;
       pending = half p s everywhere j c u;
-      pending-avoiding = λ v x. half p s (avoiding s (low + x)) j c u v;
+      pending-avoiding = λ v x. half p s (avoidingSet s (eqb (low + x))) j c u v;
     }
 
 module _ (p : Plan) (s : ℕ) (g : ℕ → Bool) (j : ℕ) (c : Contact) (u : ℕ) where
@@ -108,16 +108,16 @@ sound-at : (p : Plan) (s low u j : ℕ) → Sound (walksAt p s low u j)
 unfolding walksAt
 sound-at p s low u j =
     record {
-      settled = λ v c k. kept-less p s (avoiding s (low + c)) v u k;
-      pending = λ v c k. arrivals-less p s (avoiding s (low + c)) everywhere (wider (avoiding s (low + c))) j v u k;
+      settled = λ v c k. kept-less p s (avoidingSet s (eqb (low + c))) v u k;
+      pending = λ v c k. arrivals-less p s (avoidingSet s (eqb (low + c))) everywhere (wider (avoidingSet s (eqb (low + c)))) j v u k;
     }
 
 sound-half : (p : Plan) (s low u j : ℕ) (c : Contact) → Sound (walksHalf p s low u j c)
 unfolding walksHalf
 sound-half p s low u j c =
     record {
-      settled = λ v x k. kept-less p s (avoiding s (low + x)) v u k;
-      pending = λ v x k. half-less p s (avoiding s (low + x)) j c u v k;
+      settled = λ v x k. kept-less p s (avoidingSet s (eqb (low + x))) v u k;
+      pending = λ v x k. half-less p s (avoidingSet s (eqb (low + x))) j c u v k;
     }
 
 -- ---- a slot is settled
@@ -153,9 +153,9 @@ module _ (p : Plan) (s low u j : ℕ) (later : 0 < u)
       record {
         sound = sound-at p s low u j;
         sound-after = sound-at p s low (suc u) j;
-        closed = λ v c k e. kept-closed p s (avoiding s (low + c)) v u k e;
+        closed = λ v c k e. kept-closed p s (avoidingSet s (eqb (low + c))) v u k e;
         settled = λ v k. kept-settled everywhere v k;
-        avoids = λ v c k. kept-settled (avoiding s (low + c)) v k;
+        avoids = λ v c k. kept-settled (avoidingSet s (eqb (low + c))) v k;
         cleared = λ v k. sym (arrivals-same p s everywhere v (suc u) k 0 j (omega arith)
             (λ i c from before there. done i c before there))
             ∙ arrivals-zero p s everywhere v (suc u) k;
@@ -188,15 +188,15 @@ module _ (p : Plan) (fits : SlotsWithin p) (few : p .slots ≤ 255) (s low n blo
       (c .b) (c .a) hb ha (sound-half p s low u j c) first (one-more (c .b) u (first .settled (c .b) hb .entry .fewest))
       (λ v k. refl) (λ v x k. refl)
       (whole-a p s everywhere j c u there slot apart)
-      (λ x. whole-a p s (avoiding s (low + x)) j c u there slot apart)
+      (λ x. whole-a p s (avoidingSet s (eqb (low + x))) j c u there slot apart)
       (λ v k. whole-other p s everywhere j c u there slot apart v k)
-      (λ v x k. whole-other p s (avoiding s (low + x)) j c u there slot apart v k)
+      (λ v x k. whole-other p s (avoidingSet s (eqb (low + x))) j c u there slot apart v k)
     where
       first : AreaState n block old (walksHalf p s low u j c) (sentArea n block w (c .a) (c .b))
       first =
           sent-state n block old area (walksAt p s low u j) (walksHalf p s low u j c) w (c .a) (c .b) ha hb
           (sound-at p s low u j) state (one-more (c .a) u (state .settled (c .a) ha .entry .fewest))
           (λ v k. refl) (λ v x k. refl)
-          (half-b p s everywhere j c u) (λ x. half-b p s (avoiding s (low + x)) j c u)
+          (half-b p s everywhere j c u) (λ x. half-b p s (avoidingSet s (eqb (low + x))) j c u)
           (λ v k. half-other p s everywhere j c u v k)
-          (λ v x k. half-other p s (avoiding s (low + x)) j c u v k)
+          (λ v x k. half-other p s (avoidingSet s (eqb (low + x))) j c u v k)

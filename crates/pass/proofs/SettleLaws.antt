@@ -8,10 +8,10 @@ use mathlib.Core.Bool.{Bool, true, false, cond, _||_}
 use mathlib.Core.List.{List}
 use mathlib.Core.Logic.{_⊎_, inl, inr, ⊎-elim, by-cases, _≢_}
 use borrow.Author.Tests.{lt-ltb, le-ltb}
-use lib.Dec.{ltb}
+use lib.Dec.{ltb, eqb}
 use lib.ListN.{getD}
 use Rattle.counting.proofs.Fewest.{plus}
-use Rattle.counting.proofs.Through.{avoiding}
+use Rattle.counting.proofs.Through.{avoidingSet}
 use Rattle.entries.proofs.EntryLaws.{plus-none, Large, Small, overflow-large, overflow-small}
 use Rattle.pass.specs.Row.{rowAt}
 use Rattle.pass.specs.Entry.{areaOverflows}
@@ -30,10 +30,10 @@ settled-none n block s low w v none = rw (le-ltb (getD w (2 * n + v) 0) 65535 no
 record SettlesOne (s low b : ℕ) (x y : Walks) : Type 0 where
   sound : Sound x
   sound-after : Sound y
-  closed : (j k : ℕ) → avoiding s (low + j) b ≡ false → x .settled-avoiding b j k ≡ 0
+  closed : (j k : ℕ) → avoidingSet s (eqb (low + j)) b ≡ false → x .settled-avoiding b j k ≡ 0
   settled : (k : ℕ) → plus (x .settled b) (x .pending b) k ≡ y .settled b k
   avoids : (j k : ℕ)
-      → cond (avoiding s (low + j) b) (plus (x .settled-avoiding b j) (x .pending-avoiding b j) k) 0
+      → cond (avoidingSet s (eqb (low + j)) b) (plus (x .settled-avoiding b j) (x .pending-avoiding b j) k) 0
       ≡ y .settled-avoiding b j k
   cleared : (k : ℕ) → y .pending b k ≡ 0
   others-settled : (v k : ℕ) → v ≢ b → x .settled v k ≡ y .settled v k
@@ -65,7 +65,7 @@ module _ (n block : ℕ) (old : List ℕ) (area : Area n block old) (s low : ℕ
                 (z .others-settled v k);
             settled-avoiding = λ v i j k. by-cases (ℕ-discrete v b)
                 (λ e. rw e
-                (chosen (avoiding s (low + j) b) _ _
+                (chosen (avoidingSet s (eqb (low + j)) b) _ _
                 (plus-none (x .settled-avoiding b j) (x .pending-avoiding b j) k
                 (omega (arith, z .sound .pending b j k, none k)))
                 (z .closed j k)
@@ -90,7 +90,7 @@ module _ (n block : ℕ) (old : List ℕ) (area : Area n block old) (s low : ℕ
             settled = λ v i. by-cases (ℕ-discrete v b)
                 (λ e. rw e (best-same (took .hops) (took .count) (λ j l g. took .entries j l)
                 (best-ext (z .settled) (z .avoids)
-                (best-masked (λ j. avoiding s (low + j) b)
+                (best-masked (λ j. avoidingSet s (eqb (low + j)) b)
                 (best-merge (x .settled b) (x .pending b) (x .settled-avoiding b) (x .pending-avoiding b)
                 (z .sound .settled b) (z .sound .pending b)
                 (getD w b 0) (getD w (b + n) 0) (getD w (2 * n + b) 0) (getD w (2 * n + b + n) 0)
@@ -169,10 +169,10 @@ sound-between v x y sx sy =
 pub record Settles (s low : ℕ) (x y : Walks) : Type 0 where
   pub sound : Sound x
   pub sound-after : Sound y
-  pub closed : (v j k : ℕ) → avoiding s (low + j) v ≡ false → x .settled-avoiding v j k ≡ 0
+  pub closed : (v j k : ℕ) → avoidingSet s (eqb (low + j)) v ≡ false → x .settled-avoiding v j k ≡ 0
   pub settled : (v k : ℕ) → plus (x .settled v) (x .pending v) k ≡ y .settled v k
   pub avoids : (v j k : ℕ)
-      → cond (avoiding s (low + j) v) (plus (x .settled-avoiding v j) (x .pending-avoiding v j) k) 0
+      → cond (avoidingSet s (eqb (low + j)) v) (plus (x .settled-avoiding v j) (x .pending-avoiding v j) k) 0
       ≡ y .settled-avoiding v j k
   pub cleared : (v k : ℕ) → y .pending v k ≡ 0
 

@@ -11,7 +11,7 @@ use borrow.Author.Tests.{ltb-true, lt-ltb, eq-eqb, ne-eqb}
 use lib.Dec.{ltb, eqb}
 use lib.ListN.{length, getD, set, length-set}
 use lib.Seq.{getD-set-same, getD-set-other, lt-length-set}
-use Rattle.counting.proofs.Through.{avoiding}
+use Rattle.counting.proofs.Through.{avoidingSet}
 use Rattle.pass.specs.Row.{combined, mergedRow, rowAt}
 use Rattle.entries.specs.Entry.{mergedCount}
 use Rattle.pass.specs.Entry.{mergedArea, absorbed, Absorbable}
@@ -122,19 +122,19 @@ module _ (n block s low : ℕ) (w : List ℕ) (v : ℕ) where
   -- the column of a station from which v may not go on becomes 0
   masked-at : (j : ℕ) → j < block → rowAt n block v + block ≤ length w
       → getD (masked n block s low w v) (rowAt n block v + j) 0
-      ≡ cond (avoiding s (low + j) v) (getD w (rowAt n block v + j) 0) 0
-  unfolding avoiding
+      ≡ cond (avoidingSet s (eqb (low + j)) v) (getD w (rowAt n block v + j) 0) 0
+  unfolding avoidingSet
   masked-at j q fits =
       by-cases (ℕ-discrete v s)
-      (λ e. rw (masked-source n block s low w v e, eq-eqb v s e, or-true (not (eqb v (low + j)))))
-      (λ d. rw (ne-eqb v s d, or-false (not (eqb v (low + j))))
+      (λ e. rw (masked-source n block s low w v e, eq-eqb v s e, or-true (not (eqb (low + j) v))))
+      (λ d. rw (ne-eqb v s d, or-false (not (eqb (low + j) v)))
       (by-cases (ℕ-discrete v (low + j))
       (λ own. let here : v - low ≡ j = omega arith in
-      rw (eq-eqb v (low + j) own)
+      rw (eq-eqb (low + j) v (sym own))
       (sym (ap (λ l. getD l (rowAt n block v + j) 0)
       (masked-own n block s low w v (rowAt n block v) refl d (omega arith) (omega arith)))
       ∙ rw here (getD-set-same w (rowAt n block v + j) 0 0 (omega arith))))
-      (λ other. rw (ne-eqb v (low + j) other) (elsewhere d other))))
+      (λ other. rw (ne-eqb (low + j) v (λ e. other (sym e))) (elsewhere d other))))
     where
       elsewhere : v ≢ s → v ≢ low + j
           → getD (masked n block s low w v) (rowAt n block v + j) 0 ≡ getD w (rowAt n block v + j) 0
@@ -156,7 +156,7 @@ pub record Settled (n block s low v : ℕ) (old new : List ℕ) : Type 0 where
   pub count : getD new (v + n) 0
       ≡ mergedCount (getD old v 0) (getD old (v + n) 0) (getD old (2 * n + v) 0) (getD old (2 * n + v + n) 0)
   pub entries : (j : ℕ) → j < block → getD new (rowAt n block v + j) 0
-      ≡ cond (avoiding s (low + j) v)
+      ≡ cond (avoidingSet s (eqb (low + j)) v)
       (mergedRow (getD old v 0) (getD old (2 * n + v) 0) (getD old (rowAt n block v + j) 0)
       (getD old (rowAt n block (n + v) + j) 0)) 0
   pub no-hops : getD new (2 * n + v) 0 ≡ 65535
@@ -179,7 +179,7 @@ settled-took n block s low w v area inside some =
           ∙ masked-other n block s low one v (v + n) (inl (omega arith)) ∙ took .count;
       entries = λ j q. outer (rowAt n block v + j) (omega arith) (omega arith)
           ∙ masked-at n block s low one v j q (let k = took .same in let f = row-settled inside area in omega arith)
-          ∙ ap (λ x. cond (avoiding s (low + j) v) x 0) (took .entries j q);
+          ∙ ap (λ x. cond (avoidingSet s (eqb (low + j)) v) x 0) (took .entries j q);
       no-hops = getD-set-other (set two (2 * n + v) 65535) (2 * n + v + n) (2 * n + v) 0 0 (omega arith)
           ∙ getD-set-same two (2 * n + v) 65535 0 (omega (arith, two-length));
       no-count = getD-set-same (set two (2 * n + v) 65535) (2 * n + v + n) 0 0

@@ -4,6 +4,7 @@ pub mod Plan
 pub mod Walk
 pub mod Definition3
 pub mod Shortest
+pub mod Set
 pub mod Load
 pub mod Bytes
 pub mod Cause
