@@ -4,11 +4,9 @@ use Prim.Native.Nat.{ℕ, _+_, _*_, _%_, _^_, _<_, _≤_}
 use native.Mathlib.Omega.{arith}
 use native.Mathlib.Decide.{ℕ-discrete}
 use mathlib.Core.Path.{_≡_, refl, sym, ap, _∙_}
-use mathlib.Core.Bool.{Bool, true, false, cond, not, or-true}
+use mathlib.Core.Bool.{Bool, true, false, cond}
 use mathlib.Core.List.{List}
 use mathlib.Core.Logic.{inl, inr, by-cases, _≢_}
-use borrow.Author.Tests.{eq-eqb}
-use lib.Dec.{eqb}
 use lib.ListN.{length, getD, set}
 use lib.Seq.{getD-set-same, getD-set-other, lt-length-set}
 use Rattle.temporal.specs.Plan.{Plan, start}
@@ -16,7 +14,6 @@ use Rattle.counting.proofs.Weights.{total, everywhere}
 use Rattle.counting.proofs.Fewest.{fewest-intro}
 use Rattle.counting.proofs.Recurrence.{before, atAppearance, arrivals-zero, before-zero, settle, start-here}
 use Rattle.counting.proofs.Recurrence.{start-other}
-use Rattle.counting.proofs.Through.{avoidingSet}
 use Rattle.entries.specs.Entry.{stored}
 use Rattle.entries.proofs.CountLaws.{stored-small}
 use Rattle.memory.specs.Fill.{filled}
@@ -133,7 +130,8 @@ module _ (n block : ℕ) (w : List ℕ) (s : ℕ) (area : Area n block w) (insid
       ∙ getD-set-other (spread n w) s i 0 0 (omega (arith, positive))
       ∙ spread-beyond n w fits i (omega arith)
 
-  begun-length : length (begunArea n block w s) ≡ length w
+  -- the beginning keeps the length
+  pub begun-length : length (begunArea n block w s) ≡ length w
   unfolding begunArea spread
   begun-length =
       filled-length (set (set (spread n w) s 0) (s + n) 1) (rowAt n block s) block 1
@@ -157,16 +155,13 @@ module _ (p : Plan) (s : ℕ) (g : ℕ → Bool) where
       go true e = e
       go false e = refl
 
--- one may go on from the source in any case
-source-open : (s x : ℕ) → avoidingSet s (eqb x) s ≡ true
-unfolding avoidingSet
-source-open s x = rw (eq-eqb s s refl, or-true (not (eqb x s)))
-
--- At the beginning the work area holds the walks before slot 1, with no contact folded in.
-pub begun-state : (p : Plan) (s low n block : ℕ) (w : List ℕ) → Area n block w → s < n
-    → AreaState n block w (walksAt p s low 1 0) (begunArea n block w s)
+-- At the beginning the work area holds the walks before slot 1, with no contact folded in; a walk of any column may go on
+-- from the source.
+pub begun-state : (p : Plan) (s : ℕ) (may : ℕ → ℕ → Bool) (n block : ℕ) (w : List ℕ) → ((c : ℕ) → may c s ≡ true)
+    → Area n block w → s < n
+    → AreaState n block w (walksAt p s may 1 0) (begunArea n block w s)
 unfolding walksAt everywhere
-begun-state p s low n block w area inside =
+begun-state p s may n block w free area inside =
     record {
       same = begun-length n block w s area inside;
       beyond = begun-beyond n block w s area inside;
@@ -192,7 +187,7 @@ begun-state p s low n block w area inside =
     room : 4 * n ≤ length w
     room = fits n block w s area inside
 
-    source : Best block 65535 (kept p s everywhere s 1) (λ c. kept p s (avoidingSet s (eqb (low + c))) s 1) 0 1 (λ j. 1)
+    source : Best block 65535 (kept p s everywhere s 1) (λ c. kept p s (may c) s 1) 0 1 (λ j. 1)
     source =
         let one = kept-source p s everywhere refl in
         record {
@@ -200,5 +195,5 @@ begun-state p s low n block w area inside =
             fewest = fewest-intro (omega arith) (omega arith) (λ k q. absurd (omega arith));
             count = sym (ap stored one ∙ stored-small 1 (omega arith));
           };
-          row = λ j q g. sym (ap (λ x. x % 2 ^ 64) (kept-source p s (avoidingSet s (eqb (low + j))) (source-open s (low + j))));
+          row = λ j q g. sym (ap (λ x. x % 2 ^ 64) (kept-source p s (may j) (free j)));
         }

@@ -1,6 +1,6 @@
 -- An entry of the work area and its row against a sequence N of numbers of walks by hops, and sequences M j of those of
--- them that avoid a station: the fewest hops with the count there, and the row of avoiding counts. Laws of merging, of one
--- hop more and of masking.
+-- them that avoid the stations of column j: the fewest hops with the count there, and the row of avoiding counts. Laws of
+-- merging, of one hop more and of masking.
 -- Assumes nothing.
 use Prim.Native.Nat.{ℕ, _+_, _%_, _^_, _<_, _≤_, min}
 use native.Mathlib.Omega.{arith}

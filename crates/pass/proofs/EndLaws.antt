@@ -7,13 +7,14 @@ use mathlib.Core.Path.{_≡_, refl, sym, ap, subst, _∙_}
 use mathlib.Core.Bool.{Bool, true, false, cond}
 use mathlib.Core.List.{List}
 use mathlib.Core.Logic.{_≢_}
-use borrow.Author.Tests.{lt-ltb, le-ltb, ne-eqb}
+use borrow.Author.Tests.{lt-ltb, le-ltb}
 use lib.Dec.{ltb, eqb}
 use lib.ListN.{getD}
 use Rattle.temporal.specs.Lists.{below, any}
 use Rattle.temporal.specs.Plan.{Plan, start}
 use Rattle.temporal.specs.Walk.{isAt, isAppearance, isWalk}
-use Rattle.temporal.specs.Shortest.{shortestWalks, shortestPaths, hops, count, through}
+use Rattle.temporal.specs.Shortest.{shortestWalks, shortestPaths, hops, count}
+use Rattle.temporal.specs.Set.{touched}
 use Rattle.temporal.specs.Bytes.{planOf}
 use Rattle.temporal.specs.Cause.{planFault, tooMany}
 use Rattle.temporal.proofs.ListLaws.{any-true, any-false, any-ext, mem-below}
@@ -23,7 +24,7 @@ use Rattle.temporal.proofs.Adequacy.{bounded-ends, shortest-walks-are-paths}
 use Rattle.counting.proofs.Weights.{total, everywhere, total-zero}
 use Rattle.counting.proofs.Fewest.{Fewest, fewest-ext, fewest-unique, fewest-shortest, count-shortest}
 use Rattle.counting.proofs.Recurrence.{atAppearance, whole-station, start-later}
-use Rattle.counting.proofs.Through.{avoidingSet, through-touched, touched-avoiding}
+use Rattle.counting.proofs.Through.{touched-avoiding}
 use Rattle.pass.specs.Row.{rowAt}
 use Rattle.entries.specs.Entry.{stored}
 use Rattle.entries.proofs.CountLaws.{stored-small}
@@ -32,13 +33,9 @@ use Rattle.entries.proofs.HopLaws.{few-slots}
 use Rattle.pass.specs.Entry.{areaOverflows}
 use Rattle.pass.specs.Passed.{Counted}
 use Rattle.pass.proofs.BestLaws.{Best}
+use Rattle.pass.proofs.ColumnLaws.{mayLeave, other-free}
 use Rattle.pass.proofs.StateLaws.{AreaState}
 use Rattle.pass.proofs.PlanWalks.{kept, walksAt}
-
--- one may go on from another station
-avoids-other : (s x z : ℕ) → x ≢ z → avoidingSet s (eqb x) z ≡ true
-unfolding avoidingSet
-avoids-other s x z d = rw (ne-eqb x z d)
 
 -- ---- appearances
 
@@ -118,13 +115,12 @@ module _ (bs : List ℕ) (n t : ℕ) (ok : planFault bs n t ≡ 0) (s : ℕ) whe
   unfolding kept everywhere planOf
   station-all z k = sym (whole-station (planOf bs n t) s everywhere (slots-within bs n t ok) z k)
 
-  -- and so are those that avoid another station
-  station-avoiding : (z x k : ℕ) → x ≢ z
-      → kept (planOf bs n t) s (avoidingSet s (eqb x)) z (t + 1) k
-      ≡ total (planOf bs n t) (avoidingSet s (eqb x)) (start s) (λ y. cond (isAt z y) 1 0) k
+  -- and so are those under a permission to go on from there
+  station-may : (g : ℕ → Bool) (z k : ℕ) → g z ≡ true
+      → kept (planOf bs n t) s g z (t + 1) k
+      ≡ total (planOf bs n t) g (start s) (λ y. cond (isAt z y) 1 0) k
   unfolding kept planOf
-  station-avoiding z x k d =
-      rw (avoids-other s x z d) (sym (whole-station (planOf bs n t) s (avoidingSet s (eqb x)) (slots-within bs n t ok) z k))
+  station-may g z k e = rw e (sym (whole-station (planOf bs n t) s g (slots-within bs n t ok) z k))
 
   -- (kept) so its fewest hops and its number there are those of the shortest paths
   station-fewest : (z : ℕ)
@@ -145,10 +141,10 @@ module _ (bs : List ℕ) (n t : ℕ) (ok : planFault bs n t ≡ 0) (s : ℕ) whe
       (bounded-ends (planOf bs n t) (slots-within bs n t ok) s (isAt z))
       ∙ sym (station-all z _))
 
-  module _ (low block : ℕ) (old w : List ℕ) (j : ℕ)
-      (state : AreaState n block old (walksAt (planOf bs n t) s low (t + 1) j) w) where
+  module _ (col : ℕ → ℕ) (block : ℕ) (old w : List ℕ) (j : ℕ)
+      (state : AreaState n block old (walksAt (planOf bs n t) s (mayLeave s col) (t + 1) j) w) where
     entry : (z : ℕ) → z < n → Best block 65535 (kept (planOf bs n t) s everywhere z (t + 1))
-        (λ c. kept (planOf bs n t) s (avoidingSet s (eqb (low + c))) z (t + 1)) (getD w z 0) (getD w (z + n) 0)
+        (λ c. kept (planOf bs n t) s (mayLeave s col c) z (t + 1)) (getD w z 0) (getD w (z + n) 0)
         (λ c. getD w (rowAt n block z + c) 0)
     unfolding walksAt
     entry z q = state .settled z q
@@ -171,40 +167,39 @@ module _ (bs : List ℕ) (n t : ℕ) (ok : planFault bs n t ≡ 0) (s : ℕ) whe
             sym (le-ltb 18446744073709551615 (count (shortestPaths (planOf bs n t) s z))
             (omega (arith, station-count z)))
 
-    -- (kept) Where no count is over 2^64 - 1 the settled entries are hops, counts and rows.
-    pub counted : low + block ≤ n
-        → ((z : ℕ) → z < n → count (shortestPaths (planOf bs n t) s z) ≤ 18446744073709551615)
-        → Counted bs n t s low block w
-    unfolding planOf
-    counted stations small =
-        record {
-          station-hops = at-hops;
-          station-counts = λ z q.
-              let place : n + z ≡ z + n = omega arith in
-              rw place (entry z q .entry .count
-              ∙ ap (λ h. stored (kept (planOf bs n t) s everywhere z (t + 1) h)) (at-hops z q)
-              ∙ ap stored (sym (station-count z))
-              ∙ stored-small _ (small z q));
-          rows = at-rows;
-        }
-      where
-        at-hops : (z : ℕ) → z < n → getD w z 0 ≡ hops (shortestPaths (planOf bs n t) s z)
-        at-hops z q = fewest-unique (entry z q .entry .fewest) (station-fewest z)
+    module _ (small : (z : ℕ) → z < n → count (shortestPaths (planOf bs n t) s z) ≤ 18446744073709551615) where
+      at-hops : (z : ℕ) → z < n → getD w z 0 ≡ hops (shortestPaths (planOf bs n t) s z)
+      at-hops z q = fewest-unique (entry z q .entry .fewest) (station-fewest z)
 
-        at-rows : (z c : ℕ) → z < n → c < block → low + c ≢ z → hops (shortestPaths (planOf bs n t) s z) < 65535
-            → getD w (4 * n + z * block + c) 0 + through (planOf bs n t) s z (low + c)
-            ≡ count (shortestPaths (planOf bs n t) s z)
-        at-rows z c q i d some =
-            let h = hops (shortestPaths (planOf bs n t) s z) in
-            let m = total (planOf bs n t) (avoidingSet s (eqb (low + c))) (start s) (λ y. cond (isAt z y) 1 0) h in
-            let parts : through (planOf bs n t) s z (low + c) + m ≡ count (shortestPaths (planOf bs n t) s z) =
-            ap (λ k. k + m) (through-touched (planOf bs n t) s z (low + c) (omega arith))
-            ∙ touched-avoiding bs n t ok s z (eqb (low + c)) in
-            let here = at-hops z q in
-            let fits : m < 2 ^ 64 = let few = small z q in omega arith in
-            let held : getD w (rowAt n block z + c) 0 ≡ m =
-            entry z q .row c i (omega arith)
-            ∙ ap (λ x. kept (planOf bs n t) s (avoidingSet s (eqb (low + c))) z (t + 1) x % 2 ^ 64) here
-            ∙ ap (λ x. x % 2 ^ 64) (station-avoiding z (low + c) h d)
-            ∙ mod-eq-of-lt fits in
-            omega arith
+      -- (kept) Where no count is over 2^64 - 1 the settled entries are hops and counts.
+      pub counted : Counted bs n t s 0 0 w
+      counted =
+          record {
+            station-hops = at-hops;
+            station-counts = λ z q.
+                let place : n + z ≡ z + n = omega arith in
+                rw place (entry z q .entry .count
+                ∙ ap (λ h. stored (kept (planOf bs n t) s everywhere z (t + 1) h)) (at-hops z q)
+                ∙ ap stored (sym (station-count z))
+                ∙ stored-small _ (small z q));
+            rows = λ z c q i. absurd (omega arith);
+          }
+
+      -- (kept) There a row says how many shortest paths have no station of a column inside.
+      pub counted-rows : (z c : ℕ) → z < n → c < block → col z ≢ c → hops (shortestPaths (planOf bs n t) s z) < 65535
+          → getD w (4 * n + z * block + c) 0 + touched (planOf bs n t) s z (λ v. eqb (col v) c)
+          ≡ count (shortestPaths (planOf bs n t) s z)
+      unfolding mayLeave
+      counted-rows z c q i d some =
+          let h = hops (shortestPaths (planOf bs n t) s z) in
+          let m = total (planOf bs n t) (mayLeave s col c) (start s) (λ y. cond (isAt z y) 1 0) h in
+          let parts : touched (planOf bs n t) s z (λ v. eqb (col v) c) + m ≡ count (shortestPaths (planOf bs n t) s z) =
+          touched-avoiding bs n t ok s z (λ v. eqb (col v) c) in
+          let here = at-hops z q in
+          let fits : m < 2 ^ 64 = let few = small z q in omega arith in
+          let held : getD w (rowAt n block z + c) 0 ≡ m =
+          entry z q .row c i (omega arith)
+          ∙ ap (λ x. kept (planOf bs n t) s (mayLeave s col c) z (t + 1) x % 2 ^ 64) here
+          ∙ ap (λ x. x % 2 ^ 64) (station-may (mayLeave s col c) z h (other-free s col c z d))
+          ∙ mod-eq-of-lt fits in
+          omega arith

@@ -2,13 +2,15 @@
 mod RowLaws
 mod EntryLaws
 mod PlaceLaws
--- an entry against sequences of numbers of walks, every place after a change, and the state of the work area
+-- an entry against sequences of numbers of walks, columns, every place after a change, and the state of the work area
 mod BestLaws
+mod ColumnLaws
 mod TookLaws
 mod StateLaws
 mod SettleLaws
--- the sequences of a plan, the beginning and the end of the pass, and its loop
+-- the sequences of a plan, the beginning and the end of the pass, its loop and its two uses
 mod PlanWalks
 mod BeginLaws
 mod EndLaws
 mod PassLaws
+mod UseLaws

@@ -26,14 +26,17 @@ use Rattle.plan.proofs.SlotLaws.{in-slot-inv, in-slot-none}
 use Rattle.entries.proofs.HopLaws.{few-slots}
 use Rattle.pass.specs.Entry.{areaOverflows}
 use Rattle.pass.specs.Sweep.{foldedArea, sweepOf, settledFrom, begunArea, Area, FoldableArea}
-use Rattle.pass.specs.Passed.{areaSize, PassReady, Passed}
+use Rattle.pass.specs.Passed.{areaSize}
+use Rattle.pass.specs.PassedColumns.{ColumnsReady, ColumnsPassed}
 use Rattle.pass.proofs.PlaceLaws.{area-kept}
+use Rattle.pass.proofs.ColumnLaws.{mayLeave, source-free}
 use Rattle.pass.proofs.StateLaws.{AreaState}
 use Rattle.pass.proofs.SettleLaws.{SomeLarge, settled-all, settled-over, settled-within}
 use Rattle.pass.proofs.PlanWalks.{walksAt, folded-state, settles-slot, arrived}
-use Rattle.pass.proofs.BeginLaws.{begun-state}
+use Rattle.pass.proofs.BeginLaws.{begun-length, begun-state}
 use Rattle.pass.proofs.EndLaws.{appearance-small, appearance-large, start-small}
 use Rattle.pass.proofs.EndLaws.{too-many-appearance, too-many-station, station-overflows, counted}
+use Rattle.pass.proofs.EndLaws.{counted-rows}
 
 -- lists that agree from k on
 drop-same : (k : ℕ) (a b : List ℕ) → length a ≡ length b → ((i : ℕ) → k ≤ i → getD a i 0 ≡ getD b i 0)
@@ -53,200 +56,205 @@ record Position (bs : List ℕ) (u j : ℕ) : Type 0 where
 -- ---- the loop
 
 -- The pass is in slot u, at position j: the work area holds the walks, and no appearance of a slot before has too many.
-pub record Passing (bs : List ℕ) (n t s low block : ℕ) (old : List ℕ) (u j : ℕ) (w : List ℕ) : Type 0 where
+pub record Passing (bs : List ℕ) (n t s : ℕ) (col : ℕ → ℕ) (block : ℕ) (old : List ℕ) (u j : ℕ) (w : List ℕ) : Type 0 where
   from-one : 0 < u
   pub last : u ≤ t + 1
   position : Position bs u j
-  state : AreaState n block old (walksAt (planOf bs n t) s low u j) w
+  state : AreaState n block old (walksAt (planOf bs n t) s (mayLeave s col) u j) w
   small : (v x : ℕ) → v < n → x < u → count (shortestWalks (planOf bs n t) s v x) ≤ 18446744073709551615
 
 -- an area that is ready
-pub ready-area : (bs : List ℕ) (n t s low block : ℕ) (w : List ℕ) → PassReady bs n t s low block w → Area n block w
-ready-area bs n t s low block w r =
+pub ready-area : (bs : List ℕ) (n t s block : ℕ) (w : List ℕ) → ColumnsReady bs n t s block w → Area n block w
+ready-area bs n t s block w r =
     record { some = accepted bs n t (r .accepted) .some-station; fits = r .fits }
 
-module _ (bs : List ℕ) (n t s low block : ℕ) (old : List ℕ) (ready : PassReady bs n t s low block old) where
-  ok : planFault bs n t ≡ 0
-  ok = ready .accepted
+module _ (bs : List ℕ) (n t s : ℕ) (col : ℕ → ℕ) (block : ℕ) (old : List ℕ) (ready : ColumnsReady bs n t s block old)
+  where
+    ok : planFault bs n t ≡ 0
+    ok = ready .accepted
 
-  area : Area n block old
-  area = ready-area bs n t s low block old ready
+    area : Area n block old
+    area = ready-area bs n t s block old ready
 
-  -- the work area fits
-  pub passing-area : (u j : ℕ) (w : List ℕ) → Passing bs n t s low block old u j w → Area n block w
-  passing-area u j w x = area-kept area (x .state .same)
+    -- the work area fits
+    pub passing-area : (u j : ℕ) (w : List ℕ) → Passing bs n t s col block old u j w → Area n block w
+    passing-area u j w x = area-kept area (x .state .same)
 
-  -- its length is kept
-  pub passing-length : (u j : ℕ) (w : List ℕ) → Passing bs n t s low block old u j w → length w ≡ length old
-  passing-length u j w x = x .state .same
+    -- its length is kept
+    pub passing-length : (u j : ℕ) (w : List ℕ) → Passing bs n t s col block old u j w → length w ≡ length old
+    passing-length u j w x = x .state .same
 
-  module _ (u j : ℕ) (w : List ℕ) (x : Passing bs n t s low block old u j w) where
-    -- a record of the slot can be folded in
-    pub passing-foldable : inSlot bs j u ≡ true → FoldableArea bs n block j w
-    passing-foldable e =
-        let (there, slot) = in-slot-inv bs j u e in
-        let whole = accepted bs n t ok .whole in
-        let c = accepted bs n t ok .contact j there in
-        let ends = c .ends in
-        let station = c .station in
-        record { inside = omega arith; a-station = omega arith; b-station = station; area = passing-area u j w x }
+    module _ (u j : ℕ) (w : List ℕ) (x : Passing bs n t s col block old u j w) where
+      -- a record of the slot can be folded in
+      pub passing-foldable : inSlot bs j u ≡ true → FoldableArea bs n block j w
+      passing-foldable e =
+          let (there, slot) = in-slot-inv bs j u e in
+          let whole = accepted bs n t ok .whole in
+          let c = accepted bs n t ok .contact j there in
+          let ends = c .ends in
+          let station = c .station in
+          record { inside = omega arith; a-station = omega arith; b-station = station; area = passing-area u j w x }
 
-    -- and then the pass is one position further
-    pub passing-fold : inSlot bs j u ≡ true
-        → Passing bs n t s low block old u (j + 1) (foldedArea n block w (contactAt bs j))
-    unfolding planOf
-    passing-fold e =
-        let (there, slot) = in-slot-inv bs j u e in
-        let c = accepted bs n t ok .contact j there in
-        let ends = c .ends in
-        let station = c .station in
-        let most = accepted bs n t ok .slots in
-        record {
-          from-one = x .from-one;
-          last = x .last;
-          position = record {
-            within = omega arith;
-            done = λ i q. by-cases (ℕ-discrete i j) (λ same. rw same (omega arith))
-                (λ d. x .position .done i (omega arith));
-            ahead = λ i from q. x .position .ahead i (omega arith) q;
-          };
-          state = folded-state (planOf bs n t) (slots-within bs n t ok) most s low n block old area u j
-              (contactAt bs j) w (contact-there bs n t j there) slot (omega arith) station (omega arith) (x .state);
-          small = x .small;
-        }
-
-    module _ (e : inSlot bs j u ≡ false) where
-      ahead : (i : ℕ) → j ≤ i → i < records bs → u < contactAt bs i .slot
-      ahead i from q =
-          let up : j + (i - j) ≡ i = omega arith in
-          let rise = rw up at (slots-sorted bs n t ok j (i - j) (omega arith)) in
-          let here = x .position .ahead j (omega arith) (omega arith) in
-          let other = in-slot-none bs j u e (omega arith) in
-          omega arith
-
-      past : (i : ℕ) (c : Contact) → j ≤ i → getElem? (planOf bs n t .contacts) i ≡ present c → c .slot ≢ u
-      past i c from there same =
-          let (inside, is) = contact-inv bs n t i c there in
-          let later = ahead i from inside in
-          let slot : contactAt bs i .slot ≡ u = ap (λ d. d .slot) is ∙ same in
-          omega arith
-
-      done : (i : ℕ) (c : Contact) → i < j → getElem? (planOf bs n t .contacts) i ≡ present c → c .slot ≢ suc u
-      done i c below there same =
-          let (inside, is) = contact-inv bs n t i c there in
-          let sooner = x .position .done i below in
-          let slot : contactAt bs i .slot ≡ suc u = ap (λ d. d .slot) is ∙ same in
-          omega arith
-
-      within : j ≤ length (planOf bs n t .contacts)
-      within = let q = x .position .within in let same = contacts-length bs n t in omega arith
-
-      settled : AreaState n block old (walksAt (planOf bs n t) s low (suc u) j)
-          (settledFrom n block s low (sweepOf false w) 0 n .work)
-      settled =
-          settled-all n block old area s low (walksAt (planOf bs n t) s low u j)
-          (walksAt (planOf bs n t) s low (suc u) j)
-          (settles-slot (planOf bs n t) s low u j (x .from-one) past done within) w (x .state)
-
-      slot-small : settledFrom n block s low (sweepOf false w) 0 n .over ≡ false → (v : ℕ) → v < n
-          → count (shortestWalks (planOf bs n t) s v u) ≤ 18446744073709551615
-      unfolding walksAt
-      slot-small none v q =
-          appearance-small (planOf bs n t) (slots-within bs n t ok) (few-slots bs n t ok) s v u
-          (arrived (planOf bs n t) s low u j (x .from-one) past done within everywhere v)
-          (settled-within n block old area s low (walksAt (planOf bs n t) s low u j)
-          (walksAt (planOf bs n t) s low (suc u) j)
-          (settles-slot (planOf bs n t) s low u j (x .from-one) past done within) w (x .state) none v q)
-
-      -- a slot with no record left is settled, and the pass is one slot further
-      pub passing-settle : (r : Bool) (w′ : List ℕ) → u ≤ t → r ≡ false
-          → sweepOf r w′ ≡ settledFrom n block s low (sweepOf false w) 0 n
-          → Passing bs n t s low block old (u + 1) j w′
-      passing-settle r w′ more none out =
+      -- and then the pass is one position further
+      pub passing-fold : inSlot bs j u ≡ true
+          → Passing bs n t s col block old u (j + 1) (foldedArea n block w (contactAt bs j))
+      unfolding planOf
+      passing-fold e =
+          let (there, slot) = in-slot-inv bs j u e in
+          let c = accepted bs n t ok .contact j there in
+          let ends = c .ends in
+          let station = c .station in
+          let most = accepted bs n t ok .slots in
           record {
-            from-one = omega arith;
-            last = omega arith;
+            from-one = x .from-one;
+            last = x .last;
             position = record {
-              within = x .position .within;
-              done = λ i q. let h = x .position .done i q in omega arith;
-              ahead = λ i from q. let h = ahead i from q in omega arith;
+              within = omega arith;
+              done = λ i q. by-cases (ℕ-discrete i j) (λ same. rw same (omega arith))
+                  (λ d. x .position .done i (omega arith));
+              ahead = λ i from q. x .position .ahead i (omega arith) q;
             };
-            state = rw (add-one, ap (λ z. z .work) out) settled;
-            small = λ v y q below. by-cases (ℕ-discrete y u)
-                (λ same. rw same (slot-small (sym (ap (λ z. z .over) out) ∙ none) v q))
-                (λ d. x .small v y q (omega arith));
+            state = folded-state (planOf bs n t) (slots-within bs n t ok) most s (mayLeave s col) n block old area u j
+                (contactAt bs j) w (contact-there bs n t j there) slot (omega arith) station (omega arith) (x .state);
+            small = x .small;
           }
 
-      -- a large pending sequence is a cause of refusal, and nothing past the area is touched
-      pub passed-over : (r : Bool) (w′ : List ℕ) → u ≤ t → r ≡ true
-          → sweepOf r w′ ≡ settledFrom n block s low (sweepOf false w) 0 n
-          → Passed bs n t s low block old w′ true
-      unfolding walksAt
-      passed-over r w′ more some out =
-          record {
-            too-many = sym (too-many-appearance bs n t ok s (large .station) u (large .inside) more
-                (appearance-large (planOf bs n t) (slots-within bs n t ok) (few-slots bs n t ok) s (large .station) u
-                (arrived (planOf bs n t) s low u j (x .from-one) past done within everywhere (large .station))
-                (large .large)));
-            counted = λ q. let z : _≡_ {A = ℕ} 0 1 = cc in absurd (omega arith);
-            beyond = drop-same (areaSize n block) w′ old kept (λ i q. rw (ap (λ z. z .work) out) (settled .beyond i q));
-            same-length = kept;
-          }
-        where
-          large : SomeLarge n (walksAt (planOf bs n t) s low u j)
-          large =
-              settled-over n block old area s low (walksAt (planOf bs n t) s low u j)
-              (walksAt (planOf bs n t) s low (suc u) j)
-              (settles-slot (planOf bs n t) s low u j (x .from-one) past done within) w (x .state)
-              (sym (ap (λ z. z .over) out) ∙ some)
+      module _ (e : inSlot bs j u ≡ false) where
+        ahead : (i : ℕ) → j ≤ i → i < records bs → u < contactAt bs i .slot
+        ahead i from q =
+            let up : j + (i - j) ≡ i = omega arith in
+            let rise = rw up at (slots-sorted bs n t ok j (i - j) (omega arith)) in
+            let here = x .position .ahead j (omega arith) (omega arith) in
+            let other = in-slot-none bs j u e (omega arith) in
+            omega arith
 
-          kept : length w′ ≡ length old
-          kept = ap (λ z. length (z .work)) out ∙ settled .same
+        past : (i : ℕ) (c : Contact) → j ≤ i → getElem? (planOf bs n t .contacts) i ≡ present c → c .slot ≢ u
+        past i c from there same =
+            let (inside, is) = contact-inv bs n t i c there in
+            let later = ahead i from inside in
+            let slot : contactAt bs i .slot ≡ u = ap (λ d. d .slot) is ∙ same in
+            omega arith
 
-  -- past the last slot the stations' counts are looked at
-  pub passed-end : (u j : ℕ) (w : List ℕ) (r : Bool) → Passing bs n t s low block old u j w → t < u
-      → r ≡ any (areaOverflows n w) (below n)
-      → Passed bs n t s low block old w r
-  passed-end u j w r x past e =
-      record {
-        too-many = e ∙ too-many-station bs n t ok s (areaOverflows n w) (λ v y q h. x .small v y q (omega arith)) exact;
-        counted = λ q. counted bs n t ok s low block old w j state (ready .stations) (λ z h.
+        done : (i : ℕ) (c : Contact) → i < j → getElem? (planOf bs n t .contacts) i ≡ present c → c .slot ≢ suc u
+        done i c below there same =
+            let (inside, is) = contact-inv bs n t i c there in
+            let sooner = x .position .done i below in
+            let slot : contactAt bs i .slot ≡ suc u = ap (λ d. d .slot) is ∙ same in
+            omega arith
+
+        within : j ≤ length (planOf bs n t .contacts)
+        within = let q = x .position .within in let same = contacts-length bs n t in omega arith
+
+        settled : AreaState n block old (walksAt (planOf bs n t) s (mayLeave s col) (suc u) j)
+            (settledFrom n block s col (sweepOf false w) 0 n .work)
+        settled =
+            settled-all n block old area s col (walksAt (planOf bs n t) s (mayLeave s col) u j)
+            (walksAt (planOf bs n t) s (mayLeave s col) (suc u) j)
+            (settles-slot (planOf bs n t) s (mayLeave s col) u j (x .from-one) past done within) w (x .state)
+
+        slot-small : settledFrom n block s col (sweepOf false w) 0 n .over ≡ false → (v : ℕ) → v < n
+            → count (shortestWalks (planOf bs n t) s v u) ≤ 18446744073709551615
+        unfolding walksAt
+        slot-small none v q =
+            appearance-small (planOf bs n t) (slots-within bs n t ok) (few-slots bs n t ok) s v u
+            (arrived (planOf bs n t) s (mayLeave s col) u j (x .from-one) past done within everywhere v)
+            (settled-within n block old area s col (walksAt (planOf bs n t) s (mayLeave s col) u j)
+            (walksAt (planOf bs n t) s (mayLeave s col) (suc u) j)
+            (settles-slot (planOf bs n t) s (mayLeave s col) u j (x .from-one) past done within) w (x .state) none v q)
+
+        -- a slot with no record left is settled, and the pass is one slot further
+        pub passing-settle : (r : Bool) (w′ : List ℕ) → u ≤ t → r ≡ false
+            → sweepOf r w′ ≡ settledFrom n block s col (sweepOf false w) 0 n
+            → Passing bs n t s col block old (u + 1) j w′
+        passing-settle r w′ more none out =
+            record {
+              from-one = omega arith;
+              last = omega arith;
+              position = record {
+                within = x .position .within;
+                done = λ i q. let h = x .position .done i q in omega arith;
+                ahead = λ i from q. let h = ahead i from q in omega arith;
+              };
+              state = rw (add-one, ap (λ z. z .work) out) settled;
+              small = λ v y q below. by-cases (ℕ-discrete y u)
+                  (λ same. rw same (slot-small (sym (ap (λ z. z .over) out) ∙ none) v q))
+                  (λ d. x .small v y q (omega arith));
+            }
+
+        -- a large pending sequence is a cause of refusal, and nothing past the area is touched
+        pub passed-over : (r : Bool) (w′ : List ℕ) → u ≤ t → r ≡ true
+            → sweepOf r w′ ≡ settledFrom n block s col (sweepOf false w) 0 n
+            → ColumnsPassed bs n t s col block old w′ true
+        unfolding walksAt
+        passed-over r w′ more some out =
+            record {
+              too-many = sym (too-many-appearance bs n t ok s (large .station) u (large .inside) more
+                  (appearance-large (planOf bs n t) (slots-within bs n t ok) (few-slots bs n t ok) s (large .station) u
+                  (arrived (planOf bs n t) s (mayLeave s col) u j (x .from-one) past done within everywhere (large .station))
+                  (large .large)));
+              counted = λ q. let z : _≡_ {A = ℕ} 0 1 = cc in absurd (omega arith);
+              rows = λ q. let z : _≡_ {A = ℕ} 0 1 = cc in absurd (omega arith);
+              beyond = drop-same (areaSize n block) w′ old kept (λ i q. rw (ap (λ z. z .work) out) (settled .beyond i q));
+              same-length = kept;
+            }
+          where
+            large : SomeLarge n (walksAt (planOf bs n t) s (mayLeave s col) u j)
+            large =
+                settled-over n block old area s col (walksAt (planOf bs n t) s (mayLeave s col) u j)
+                (walksAt (planOf bs n t) s (mayLeave s col) (suc u) j)
+                (settles-slot (planOf bs n t) s (mayLeave s col) u j (x .from-one) past done within) w (x .state)
+                (sym (ap (λ z. z .over) out) ∙ some)
+
+            kept : length w′ ≡ length old
+            kept = ap (λ z. length (z .work)) out ∙ settled .same
+
+    -- past the last slot the stations' counts are looked at
+    pub passed-end : (u j : ℕ) (w : List ℕ) (r : Bool) → Passing bs n t s col block old u j w → t < u
+        → r ≡ any (areaOverflows n w) (below n)
+        → ColumnsPassed bs n t s col block old w r
+    passed-end u j w r x past e =
+        record {
+          too-many = e ∙ too-many-station bs n t ok s (areaOverflows n w) (λ v y q h. x .small v y q (omega arith)) exact;
+          counted = λ q. counted bs n t ok s col block old w j state (small q);
+          rows = λ q. counted-rows bs n t ok s col block old w j state (small q);
+          beyond = drop-same (areaSize n block) w old (state .same) (state .beyond);
+          same-length = state .same;
+        }
+      where
+        state : AreaState n block old (walksAt (planOf bs n t) s (mayLeave s col) (t + 1) j) w
+        state =
+            let end : u ≡ t + 1 = let l = x .last in omega arith in
+            subst (λ y. AreaState n block old (walksAt (planOf bs n t) s (mayLeave s col) y j) w) end (x .state)
+
+        exact : (z : ℕ) → z < n → areaOverflows n w z ≡ ltb 18446744073709551615 (count (shortestPaths (planOf bs n t) s z))
+        exact = station-overflows bs n t ok s col block old w j state
+
+        small : r ≡ false → (z : ℕ) → z < n → count (shortestPaths (planOf bs n t) s z) ≤ 18446744073709551615
+        small q z h =
             ltb-false 18446744073709551615 (count (shortestPaths (planOf bs n t) s z))
-            (sym (exact z h) ∙ any-false (areaOverflows n w) (below n) .0 (sym e ∙ q) z (mem-below n .1 h)));
-        beyond = drop-same (areaSize n block) w old (state .same) (state .beyond);
-        same-length = state .same;
-      }
-    where
-      state : AreaState n block old (walksAt (planOf bs n t) s low (t + 1) j) w
-      state =
-          let end : u ≡ t + 1 = let l = x .last in omega arith in
-          subst (λ y. AreaState n block old (walksAt (planOf bs n t) s low y j) w) end (x .state)
-
-      exact : (z : ℕ) → z < n → areaOverflows n w z ≡ ltb 18446744073709551615 (count (shortestPaths (planOf bs n t) s z))
-      exact = station-overflows bs n t ok s low block old w j state
+            (sym (exact z h) ∙ any-false (areaOverflows n w) (below n) .0 (sym e ∙ q) z (mem-below n .1 h))
 
 -- ---- the beginning is not the work area at entry
 
-module _ (bs : List ℕ) (n t s low block : ℕ) (old begins : List ℕ) (ready : PassReady bs n t s low block old)
-    (is : begins ≡ begunArea n block old s) where
-  state-begun : AreaState n block old (walksAt (planOf bs n t) s low 1 0) begins
+-- the work area at the beginning is as ready as at entry
+pub ready-begun : (bs : List ℕ) (n t s block : ℕ) (old begins : List ℕ) → ColumnsReady bs n t s block old
+    → begins ≡ begunArea n block old s
+    → ColumnsReady bs n t s block begins
+ready-begun bs n t s block old begins ready is =
+    let fits = ready .fits in
+    let same = begun-length n block old s (ready-area bs n t s block old ready) (ready .source) in
+    record { accepted = ready .accepted; source = ready .source; fits = rw is (omega arith) }
+
+module _ (bs : List ℕ) (n t s : ℕ) (col : ℕ → ℕ) (block : ℕ) (old begins : List ℕ)
+    (ready : ColumnsReady bs n t s block old) (is : begins ≡ begunArea n block old s) where
+  state-begun : AreaState n block old (walksAt (planOf bs n t) s (mayLeave s col) 1 0) begins
   state-begun =
       rw is
-      (begun-state (planOf bs n t) s low n block old (ready-area bs n t s low block old ready) (ready .source))
-
-  -- the work area at the beginning is as ready as at entry
-  pub ready-begun : PassReady bs n t s low block begins
-  ready-begun =
-      let fits = ready .fits in
-      record {
-        accepted = ready .accepted;
-        source = ready .source;
-        stations = ready .stations;
-        fits = let same = state-begun .same in omega arith;
-      }
+      (begun-state (planOf bs n t) s (mayLeave s col) n block old (source-free s col)
+      (ready-area bs n t s block old ready) (ready .source))
 
   -- at the beginning the pass is in slot 1, at position 0
-  pub passing-begun : Passing bs n t s low block begins 1 0 begins
+  pub passing-begun : Passing bs n t s col block begins 1 0 begins
   passing-begun =
       record {
         from-one = omega arith;
@@ -269,12 +277,13 @@ module _ (bs : List ℕ) (n t s low block : ℕ) (old begins : List ℕ) (ready 
       }
 
   -- what is promised from there on is promised from the entry on
-  pub passed-entry : (new : List ℕ) (r : Bool) → Passed bs n t s low block begins new r
-      → Passed bs n t s low block old new r
+  pub passed-entry : (new : List ℕ) (r : Bool) → ColumnsPassed bs n t s col block begins new r
+      → ColumnsPassed bs n t s col block old new r
   passed-entry new r x =
       record {
         too-many = x .too-many;
         counted = x .counted;
+        rows = x .rows;
         beyond = x .beyond ∙ drop-same (areaSize n block) begins old (state-begun .same) (state-begun .beyond);
         same-length = x .same-length ∙ state-begun .same;
       }

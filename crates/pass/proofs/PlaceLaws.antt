@@ -101,37 +101,32 @@ folded-twice bs n block j w one two r e first second =
 
 -- ---- a mask
 
-module _ (n block s low : ℕ) (w : List ℕ) (v : ℕ) where
-  -- the source keeps its own column
-  pub masked-source : v ≡ s → masked n block s low w v ≡ w
+module _ (n block s : ℕ) (col : ℕ → ℕ) (w : List ℕ) (v : ℕ) where
+  -- the source keeps its column
+  pub masked-source : v ≡ s → masked n block s col w v ≡ w
   unfolding masked
   masked-source e = rw (eq-eqb v s e)
 
-  -- a station below the block has none
-  pub masked-below : v ≢ s → v < low → masked n block s low w v ≡ w
+  -- a station for which no column stands has none
+  pub masked-none : v ≢ s → block ≤ col v → masked n block s col w v ≡ w
   unfolding masked
-  masked-below d h = rw (ne-eqb v s d, lt-ltb v low h)
+  masked-none d past = rw (ne-eqb v s d, le-ltb (col v) block past)
 
-  -- a station above the block has none
-  pub masked-above : v ≢ s → low ≤ v → block ≤ v - low → masked n block s low w v ≡ w
+  -- any other has one, and it becomes 0
+  pub masked-own : (row j : ℕ) → row ≡ rowAt n block v → j ≡ col v → v ≢ s → j < block
+      → set w (row + j) 0 ≡ masked n block s col w v
   unfolding masked
-  masked-above d h past = rw (ne-eqb v s d, le-ltb v low h, le-ltb (v - low) block past)
-
-  -- any other has it, and it becomes 0
-  pub masked-own : (row : ℕ) → row ≡ rowAt n block v → v ≢ s → low ≤ v → v - low < block
-      → set w (row + (v - low)) 0 ≡ masked n block s low w v
-  unfolding masked
-  masked-own row e d h inside = rw (ne-eqb v s d, le-ltb v low h, lt-ltb (v - low) block inside, e)
+  masked-own row j e c d inside = rw (ne-eqb v s d, lt-ltb (col v) block (omega arith), e, c)
 
 -- ---- settling
 
-module _ (n block s low : ℕ) (w : List ℕ) (v : ℕ) where
+module _ (n block s : ℕ) (col : ℕ → ℕ) (w : List ℕ) (v : ℕ) where
   -- something is pending
   settled-some : (row from : ℕ) (one two : List ℕ) → row ≡ rowAt n block v → from ≡ rowAt n block (n + v)
       → getD w (2 * n + v) 0 < 65535
       → one ≡ absorbed n block w v row from (getD w (2 * n + v) 0) (getD w (2 * n + v + n) 0)
-      → two ≡ masked n block s low one v
-      → set (set two (2 * n + v) 65535) (2 * n + v + n) 0 ≡ settledOne n block s low w v
+      → two ≡ masked n block s col one v
+      → set (set two (2 * n + v) 65535) (2 * n + v + n) 0 ≡ settledOne n block s col w v
   unfolding settledOne
   settled-some row from one two a b some first second =
       rw (lt-ltb (getD w (2 * n + v) 0) 65535 some, second, first, a, b)
@@ -140,9 +135,9 @@ module _ (n block s low : ℕ) (w : List ℕ) (v : ℕ) where
   pub settled-over : (over : Bool) (row from : ℕ) (one two : List ℕ) → row ≡ rowAt n block v
       → from ≡ rowAt n block (n + v) → getD w (2 * n + v) 0 < 65535
       → one ≡ absorbed n block w v row from (getD w (2 * n + v) 0) (getD w (2 * n + v + n) 0)
-      → two ≡ masked n block s low one v
+      → two ≡ masked n block s col one v
       → getD w (2 * n + v + n) 0 ≡ 0
-      → sweepOf true (set (set two (2 * n + v) 65535) (2 * n + v + n) 0) ≡ settledNext n block s low (sweepOf over w) v
+      → sweepOf true (set (set two (2 * n + v) 65535) (2 * n + v + n) 0) ≡ settledNext n block s col (sweepOf over w) v
   unfolding settledNext
   settled-over over row from one two a b some first second big =
       rw (overflows-some (getD w (2 * n + v) 0) (getD w (2 * n + v + n) 0) some, eq-eqb (getD w (2 * n + v + n) 0) 0 big, or-true over)
@@ -152,9 +147,9 @@ module _ (n block s low : ℕ) (w : List ℕ) (v : ℕ) where
   pub settled-within : (over : Bool) (row from : ℕ) (one two : List ℕ) → row ≡ rowAt n block v
       → from ≡ rowAt n block (n + v) → getD w (2 * n + v) 0 < 65535
       → one ≡ absorbed n block w v row from (getD w (2 * n + v) 0) (getD w (2 * n + v + n) 0)
-      → two ≡ masked n block s low one v
+      → two ≡ masked n block s col one v
       → getD w (2 * n + v + n) 0 ≢ 0
-      → sweepOf over (set (set two (2 * n + v) 65535) (2 * n + v + n) 0) ≡ settledNext n block s low (sweepOf over w) v
+      → sweepOf over (set (set two (2 * n + v) 65535) (2 * n + v + n) 0) ≡ settledNext n block s col (sweepOf over w) v
   unfolding settledNext
   settled-within over row from one two a b some first second small =
       rw (overflows-some (getD w (2 * n + v) 0) (getD w (2 * n + v + n) 0) some, ne-eqb (getD w (2 * n + v + n) 0) 0 small, or-false over)
@@ -162,44 +157,44 @@ module _ (n block s low : ℕ) (w : List ℕ) (v : ℕ) where
 
   -- nothing is pending
   pub settled-none : (over : Bool) → 65535 ≤ getD w (2 * n + v) 0
-      → sweepOf over w ≡ settledNext n block s low (sweepOf over w) v
+      → sweepOf over w ≡ settledNext n block s col (sweepOf over w) v
   unfolding settledNext settledOne
   settled-none over none =
       rw (overflows-none (getD w (2 * n + v) 0) (getD w (2 * n + v + n) 0) none, or-false over, le-ltb (getD w (2 * n + v) 0) 65535 none)
 
 -- the stations below v of n are settled
-pub record SettlingArea (n block s low : ℕ) (old : List ℕ) (v : ℕ) (over : Bool) (now : List ℕ) : Type 0 where
+pub record SettlingArea (n block s : ℕ) (col : ℕ → ℕ) (old : List ℕ) (v : ℕ) (over : Bool) (now : List ℕ) : Type 0 where
   pub within : v ≤ n
   pub same : length now ≡ length old
-  pub rest : settledFrom n block s low (sweepOf over now) v (n - v) ≡ settledFrom n block s low (sweepOf false old) 0 n
+  pub rest : settledFrom n block s col (sweepOf over now) v (n - v) ≡ settledFrom n block s col (sweepOf false old) 0 n
 
-module _ (n block s low : ℕ) (old : List ℕ) where
+module _ (n block s : ℕ) (col : ℕ → ℕ) (old : List ℕ) where
   -- at first no station is settled
-  pub settling-none : SettlingArea n block s low old 0 false old
+  pub settling-none : SettlingArea n block s col old 0 false old
   settling-none =
       let same : n - 0 ≡ n = omega arith in
-      record { within = omega arith; same = refl; rest = ap (settledFrom n block s low (sweepOf false old) 0) same }
+      record { within = omega arith; same = refl; rest = ap (settledFrom n block s col (sweepOf false old) 0) same }
 
   -- one station more
-  pub settling-more : (v : ℕ) (over over′ : Bool) (now now′ : List ℕ) → v < n → SettlingArea n block s low old v over now
-      → length now′ ≡ length now → sweepOf over′ now′ ≡ settledNext n block s low (sweepOf over now) v
-      → SettlingArea n block s low old (v + 1) over′ now′
+  pub settling-more : (v : ℕ) (over over′ : Bool) (now now′ : List ℕ) → v < n → SettlingArea n block s col old v over now
+      → length now′ ≡ length now → sweepOf over′ now′ ≡ settledNext n block s col (sweepOf over now) v
+      → SettlingArea n block s col old (v + 1) over′ now′
   unfolding settledFrom
   settling-more v over over′ now now′ h x kept e =
       let more : n - v ≡ suc (n - (v + 1)) = omega arith in
       record {
         within = omega arith;
         same = kept ∙ x .same;
-        rest = rw e (sym (ap (settledFrom n block s low (sweepOf over now) v) more) ∙ x .rest);
+        rest = rw e (sym (ap (settledFrom n block s col (sweepOf over now) v) more) ∙ x .rest);
       }
 
   -- at last all are
-  pub settling-all : (v : ℕ) (over : Bool) (now : List ℕ) → n ≤ v → SettlingArea n block s low old v over now
-      → sweepOf over now ≡ settledFrom n block s low (sweepOf false old) 0 n
+  pub settling-all : (v : ℕ) (over : Bool) (now : List ℕ) → n ≤ v → SettlingArea n block s col old v over now
+      → sweepOf over now ≡ settledFrom n block s col (sweepOf false old) 0 n
   unfolding settledFrom
   settling-all v over now h x =
       let none : n - v ≡ 0 = omega arith in
-      sym (ap (settledFrom n block s low (sweepOf over now) v) none) ∙ x .rest
+      sym (ap (settledFrom n block s col (sweepOf over now) v) none) ∙ x .rest
 
 -- ---- the beginning
 

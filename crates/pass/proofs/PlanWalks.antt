@@ -1,5 +1,5 @@
 -- The sequences that the pass keeps: walks from a source by their hops, settled before a slot and pending in it, all of
--- them and those that avoid a station of the block. A contact more and a slot more, by the recurrence.
+-- them and, by column, those that keep to the column's permission. A contact more and a slot more, by the recurrence.
 -- Assumes nothing.
 use Prim.Native.Nat.{ℕ, suc, _+_, _<_, _≤_}
 use native.Mathlib.Omega.{arith}
@@ -21,7 +21,6 @@ use Rattle.counting.proofs.Fewest.{Fewest, plus, delayed}
 use Rattle.counting.proofs.Recurrence.{before, atAppearance, arrivals, arrivals-suc, inflow-to-a, inflow-to-b}
 use Rattle.counting.proofs.Recurrence.{inflow-other-station, arrivals-same, arrivals-zero, arrivals-all, settle}
 use Rattle.counting.proofs.Recurrence.{arrivals-less}
-use Rattle.counting.proofs.Through.{avoidingSet}
 use Rattle.entries.proofs.HopLaws.{walks-few}
 use Rattle.pass.specs.Sweep.{sentArea, foldedArea, Area}
 use Rattle.pass.proofs.StateLaws.{Walks, Sound, AreaState, sent-state, delayed-less}
@@ -31,14 +30,14 @@ use Rattle.pass.proofs.SettleLaws.{Settles}
 unfoldable pub kept : Plan → ℕ → (ℕ → Bool) → ℕ → ℕ → ℕ → ℕ
 kept p s g v u k = cond (g v) (total p g (start s) (before p v u) k) 0
 
--- before slot u, with the contacts below position j folded in
-unfoldable pub walksAt : Plan → ℕ → ℕ → ℕ → ℕ → Walks
-walksAt p s low u j =
+-- before slot u, with the contacts below position j folded in; a walk of column c may go on from v where may c v
+unfoldable pub walksAt : Plan → ℕ → (ℕ → ℕ → Bool) → ℕ → ℕ → Walks
+walksAt p s may u j =
     record {
       settled = λ v. kept p s everywhere v u;
-      settled-avoiding = λ v c. kept p s (avoidingSet s (eqb (low + c))) v u;
+      settled-avoiding = λ v c. kept p s (may c) v u;
       pending = λ v. arrivals p s everywhere j v u;
-      pending-avoiding = λ v c. arrivals p s (avoidingSet s (eqb (low + c))) j v u;
+      pending-avoiding = λ v c. arrivals p s (may c) j v u;
     }
 
 -- ---- a contact's first half
@@ -48,13 +47,13 @@ unfoldable half : Plan → ℕ → (ℕ → Bool) → ℕ → Contact → ℕ �
 half p s g j c u v k =
     cond (eqb v (c .b)) (plus (arrivals p s g j v u) (delayed (kept p s g (c .a) u)) k) (arrivals p s g j v u k)
 
-unfoldable walksHalf : Plan → ℕ → ℕ → ℕ → ℕ → Contact → Walks
-walksHalf p s low u j c =
+unfoldable walksHalf : Plan → ℕ → (ℕ → ℕ → Bool) → ℕ → ℕ → Contact → Walks
+walksHalf p s may u j c =
     record {
       settled = λ v. kept p s everywhere v u;
-      settled-avoiding = λ v x. kept p s (avoidingSet s (eqb (low + x))) v u;
+      settled-avoiding = λ v x. kept p s (may x) v u;
       pending = half p s everywhere j c u;
-      pending-avoiding = λ v x. half p s (avoidingSet s (eqb (low + x))) j c u v;
+      pending-avoiding = λ v x. half p s (may x) j c u v;
     }
 
 module _ (p : Plan) (s : ℕ) (g : ℕ → Bool) (j : ℕ) (c : Contact) (u : ℕ) where
@@ -82,7 +81,7 @@ module _ (p : Plan) (s : ℕ) (g : ℕ → Bool) (j : ℕ) (c : Contact) (u : �
         (λ o. sym (half-other v k o)
         ∙ rw (add-one, arrivals-suc p s g j there v u k, inflow-other-station p s g c v u k d o) (omega arith))
 
--- ---- those that avoid a station are no more
+-- ---- those under a permission are no more
 
 wider : (g : ℕ → Bool) (v : ℕ) → g v ≡ true → everywhere v ≡ true
 unfolding everywhere
@@ -104,20 +103,20 @@ half-less p s g j c u v k =
     go true h l = omega arith
     go false h l = h
 
-sound-at : (p : Plan) (s low u j : ℕ) → Sound (walksAt p s low u j)
+sound-at : (p : Plan) (s : ℕ) (may : ℕ → ℕ → Bool) (u j : ℕ) → Sound (walksAt p s may u j)
 unfolding walksAt
-sound-at p s low u j =
+sound-at p s may u j =
     record {
-      settled = λ v c k. kept-less p s (avoidingSet s (eqb (low + c))) v u k;
-      pending = λ v c k. arrivals-less p s (avoidingSet s (eqb (low + c))) everywhere (wider (avoidingSet s (eqb (low + c)))) j v u k;
+      settled = λ v c k. kept-less p s (may c) v u k;
+      pending = λ v c k. arrivals-less p s (may c) everywhere (wider (may c)) j v u k;
     }
 
-sound-half : (p : Plan) (s low u j : ℕ) (c : Contact) → Sound (walksHalf p s low u j c)
+sound-half : (p : Plan) (s : ℕ) (may : ℕ → ℕ → Bool) (u j : ℕ) (c : Contact) → Sound (walksHalf p s may u j c)
 unfolding walksHalf
-sound-half p s low u j c =
+sound-half p s may u j c =
     record {
-      settled = λ v x k. kept-less p s (avoidingSet s (eqb (low + x))) v u k;
-      pending = λ v x k. half-less p s (avoidingSet s (eqb (low + x))) j c u v k;
+      settled = λ v x k. kept-less p s (may x) v u k;
+      pending = λ v x k. half-less p s (may x) j c u v k;
     }
 
 -- ---- a slot is settled
@@ -127,7 +126,7 @@ kept-closed : (p : Plan) (s : ℕ) (g : ℕ → Bool) (v u k : ℕ) → g v ≡ 
 unfolding kept
 kept-closed p s g v u k e = rw e
 
-module _ (p : Plan) (s low u j : ℕ) (later : 0 < u)
+module _ (p : Plan) (s : ℕ) (may : ℕ → ℕ → Bool) (u j : ℕ) (later : 0 < u)
     (past : (i : ℕ) (c : Contact) → j ≤ i → getElem? (p .contacts) i ≡ some c → c .slot ≢ u)
     (done : (i : ℕ) (c : Contact) → i < j → getElem? (p .contacts) i ≡ some c → c .slot ≢ suc u)
     (within : j ≤ length (p .contacts)) where
@@ -147,15 +146,15 @@ module _ (p : Plan) (s low u j : ℕ) (later : 0 < u)
       go false x y z a e f = refl
 
   -- settling slot u makes of the walks before it those before the next
-  pub settles-slot : Settles s low (walksAt p s low u j) (walksAt p s low (suc u) j)
+  pub settles-slot : Settles may (walksAt p s may u j) (walksAt p s may (suc u) j)
   unfolding walksAt everywhere
   settles-slot =
       record {
-        sound = sound-at p s low u j;
-        sound-after = sound-at p s low (suc u) j;
-        closed = λ v c k e. kept-closed p s (avoidingSet s (eqb (low + c))) v u k e;
+        sound = sound-at p s may u j;
+        sound-after = sound-at p s may (suc u) j;
+        closed = λ v c k e. kept-closed p s (may c) v u k e;
         settled = λ v k. kept-settled everywhere v k;
-        avoids = λ v c k. kept-settled (avoidingSet s (eqb (low + c))) v k;
+        avoids = λ v c k. kept-settled (may c) v k;
         cleared = λ v k. sym (arrivals-same p s everywhere v (suc u) k 0 j (omega arith)
             (λ i c from before there. done i c before there))
             ∙ arrivals-zero p s everywhere v (suc u) k;
@@ -171,8 +170,8 @@ few-hops p fits s v u h f q = walks-few p fits s h (λ y. isAt v y && mayFollow 
 
 -- ---- a record is folded in
 
-module _ (p : Plan) (fits : SlotsWithin p) (few : p .slots ≤ 255) (s low n block : ℕ) (old : List ℕ)
-    (area : Area n block old) where
+module _ (p : Plan) (fits : SlotsWithin p) (few : p .slots ≤ 255) (s : ℕ) (may : ℕ → ℕ → Bool) (n block : ℕ)
+    (old : List ℕ) (area : Area n block old) where
   -- settled walks can take one hop more
   one-more : {h : ℕ} (v u : ℕ) → Fewest (kept p s everywhere v u) h → h < 65535 → h + 1 < 65535
   one-more {h} v u f q = let most = few-hops p fits s v u h f q in omega arith
@@ -180,23 +179,23 @@ module _ (p : Plan) (fits : SlotsWithin p) (few : p .slots ≤ 255) (s low n blo
   -- Folding the contact at position j, in slot u: its walks have arrived too.
   pub folded-state : (u j : ℕ) (c : Contact) (w : List ℕ) → getElem? (p .contacts) j ≡ some c → c .slot ≡ u
       → c .a < n → c .b < n → c .a ≢ c .b
-      → AreaState n block old (walksAt p s low u j) w
-      → AreaState n block old (walksAt p s low u (j + 1)) (foldedArea n block w c)
+      → AreaState n block old (walksAt p s may u j) w
+      → AreaState n block old (walksAt p s may u (j + 1)) (foldedArea n block w c)
   unfolding foldedArea walksAt walksHalf
   folded-state u j c w there slot ha hb apart state =
-      sent-state n block old area (walksHalf p s low u j c) (walksAt p s low u (j + 1)) (sentArea n block w (c .a) (c .b))
-      (c .b) (c .a) hb ha (sound-half p s low u j c) first (one-more (c .b) u (first .settled (c .b) hb .entry .fewest))
+      sent-state n block old area (walksHalf p s may u j c) (walksAt p s may u (j + 1)) (sentArea n block w (c .a) (c .b))
+      (c .b) (c .a) hb ha (sound-half p s may u j c) first (one-more (c .b) u (first .settled (c .b) hb .entry .fewest))
       (λ v k. refl) (λ v x k. refl)
       (whole-a p s everywhere j c u there slot apart)
-      (λ x. whole-a p s (avoidingSet s (eqb (low + x))) j c u there slot apart)
+      (λ x. whole-a p s (may x) j c u there slot apart)
       (λ v k. whole-other p s everywhere j c u there slot apart v k)
-      (λ v x k. whole-other p s (avoidingSet s (eqb (low + x))) j c u there slot apart v k)
+      (λ v x k. whole-other p s (may x) j c u there slot apart v k)
     where
-      first : AreaState n block old (walksHalf p s low u j c) (sentArea n block w (c .a) (c .b))
+      first : AreaState n block old (walksHalf p s may u j c) (sentArea n block w (c .a) (c .b))
       first =
-          sent-state n block old area (walksAt p s low u j) (walksHalf p s low u j c) w (c .a) (c .b) ha hb
-          (sound-at p s low u j) state (one-more (c .a) u (state .settled (c .a) ha .entry .fewest))
+          sent-state n block old area (walksAt p s may u j) (walksHalf p s may u j c) w (c .a) (c .b) ha hb
+          (sound-at p s may u j) state (one-more (c .a) u (state .settled (c .a) ha .entry .fewest))
           (λ v k. refl) (λ v x k. refl)
-          (half-b p s everywhere j c u) (λ x. half-b p s (avoidingSet s (eqb (low + x))) j c u)
+          (half-b p s everywhere j c u) (λ x. half-b p s (may x) j c u)
           (λ v k. half-other p s everywhere j c u v k)
-          (λ v x k. half-other p s (avoidingSet s (eqb (low + x))) j c u v k)
+          (λ v x k. half-other p s (may x) j c u v k)

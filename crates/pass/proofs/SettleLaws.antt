@@ -8,32 +8,32 @@ use mathlib.Core.Bool.{Bool, true, false, cond, _||_}
 use mathlib.Core.List.{List}
 use mathlib.Core.Logic.{_⊎_, inl, inr, ⊎-elim, by-cases, _≢_}
 use borrow.Author.Tests.{lt-ltb, le-ltb}
-use lib.Dec.{ltb, eqb}
+use lib.Dec.{ltb}
 use lib.ListN.{getD}
 use Rattle.counting.proofs.Fewest.{plus}
-use Rattle.counting.proofs.Through.{avoidingSet}
 use Rattle.entries.proofs.EntryLaws.{plus-none, Large, Small, overflow-large, overflow-small}
 use Rattle.pass.specs.Row.{rowAt}
 use Rattle.pass.specs.Entry.{areaOverflows}
 use Rattle.pass.specs.Sweep.{settledOne, Sweep, sweepOf, settledNext, settledFrom, Area}
 use Rattle.pass.proofs.PlaceLaws.{row-before, area-kept}
 use Rattle.pass.proofs.BestLaws.{best-ext, best-same, best-none, best-merge, best-masked}
+use Rattle.pass.proofs.ColumnLaws.{mayLeave}
 use Rattle.pass.proofs.TookLaws.{Settled, settled-took}
 use Rattle.pass.proofs.StateLaws.{Walks, Sound, AreaState, state-ext, BestAt, row-outside}
 
-settled-none : (n block s low : ℕ) (w : List ℕ) (v : ℕ) → 65535 ≤ getD w (2 * n + v) 0
-    → settledOne n block s low w v ≡ w
+settled-none : (n block s : ℕ) (col : ℕ → ℕ) (w : List ℕ) (v : ℕ) → 65535 ≤ getD w (2 * n + v) 0
+    → settledOne n block s col w v ≡ w
 unfolding settledOne
-settled-none n block s low w v none = rw (le-ltb (getD w (2 * n + v) 0) 65535 none)
+settled-none n block s col w v none = rw (le-ltb (getD w (2 * n + v) 0) 65535 none)
 
--- what settling station b makes of the sequences x is y
-record SettlesOne (s low b : ℕ) (x y : Walks) : Type 0 where
+-- what settling station b makes of the sequences x is y; a walk of column j may go on from b where may j b
+record SettlesOne (may : ℕ → ℕ → Bool) (b : ℕ) (x y : Walks) : Type 0 where
   sound : Sound x
   sound-after : Sound y
-  closed : (j k : ℕ) → avoidingSet s (eqb (low + j)) b ≡ false → x .settled-avoiding b j k ≡ 0
+  closed : (j k : ℕ) → may j b ≡ false → x .settled-avoiding b j k ≡ 0
   settled : (k : ℕ) → plus (x .settled b) (x .pending b) k ≡ y .settled b k
   avoids : (j k : ℕ)
-      → cond (avoidingSet s (eqb (low + j)) b) (plus (x .settled-avoiding b j) (x .pending-avoiding b j) k) 0
+      → cond (may j b) (plus (x .settled-avoiding b j) (x .pending-avoiding b j) k) 0
       ≡ y .settled-avoiding b j k
   cleared : (k : ℕ) → y .pending b k ≡ 0
   others-settled : (v k : ℕ) → v ≢ b → x .settled v k ≡ y .settled v k
@@ -46,26 +46,26 @@ chosen : (o : Bool) (a b : ℕ) → a ≡ b → (o ≡ false → a ≡ 0) → a 
 chosen true a b e z = e
 chosen false a b e z = z refl
 
-module _ (n block : ℕ) (old : List ℕ) (area : Area n block old) (s low : ℕ) where
-  settled-state : (x y : Walks) (w : List ℕ) (b : ℕ) → b < n → SettlesOne s low b x y → AreaState n block old x w
-      → AreaState n block old y (settledOne n block s low w b)
+module _ (n block : ℕ) (old : List ℕ) (area : Area n block old) (s : ℕ) (col : ℕ → ℕ) where
+  settled-state : (x y : Walks) (w : List ℕ) (b : ℕ) → b < n → SettlesOne (mayLeave s col) b x y → AreaState n block old x w
+      → AreaState n block old y (settledOne n block s col w b)
   settled-state x y w b hb z state =
       by-cases (decLe 65535 (getD w (2 * n + b) 0)) nothing (λ q. something (omega arith))
     where
       positive : 0 < n
       positive = area .some
 
-      nothing : 65535 ≤ getD w (2 * n + b) 0 → AreaState n block old y (settledOne n block s low w b)
+      nothing : 65535 ≤ getD w (2 * n + b) 0 → AreaState n block old y (settledOne n block s col w b)
       nothing q =
           let f = state .pending b hb .entry .fewest in
           let none : (k : ℕ) → x .pending b k ≡ 0 = f .never (let g = f .bound in omega arith) in
-          rw (settled-none n block s low w b q) (state-ext (record {
+          rw (settled-none n block s col w b q) (state-ext (record {
             settled = λ v i k. by-cases (ℕ-discrete v b)
                 (λ e. rw e (plus-none (x .settled b) (x .pending b) k (none k) ∙ z .settled k))
                 (z .others-settled v k);
             settled-avoiding = λ v i j k. by-cases (ℕ-discrete v b)
                 (λ e. rw e
-                (chosen (avoidingSet s (eqb (low + j)) b) _ _
+                (chosen (mayLeave s col j b) _ _
                 (plus-none (x .settled-avoiding b j) (x .pending-avoiding b j) k
                 (omega (arith, z .sound .pending b j k, none k)))
                 (z .closed j k)
@@ -80,7 +80,7 @@ module _ (n block : ℕ) (old : List ℕ) (area : Area n block old) (s low : ℕ
                 (z .others-pending-avoid v j k);
           }) state)
 
-      something : getD w (2 * n + b) 0 < 65535 → AreaState n block old y (settledOne n block s low w b)
+      something : getD w (2 * n + b) 0 < 65535 → AreaState n block old y (settledOne n block s col w b)
       something q =
           record {
             same = took .same ∙ state .same;
@@ -90,7 +90,7 @@ module _ (n block : ℕ) (old : List ℕ) (area : Area n block old) (s low : ℕ
             settled = λ v i. by-cases (ℕ-discrete v b)
                 (λ e. rw e (best-same (took .hops) (took .count) (λ j l g. took .entries j l)
                 (best-ext (z .settled) (z .avoids)
-                (best-masked (λ j. avoidingSet s (eqb (low + j)) b)
+                (best-masked (λ j. mayLeave s col j b)
                 (best-merge (x .settled b) (x .pending b) (x .settled-avoiding b) (x .pending-avoiding b)
                 (z .sound .settled b) (z .sound .pending b)
                 (getD w b 0) (getD w (b + n) 0) (getD w (2 * n + b) 0) (getD w (2 * n + b + n) 0)
@@ -117,8 +117,8 @@ module _ (n block : ℕ) (old : List ℕ) (area : Area n block old) (s low : ℕ
                 (state .pending v i))));
           }
         where
-          took : Settled n block s low b w (settledOne n block s low w b)
-          took = settled-took n block s low w b (area-kept area (state .same)) hb q
+          took : Settled n block s col b w (settledOne n block s col w b)
+          took = settled-took n block s col w b (area-kept area (state .same)) hb q
 
 -- ---- every station
 
@@ -166,20 +166,20 @@ sound-between v x y sx sy =
     go N M P Q j k false p q = q
 
 -- what settling every station makes of the sequences x is y
-pub record Settles (s low : ℕ) (x y : Walks) : Type 0 where
+pub record Settles (may : ℕ → ℕ → Bool) (x y : Walks) : Type 0 where
   pub sound : Sound x
   pub sound-after : Sound y
-  pub closed : (v j k : ℕ) → avoidingSet s (eqb (low + j)) v ≡ false → x .settled-avoiding v j k ≡ 0
+  pub closed : (v j k : ℕ) → may j v ≡ false → x .settled-avoiding v j k ≡ 0
   pub settled : (v k : ℕ) → plus (x .settled v) (x .pending v) k ≡ y .settled v k
   pub avoids : (v j k : ℕ)
-      → cond (avoidingSet s (eqb (low + j)) v) (plus (x .settled-avoiding v j) (x .pending-avoiding v j) k) 0
+      → cond (may j v) (plus (x .settled-avoiding v j) (x .pending-avoiding v j) k) 0
       ≡ y .settled-avoiding v j k
   pub cleared : (v k : ℕ) → y .pending v k ≡ 0
 
-settles-one : (s low : ℕ) (x y : Walks) → Settles s low x y → (v : ℕ)
-    → SettlesOne s low v (between v x y) (between (v + 1) x y)
+settles-one : (may : ℕ → ℕ → Bool) (x y : Walks) → Settles may x y → (v : ℕ)
+    → SettlesOne may v (between v x y) (between (v + 1) x y)
 unfolding between
-settles-one s low x y z v =
+settles-one may x y z v =
     record {
       sound = sound-between v x y (z .sound) (z .sound-after);
       sound-after = sound-between (v + 1) x y (z .sound) (z .sound-after);
@@ -223,9 +223,9 @@ or-none : (a b : Bool) → (a || b) ≡ false → (a ≡ false) × (b ≡ false)
 or-none true b e = let z : _≡_ {A = ℕ} 0 1 = cc in absurd (omega arith)
 or-none false b e = (refl, e)
 
-module _ (n block : ℕ) (old : List ℕ) (area : Area n block old) (s low : ℕ) (x y : Walks) (z : Settles s low x y) where
+module _ (n block : ℕ) (old : List ℕ) (area : Area n block old) (s : ℕ) (col : ℕ → ℕ) (x y : Walks) (z : Settles (mayLeave s col) x y) where
   swept : (k v : ℕ) (b : Sweep) → v + k ≡ n → AreaState n block old (between v x y) (b .work)
-      → Swept n block old x y v b (settledFrom n block s low b v k)
+      → Swept n block old x y v b (settledFrom n block s col b v k)
   unfolding settledFrom settledNext between
   swept zero v b e state =
       record {
@@ -241,12 +241,12 @@ module _ (n block : ℕ) (old : List ℕ) (area : Area n block old) (s low : ℕ
         within = λ q. (q, λ u from inside. absurd (omega arith));
       }
   swept (suc k) v b e state =
-      after (swept k (v + 1) (settledNext n block s low b v) (omega arith) next)
+      after (swept k (v + 1) (settledNext n block s col b v) (omega arith) next)
     where
-      next : AreaState n block old (between (v + 1) x y) (settledNext n block s low b v .work)
+      next : AreaState n block old (between (v + 1) x y) (settledNext n block s col b v .work)
       next =
-          settled-state n block old area s low (between v x y) (between (v + 1) x y) (b .work) v (omega arith)
-          (settles-one s low x y z v) state
+          settled-state n block old area s col (between v x y) (between (v + 1) x y) (b .work) v (omega arith)
+          (settles-one (mayLeave s col) x y z v) state
 
       holds : BestAt block (min 65535 (getD (b .work) v 0 + 1)) (x .pending v) (x .pending-avoiding v) n (2 * n + v)
           (rowAt n block (n + v)) (b .work)
@@ -255,9 +255,9 @@ module _ (n block : ℕ) (old : List ℕ) (area : Area n block old) (s low : ℕ
           (λ j k. ap (λ f. f j k) (upto-from (y .pending-avoiding) (x .pending-avoiding) v v (omega arith)))
           (state .pending v (omega arith))
 
-      after : Swept n block old x y (v + 1) (settledNext n block s low b v)
-          (settledFrom n block s low (settledNext n block s low b v) (v + 1) k)
-          → Swept n block old x y v b (settledFrom n block s low (settledNext n block s low b v) (v + 1) k)
+      after : Swept n block old x y (v + 1) (settledNext n block s col b v)
+          (settledFrom n block s col (settledNext n block s col b v) (v + 1) k)
+          → Swept n block old x y v b (settledFrom n block s col (settledNext n block s col b v) (v + 1) k)
       after r =
           record {
             state = r .state;
@@ -290,12 +290,12 @@ module _ (n block : ℕ) (old : List ℕ) (area : Area n block old) (s low : ℕ
   -- Settling a slot: the state is that of the sequences after it; a count over 2^64 - 1 is met just where a pending
   -- sequence is large.
   pub settled-all : (w : List ℕ) → AreaState n block old x w
-      → AreaState n block old y (settledFrom n block s low (sweepOf false w) 0 n .work)
+      → AreaState n block old y (settledFrom n block s col (sweepOf false w) 0 n .work)
   settled-all w state = swept n 0 (sweepOf false w) (omega arith) (begin w state) .state
 
   -- where the flag is set, a pending sequence is large
   pub settled-over : (w : List ℕ) → AreaState n block old x w
-      → settledFrom n block s low (sweepOf false w) 0 n .over ≡ true
+      → settledFrom n block s col (sweepOf false w) 0 n .over ≡ true
       → SomeLarge n x
   settled-over w state e =
       ⊎-elim (λ (q : _≡_ {A = Bool} false true). let z : _≡_ {A = ℕ} 0 1 = cc in absurd (omega arith)) (λ q. q)
@@ -303,7 +303,7 @@ module _ (n block : ℕ) (old : List ℕ) (area : Area n block old) (s low : ℕ
 
   -- where it is not, every pending sequence is small
   pub settled-within : (w : List ℕ) → AreaState n block old x w
-      → settledFrom n block s low (sweepOf false w) 0 n .over ≡ false
+      → settledFrom n block s col (sweepOf false w) 0 n .over ≡ false
       → (u : ℕ) → u < n → Small (x .pending u)
   settled-within w state e u inside =
       swept n 0 (sweepOf false w) (omega arith) (begin w state) .within e .1 u (omega arith) inside

@@ -20,14 +20,14 @@ use Rattle.pass.proofs.TookLaws.{Took, merged-took, absorbed-took}
 abbrev pub BestAt : ℕ → ℕ → (ℕ → ℕ) → (ℕ → ℕ → ℕ) → ℕ → ℕ → ℕ → List ℕ → Type 0
 BestAt block limit N M n at row w = Best block limit N M (getD w at 0) (getD w (at + n) 0) (λ j. getD w (row + j) 0)
 
--- the sequences of the stations, settled and pending, and those of them, by column of the block, that avoid a station
+-- the sequences of the stations, settled and pending, and those of them, by column, that avoid the column's stations
 pub record Walks : Type 0 where
   pub settled : ℕ → ℕ → ℕ
   pub settled-avoiding : ℕ → ℕ → ℕ → ℕ
   pub pending : ℕ → ℕ → ℕ
   pub pending-avoiding : ℕ → ℕ → ℕ → ℕ
 
--- those that avoid a station are no more
+-- those that avoid a column's stations are no more
 pub record Sound (x : Walks) : Type 0 where
   pub settled : (v j k : ℕ) → x .settled-avoiding v j k ≤ x .settled v k
   pub pending : (v j k : ℕ) → x .pending-avoiding v j k ≤ x .pending v k

@@ -1,6 +1,6 @@
 -- What stands in every place of the work area after an entry and its row took walks in, after a mask, and after a
 -- station is settled. Assumes nothing.
-use Prim.Native.Nat.{ℕ, _+_, _-_, _*_, _<_, _≤_, min}
+use Prim.Native.Nat.{ℕ, _+_, _*_, _<_, _≤_, min}
 use native.Mathlib.Omega.{arith}
 use native.Mathlib.Decide.{decLe, ℕ-discrete}
 use mathlib.Core.Path.{_≡_, refl, sym, ap, _∙_}
@@ -18,8 +18,9 @@ use Rattle.pass.specs.Entry.{mergedArea, absorbed, Absorbable}
 use Rattle.pass.specs.Sweep.{masked, settledOne, Area}
 use Rattle.pass.proofs.RowLaws.{combined-length, combined-other, combined-at}
 use Rattle.pass.proofs.EntryLaws.{merged-length}
-use Rattle.pass.proofs.PlaceLaws.{masked-source, masked-below, masked-above, masked-own, row-before}
+use Rattle.pass.proofs.PlaceLaws.{masked-source, masked-none, masked-own, row-before}
 use Rattle.pass.proofs.PlaceLaws.{absorbable, row-settled, set-twice-length}
+use Rattle.pass.proofs.ColumnLaws.{mayLeave}
 
 -- the entry at a place has new hops, a new count and a new row, and every other place is as it was
 pub record Took (n block at row : ℕ) (old new : List ℕ) (h c : ℕ) (r : ℕ → ℕ) : Type 0 where
@@ -91,72 +92,66 @@ absorbed-took n block w at row from l d a apart =
 
 -- ---- a mask
 
-module _ (n block s low : ℕ) (w : List ℕ) (v : ℕ) where
-  masked-length : length (masked n block s low w v) ≡ length w
+module _ (n block s : ℕ) (col : ℕ → ℕ) (w : List ℕ) (v : ℕ) where
+  masked-length : length (masked n block s col w v) ≡ length w
   unfolding masked
-  masked-length = go (eqb v s) (ltb v low) (ltb (v - low) block)
+  masked-length = go (eqb v s) (ltb (col v) block)
     where
-      go : (a b c : Bool) →
-          length (cond a w (cond b w (cond c (set w (rowAt n block v + (v - low)) 0) w))) ≡ length w
-      go true b c = refl
-      go false true c = refl
-      go false false true = length-set w (rowAt n block v + (v - low)) 0
-      go false false false = refl
+      go : (a b : Bool) → length (cond a w (cond b (set w (rowAt n block v + col v) 0) w)) ≡ length w
+      go true b = refl
+      go false true = length-set w (rowAt n block v + col v) 0
+      go false false = refl
 
   -- a place outside of the row stays
   masked-other : (i : ℕ) → (i < rowAt n block v) ⊎ (rowAt n block v + block ≤ i)
-      → getD (masked n block s low w v) i 0 ≡ getD w i 0
+      → getD (masked n block s col w v) i 0 ≡ getD w i 0
   unfolding masked
-  masked-other i out = go (eqb v s) (ltb v low) (ltb (v - low) block) refl
+  masked-other i out = go (eqb v s) (ltb (col v) block) refl
     where
-      go : (a b c : Bool) → ltb (v - low) block ≡ c →
-          getD (cond a w (cond b w (cond c (set w (rowAt n block v + (v - low)) 0) w))) i 0 ≡ getD w i 0
-      go true b c e = refl
-      go false true c e = refl
-      go false false true e =
-          let inside = ltb-true (v - low) block e in
-          getD-set-other w (rowAt n block v + (v - low)) i 0 0
+      go : (a b : Bool) → ltb (col v) block ≡ b →
+          getD (cond a w (cond b (set w (rowAt n block v + col v) 0) w)) i 0 ≡ getD w i 0
+      go true b e = refl
+      go false true e =
+          let inside = ltb-true (col v) block e in
+          getD-set-other w (rowAt n block v + col v) i 0 0
           (⊎-elim (λ (h : i < rowAt n block v). omega arith) (λ (h : rowAt n block v + block ≤ i). omega arith) out)
-      go false false false e = refl
+      go false false e = refl
 
-  -- the column of a station from which v may not go on becomes 0
+  -- a column in which no walk may go on from v becomes 0
   masked-at : (j : ℕ) → j < block → rowAt n block v + block ≤ length w
-      → getD (masked n block s low w v) (rowAt n block v + j) 0
-      ≡ cond (avoidingSet s (eqb (low + j)) v) (getD w (rowAt n block v + j) 0) 0
-  unfolding avoidingSet
+      → getD (masked n block s col w v) (rowAt n block v + j) 0
+      ≡ cond (mayLeave s col j v) (getD w (rowAt n block v + j) 0) 0
+  unfolding mayLeave avoidingSet
   masked-at j q fits =
       by-cases (ℕ-discrete v s)
-      (λ e. rw (masked-source n block s low w v e, eq-eqb v s e, or-true (not (eqb (low + j) v))))
-      (λ d. rw (ne-eqb v s d, or-false (not (eqb (low + j) v)))
-      (by-cases (ℕ-discrete v (low + j))
-      (λ own. let here : v - low ≡ j = omega arith in
-      rw (eq-eqb (low + j) v (sym own))
+      (λ e. rw (masked-source n block s col w v e, eq-eqb v s e, or-true (not (eqb (col v) j))))
+      (λ d. rw (ne-eqb v s d, or-false (not (eqb (col v) j)))
+      (by-cases (ℕ-discrete (col v) j)
+      (λ own. rw (eq-eqb (col v) j own)
       (sym (ap (λ l. getD l (rowAt n block v + j) 0)
-      (masked-own n block s low w v (rowAt n block v) refl d (omega arith) (omega arith)))
-      ∙ rw here (getD-set-same w (rowAt n block v + j) 0 0 (omega arith))))
-      (λ other. rw (ne-eqb (low + j) v (λ e. other (sym e))) (elsewhere d other))))
+      (masked-own n block s col w v (rowAt n block v) j refl (sym own) d q))
+      ∙ getD-set-same w (rowAt n block v + j) 0 0 (omega arith)))
+      (λ other. rw (ne-eqb (col v) j other) (elsewhere d other))))
     where
-      elsewhere : v ≢ s → v ≢ low + j
-          → getD (masked n block s low w v) (rowAt n block v + j) 0 ≡ getD w (rowAt n block v + j) 0
+      elsewhere : v ≢ s → col v ≢ j
+          → getD (masked n block s col w v) (rowAt n block v + j) 0 ≡ getD w (rowAt n block v + j) 0
       elsewhere d other =
-          by-cases (decLe low v)
-          (λ from. by-cases (decLe block (v - low))
-          (λ past. rw (masked-above n block s low w v d from past))
+          by-cases (decLe block (col v))
+          (λ past. rw (masked-none n block s col w v d past))
           (λ inside.
           sym (ap (λ l. getD l (rowAt n block v + j) 0)
-          (masked-own n block s low w v (rowAt n block v) refl d from (omega arith)))
-          ∙ getD-set-other w (rowAt n block v + (v - low)) (rowAt n block v + j) 0 0 (omega arith)))
-          (λ below. rw (masked-below n block s low w v d (omega arith)))
+          (masked-own n block s col w v (rowAt n block v) (col v) refl refl d (omega arith)))
+          ∙ getD-set-other w (rowAt n block v + col v) (rowAt n block v + j) 0 0 (omega arith))
 
 -- ---- a station settled
 
--- its entry took in what was pending, with its own column 0; nothing is pending; every other place is as it was
-pub record Settled (n block s low v : ℕ) (old new : List ℕ) : Type 0 where
+-- its entry took in what was pending, with its column 0; nothing is pending; every other place is as it was
+pub record Settled (n block s : ℕ) (col : ℕ → ℕ) (v : ℕ) (old new : List ℕ) : Type 0 where
   pub hops : getD new v 0 ≡ min (getD old v 0) (getD old (2 * n + v) 0)
   pub count : getD new (v + n) 0
       ≡ mergedCount (getD old v 0) (getD old (v + n) 0) (getD old (2 * n + v) 0) (getD old (2 * n + v + n) 0)
   pub entries : (j : ℕ) → j < block → getD new (rowAt n block v + j) 0
-      ≡ cond (avoidingSet s (eqb (low + j)) v)
+      ≡ cond (mayLeave s col j v)
       (mergedRow (getD old v 0) (getD old (2 * n + v) 0) (getD old (rowAt n block v + j) 0)
       (getD old (rowAt n block (n + v) + j) 0)) 0
   pub no-hops : getD new (2 * n + v) 0 ≡ 65535
@@ -167,24 +162,24 @@ pub record Settled (n block s low v : ℕ) (old new : List ℕ) : Type 0 where
   pub same : length new ≡ length old
 
 -- settling a station with something pending leaves that
-pub settled-took : (n block s low : ℕ) (w : List ℕ) (v : ℕ) → Area n block w → v < n → getD w (2 * n + v) 0 < 65535
-    → Settled n block s low v w (settledOne n block s low w v)
+pub settled-took : (n block s : ℕ) (col : ℕ → ℕ) (w : List ℕ) (v : ℕ) → Area n block w → v < n → getD w (2 * n + v) 0 < 65535
+    → Settled n block s col v w (settledOne n block s col w v)
 unfolding settledOne
-settled-took n block s low w v area inside some =
+settled-took n block s col w v area inside some =
     rw (lt-ltb (getD w (2 * n + v) 0) 65535 some)
     record {
       hops = outer v (omega arith) (omega arith)
-          ∙ masked-other n block s low one v v (inl (omega arith)) ∙ took .hops;
+          ∙ masked-other n block s col one v v (inl (omega arith)) ∙ took .hops;
       count = outer (v + n) (omega arith) (omega arith)
-          ∙ masked-other n block s low one v (v + n) (inl (omega arith)) ∙ took .count;
+          ∙ masked-other n block s col one v (v + n) (inl (omega arith)) ∙ took .count;
       entries = λ j q. outer (rowAt n block v + j) (omega arith) (omega arith)
-          ∙ masked-at n block s low one v j q (let k = took .same in let f = row-settled inside area in omega arith)
-          ∙ ap (λ x. cond (avoidingSet s (eqb (low + j)) v) x 0) (took .entries j q);
+          ∙ masked-at n block s col one v j q (let k = took .same in let f = row-settled inside area in omega arith)
+          ∙ ap (λ x. cond (mayLeave s col j v) x 0) (took .entries j q);
       no-hops = getD-set-other (set two (2 * n + v) 65535) (2 * n + v + n) (2 * n + v) 0 0 (omega arith)
           ∙ getD-set-same two (2 * n + v) 65535 0 (omega (arith, two-length));
       no-count = getD-set-same (set two (2 * n + v) 65535) (2 * n + v + n) 0 0
           (lt-length-set two (2 * n + v) 65535 (omega (arith, two-length)));
-      other = λ i a b c d out. outer i c d ∙ masked-other n block s low one v i out ∙ took .other i a b out;
+      other = λ i a b c d out. outer i c d ∙ masked-other n block s col one v i out ∙ took .other i a b out;
       same = set-twice-length two (2 * n + v) (2 * n + v + n) 65535 0 ∙ two-length;
     }
   where
@@ -211,10 +206,10 @@ settled-took n block s low w v area inside some =
         (inl (let r = row-before block v (n + v) (omega arith) in omega arith))
 
     two : List ℕ
-    two = masked n block s low one v
+    two = masked n block s col one v
 
     two-length : length two ≡ length w
-    two-length = masked-length n block s low one v ∙ took .same
+    two-length = masked-length n block s col one v ∙ took .same
 
     outer : (i : ℕ) → i ≢ 2 * n + v → i ≢ 2 * n + v + n
         → getD (set (set two (2 * n + v) 65535) (2 * n + v + n) 0) i 0 ≡ getD two i 0

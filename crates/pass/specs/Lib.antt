@@ -2,4 +2,6 @@
 pub mod Row
 pub mod Entry
 pub mod Sweep
+pub mod Column
 pub mod Passed
+pub mod PassedColumns

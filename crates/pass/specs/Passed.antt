@@ -1,15 +1,18 @@
 -- What the pass asks and what it promises: hops and counts from a source to every station, and for each of a block of
--- stations how many shortest paths do not have it inside. Definitions only.
+-- stations how many shortest paths do not have it inside; or for a set of stations how many shortest paths to one
+-- destination have no member inside. Definitions only.
 -- Assumes nothing.
 use Prim.Native.Nat.{ℕ, _+_, _*_, _<_, _≤_}
 use mathlib.Core.Path.{_≡_}
 use mathlib.Core.Bool.{Bool, false}
 use mathlib.Core.List.{List}
 use mathlib.Core.Logic.{_≢_}
+use lib.Dec.{eqb}
 use lib.ListN.{length, getD, drop}
 use Rattle.temporal.specs.Bytes.{planOf}
 use Rattle.temporal.specs.Cause.{planFault, tooMany}
 use Rattle.temporal.specs.Shortest.{shortestPaths, hops, count, through}
+use Rattle.temporal.specs.Set.{touched}
 
 -- how many entries of the work area the pass uses
 abbrev pub areaSize : ℕ → ℕ → ℕ
@@ -37,4 +40,25 @@ pub record Passed (bs : List ℕ) (n t s low block : ℕ) (old new : List ℕ) (
   pub too-many : r ≡ tooMany (planOf bs n t) s
   pub counted : r ≡ false → Counted bs n t s low block new
   pub beyond : drop (areaSize n block) new ≡ drop (areaSize n block) old
+  pub same-length : length new ≡ length old
+
+-- ---- a set of stations
+
+-- what the pass over a set asks: an accepted plan, a source and a destination in it, and a work area that is long enough
+pub record SetReady (bs : List ℕ) (n t s z : ℕ) (work : List ℕ) : Type 0 where
+  pub accepted : planFault bs n t ≡ 0
+  pub source : s < n
+  pub destination : z < n
+  pub fits : areaSize n 1 ≤ length work
+
+-- What it promises: whether a count is over 2^64 - 1, exactly; where none is, hops and counts as above (Counted, with an
+-- empty block), and at 4 n + z how many shortest paths to the destination z have no member inside (nothing is said of it
+-- where there is no path); and that nothing past its part of the work area is touched. A member's byte in the set is 1.
+pub record SetPassed (bs : List ℕ) (n t s z : ℕ) (set old new : List ℕ) (r : Bool) : Type 0 where
+  pub too-many : r ≡ tooMany (planOf bs n t) s
+  pub counted : r ≡ false → Counted bs n t s 0 0 new
+  pub members : r ≡ false → hops (shortestPaths (planOf bs n t) s z) < 65535
+      → getD new (4 * n + z) 0 + touched (planOf bs n t) s z (λ v. eqb (getD set v 0) 1)
+      ≡ count (shortestPaths (planOf bs n t) s z)
+  pub beyond : drop (areaSize n 1) new ≡ drop (areaSize n 1) old
   pub same-length : length new ≡ length old

@@ -2,7 +2,7 @@
 -- Station v has its settled entry at v with row v, and what is pending for it at 2 n + v with row n + v.
 -- Definitions only.
 -- Assumes nothing.
-use Prim.Native.Nat.{ℕ, zero, suc, _+_, _-_, _*_, _<_, _≤_}
+use Prim.Native.Nat.{ℕ, zero, suc, _+_, _*_, _<_, _≤_}
 use mathlib.Core.Bool.{Bool, cond, _||_}
 use mathlib.Core.List.{List}
 use lib.Dec.{ltb, eqb}
@@ -27,19 +27,19 @@ sentArea n block w v x =
 unfoldable pub foldedArea : ℕ → ℕ → List ℕ → Contact → List ℕ
 foldedArea n block w c = sentArea n block (sentArea n block w (c .a) (c .b)) (c .b) (c .a)
 
--- the column of v in its own row becomes 0, where the block has it and v is not the source
-unfoldable pub masked : ℕ → ℕ → ℕ → ℕ → List ℕ → ℕ → List ℕ
-masked n block s low w v =
-    cond (eqb v s) w
-    (cond (ltb v low) w (cond (ltb (v - low) block) (set w (rowAt n block v + (v - low)) 0) w))
+-- the column that stands for v becomes 0 in v's own row, where one stands for it and v is not the source; col gives the column of
+-- a station, block or more where none stands for it
+unfoldable pub masked : ℕ → ℕ → ℕ → (ℕ → ℕ) → List ℕ → ℕ → List ℕ
+masked n block s col w v =
+    cond (eqb v s) w (cond (ltb (col v) block) (set w (rowAt n block v + col v) 0) w)
 
 -- what is pending for v is taken into its settled entry, and nothing is pending any more
-unfoldable pub settledOne : ℕ → ℕ → ℕ → ℕ → List ℕ → ℕ → List ℕ
-settledOne n block s low w v =
+unfoldable pub settledOne : ℕ → ℕ → ℕ → (ℕ → ℕ) → List ℕ → ℕ → List ℕ
+settledOne n block s col w v =
     cond (ltb (getD w (2 * n + v) 0) 65535)
     (set
     (set
-    (masked n block s low
+    (masked n block s col
     (absorbed n block w v (rowAt n block v) (rowAt n block (n + v)) (getD w (2 * n + v) 0) (getD w (2 * n + v + n) 0))
     v)
     (2 * n + v) 65535)
@@ -55,14 +55,14 @@ abbrev pub sweepOf : Bool → List ℕ → Sweep
 sweepOf b w = record { over = b; work = w }
 
 -- station v is settled
-unfoldable pub settledNext : ℕ → ℕ → ℕ → ℕ → Sweep → ℕ → Sweep
-settledNext n block s low x v =
-    sweepOf (x .over || areaOverflows n (x .work) (2 * n + v)) (settledOne n block s low (x .work) v)
+unfoldable pub settledNext : ℕ → ℕ → ℕ → (ℕ → ℕ) → Sweep → ℕ → Sweep
+settledNext n block s col x v =
+    sweepOf (x .over || areaOverflows n (x .work) (2 * n + v)) (settledOne n block s col (x .work) v)
 
 -- k stations from v on are settled
-unfoldable pub settledFrom : ℕ → ℕ → ℕ → ℕ → Sweep → ℕ → ℕ → Sweep
-settledFrom n block s low x v zero = x
-settledFrom n block s low x v (suc k) = settledFrom n block s low (settledNext n block s low x v) (v + 1) k
+unfoldable pub settledFrom : ℕ → ℕ → ℕ → (ℕ → ℕ) → Sweep → ℕ → ℕ → Sweep
+settledFrom n block s col x v zero = x
+settledFrom n block s col x v (suc k) = settledFrom n block s col (settledNext n block s col x v) (v + 1) k
 
 -- no walks but the empty one, settled for the source, with a row of ones; nothing is pending
 unfoldable pub begunArea : ℕ → ℕ → List ℕ → ℕ → List ℕ

@@ -1,8 +1,9 @@
 // The forward pass: hops and counts from a source to every station, and for each of a block of stations how many shortest
-// paths do not have it inside. Everything lives in a lent work area.
+// paths do not have it inside; or how many shortest paths of a pair have no member of a set of stations inside. Everything
+// lives in a lent work area.
 ghost use mathlib.Core.Path.{_≡_};
 ghost use mathlib.Core.Bool.{false};
-ghost use Prim.Native.Nat.{_+_, _*_, _<_, _≤_};
+ghost use Prim.Native.Nat.{_+_, _*_, _<_, _≤_, min};
 ghost use lib.ListN.{length};
 ghost use Rattle.temporal.specs.Lists.{any, below};
 ghost use Rattle.temporal.specs.Bytes.{contactAt};
@@ -19,7 +20,26 @@ ghost use Rattle.pass.specs.Sweep.{
   Area,
   FoldableArea,
 };
-ghost use Rattle.pass.specs.Passed.{PassReady, Passed};
+ghost use Rattle.pass.specs.Column.{columnOf};
+ghost use Rattle.pass.specs.Passed.{PassReady, Passed, SetReady, SetPassed};
+ghost use Rattle.pass.specs.PassedColumns.{ColumnsReady, ColumnsPassed};
+
+// Which column of a row stands for a station. From(low): column j for station low + j. Members(z): column 0 for each member
+// of a lent set of bytes but z, a byte for each station, 1 for a member.
+pub enum Columns {
+    From(usize),
+    Members(usize),
+}
+
+// The smaller of two numbers.
+pub fn smaller(a: usize, b: usize) -> usize
+    ensures { λ r. ⌜ r ≡ min a b ⌝ }
+{
+    if b < a {
+        return b;
+    }
+    a
+}
 
 // Copies a row to another.
 fn copy_row(work: &mut [u64], to: usize, from: usize, size: usize)
@@ -132,18 +152,48 @@ fn fold_record(work: &mut [u64], plan: &[u8], n: usize, block: usize, j: usize)
     send(work, n, block, c.b, c.a);
 }
 
-// Writes 0 to the column of v in its own row, where the block has it and v is not the source.
-fn mask(work: &mut [u64], n: usize, block: usize, source: usize, low: usize, v: usize)
+// The column that stands for station v, or none.
+fn column_of(columns: Columns, set: &[u8], v: usize, none: usize) -> usize
+    ensures { λ r. ⌜ r ≡ columnOf columns (now (set .entry)) none v ⌝ }
+{
+    match columns {
+        Columns::From(low) => {
+            if v < low {
+                return none;
+            }
+            return v - low;
+        }
+        Columns::Members(destination) => {
+            if v == destination {
+                return none;
+            }
+            if v < set.len() {
+                if set[v] == 1 {
+                    return 0;
+                }
+            }
+            return none;
+        }
+    }
+}
+
+// Writes 0 to the column that stands for v in its own row, where there is one and v is not the source.
+fn mask(
+    work: &mut [u64],
+    n: usize,
+    block: usize,
+    source: usize,
+    columns: Columns,
+    set: &[u8],
+    v: usize,
+)
     requires { ⌜ Area n block (now work) × (v < n) ⌝ }
-    ensures { λ _. ⌜ now (work .exit) ≡ masked n block source low (now (work .entry)) v ⌝ }
+    ensures { λ _. ⌜ now (work .exit) ≡ masked n block source (columnOf columns (now (set .entry)) block) (now (work .entry)) v ⌝ }
 {
     if v == source {
         return;
     }
-    if v < low {
-        return;
-    }
-    let j = v - low;
+    let j = column_of(columns, set, v, block);
     if j < block {
         let row = row_at(n, block, v);
         work[row + j] = 0;
@@ -156,12 +206,14 @@ fn settle_one(
     n: usize,
     block: usize,
     source: usize,
-    low: usize,
+    columns: Columns,
+    set: &[u8],
     v: usize,
     over: bool,
 ) -> bool
     requires { ⌜ Area n block (now work) × (v < n) ⌝ }
-    ensures { λ r. ⌜ sweepOf r (now (work .exit)) ≡ settledNext n block source low (sweepOf over (now (work .entry))) v ⌝ }
+    ensures { λ r. ⌜ sweepOf r (now (work .exit)) ≡
+        settledNext n block source (columnOf columns (now (set .entry)) block) (sweepOf over (now (work .entry))) v ⌝ }
 {
     let at = 2 * n + v;
     let h = work[at];
@@ -171,7 +223,7 @@ fn settle_one(
         let row = row_at(n, block, v);
         let from = row_at(n, block, n + v);
         absorb(work, n, block, v, row, from, h, d);
-        mask(work, n, block, source, low, v);
+        mask(work, n, block, source, columns, set, v);
         work[at] = 65535;
         work[counted] = 0;
         if d == 0 {
@@ -182,14 +234,22 @@ fn settle_one(
 }
 
 // Settles a slot for every station. True where a count is over 2^64 - 1.
-fn settle(work: &mut [u64], n: usize, block: usize, source: usize, low: usize) -> bool
+fn settle(
+    work: &mut [u64],
+    n: usize,
+    block: usize,
+    source: usize,
+    columns: Columns,
+    set: &[u8],
+) -> bool
     requires { ⌜ Area n block (now work) ⌝ }
-    ensures { λ r. ⌜ sweepOf r (now (work .exit)) ≡ settledFrom n block source low (sweepOf false (now (work .entry))) 0 n ⌝ }
+    ensures { λ r. ⌜ sweepOf r (now (work .exit)) ≡
+        settledFrom n block source (columnOf columns (now (set .entry)) block) (sweepOf false (now (work .entry))) 0 n ⌝ }
 {
     let mut over = false;
     let mut v = 0;
     while v < n {
-        over = settle_one(work, n, block, source, low, v, over);
+        over = settle_one(work, n, block, source, columns, set, v, over);
         v += 1;
     }
     over
@@ -227,6 +287,38 @@ fn any_overflows(work: &[u64], n: usize) -> bool
 
 // The pass: the records slot by slot, a slot's records folded in and then settled. True where an appearance or a station has
 // a count over 2^64 - 1.
+fn pass_columns(
+    work: &mut [u64],
+    plan: &[u8],
+    n: usize,
+    t: usize,
+    source: usize,
+    columns: Columns,
+    set: &[u8],
+    block: usize,
+) -> bool
+    requires { ⌜ ColumnsReady (now plan) n t source block (now work) ⌝ }
+    ensures { λ r. ⌜ ColumnsPassed (now (plan .entry)) n t source (columnOf columns (now (set .entry)) block) block
+        (now (work .entry)) (now (work .exit)) r ⌝ }
+{
+    begin(work, n, block, source);
+    let mut u = 1;
+    let mut j = 0;
+    while u <= t {
+        if plan::in_slot(plan, j, u) {
+            fold_record(work, plan, n, block, j);
+            j += 1;
+            continue;
+        }
+        if settle(work, n, block, source, columns, set) {
+            return true;
+        }
+        u += 1;
+    }
+    any_overflows(work, n)
+}
+
+// The pass for a block of stations: column j of a row is about station low + j.
 pub fn pass(
     work: &mut [u64],
     plan: &[u8],
@@ -239,19 +331,39 @@ pub fn pass(
     requires { ⌜ PassReady (now plan) n t source low block (now work) ⌝ }
     ensures { λ r. ⌜ Passed (now (plan .entry)) n t source low block (now (work .entry)) (now (work .exit)) r ⌝ }
 {
-    begin(work, n, block, source);
-    let mut u = 1;
-    let mut j = 0;
-    while u <= t {
-        if plan::in_slot(plan, j, u) {
-            fold_record(work, plan, n, block, j);
-            j += 1;
-            continue;
-        }
-        if settle(work, n, block, source, low) {
-            return true;
-        }
-        u += 1;
-    }
-    any_overflows(work, n)
+    pass_columns(
+        work,
+        plan,
+        n,
+        t,
+        source,
+        Columns::From(low),
+        &plan[0..0],
+        block,
+    )
+}
+
+// The pass for a set of stations, one column for all members; the destination is never inside.
+pub fn set_pass(
+    work: &mut [u64],
+    plan: &[u8],
+    n: usize,
+    t: usize,
+    source: usize,
+    destination: usize,
+    set: &[u8],
+) -> bool
+    requires { ⌜ SetReady (now plan) n t source destination (now work) ⌝ }
+    ensures { λ r. ⌜ SetPassed (now (plan .entry)) n t source destination (now (set .entry)) (now (work .entry)) (now (work .exit)) r ⌝ }
+{
+    pass_columns(
+        work,
+        plan,
+        n,
+        t,
+        source,
+        Columns::Members(destination),
+        set,
+        1,
+    )
 }

@@ -2,7 +2,7 @@
 -- Assumes nothing.
 use native.Mathlib.Omega.{arith}
 use mathlib.Core.Path.{sym}
-use Rattle.pass.proofs.PlaceLaws.{row-settled, masked-source, masked-below, masked-above, masked-own}
+use Rattle.pass.proofs.PlaceLaws.{row-settled, masked-source, masked-none, masked-own}
 use borrow.Author.Needs.{needs}
 use Rattle.pass.proofs.mask.Statement.{statement}
 use Rattle.pass.proofs.mask.Tie as tie
@@ -10,40 +10,40 @@ use Rattle.pass.proofs.mask.Tie as tie
 returns : tie.Need-returns
 returns c = sym (masked-source _ _ _ _ _ _ (omega arith))
 
-returns-2 : tie.Need-returns-2
-returns-2 c = sym (masked-below _ _ _ _ _ _ (omega arith) (omega arith))
+column-of-requires : tie.Need-column-of-requires
+column-of-requires c κs = search needs
 
 row-at-requires : tie.Need-row-at-requires
-row-at-requires c κs = omega (arith, row-settled (c .before .before .before .before .pre .1) (c .before .before .before .before .pre .0), c .before .before .before .before .good .0 .0)
+row-at-requires c κs = omega (arith, row-settled (c .before .before .before .before .before .pre .1) (c .before .before .before .before .before .pre .0), c .before .before .before .before .before .good .0 .0)
 
 add-work : tie.Need-add-work
-add-work c = omega (arith, row-settled (c .before .before .before .before .before .pre .1) (c .before .before .before .before .before .pre .0), c .row-at .ensures, c .before .before .before .before .before .good .0 .0)
+add-work c = omega (arith, row-settled (c .before .before .before .before .before .before .pre .1) (c .before .before .before .before .before .before .pre .0), c .row-at .ensures, c .before .before .before .before .before .before .good .0 .0)
 
 mul-work : tie.Need-mul-work
-mul-work c = omega (arith, row-settled (c .before .before .before .before .before .pre .1) (c .before .before .before .before .before .pre .0), c .row-at .ensures, c .before .before .before .before .before .good .0 .0)
+mul-work c = omega (arith, row-settled (c .before .before .before .before .before .before .pre .1) (c .before .before .before .before .before .before .pre .0), c .row-at .ensures, c .before .before .before .before .before .before .good .0 .0)
 
 slice-write-work : tie.Need-slice-write-work
-slice-write-work c = omega (arith, row-settled (c .before .before .before .before .before .pre .1) (c .before .before .before .before .before .pre .0), c .row-at .ensures)
+slice-write-work c = omega (arith, row-settled (c .before .before .before .before .before .before .pre .1) (c .before .before .before .before .before .before .pre .0), c .row-at .ensures)
 
 same-length : tie.Need-same-length
 same-length c = search needs
 
-returns-3 : tie.Need-returns-3
-returns-3 c = masked-own _ _ _ _ _ _ _ (c .row-at .ensures) (omega arith) (omega arith) (omega arith)
+returns-2 : tie.Need-returns-2
+returns-2 c = masked-own _ _ _ _ _ _ _ _ (c .row-at .ensures) (c .before .before .column-of .ensures) (omega arith) (omega arith)
 
-returns-4 : tie.Need-returns-4
-returns-4 c = sym (masked-above _ _ _ _ _ _ (omega arith) (omega arith) (omega arith))
+returns-3 : tie.Need-returns-3
+returns-3 c = sym (masked-none _ _ _ _ _ _ (omega arith) (omega (arith, c .before .column-of .ensures)))
 
 pub mask-spec : {M : Type 1} → statement M
 mask-spec =
     tie.close
     (tie.spec
     returns
-    returns-2
+    column-of-requires
     row-at-requires
     add-work
     mul-work
     slice-write-work
     same-length
-    returns-3
-    returns-4)
+    returns-2
+    returns-3)

@@ -1,120 +1,35 @@
--- `pass::pass` meets its contract. The loop's invariant: in slot u, at position j, the work area holds the walks from the
--- source (Passing). The measure is the number of slots and of records left.
+-- `pass::pass` meets its contract: the pass with a column for each station of the block.
 -- Assumes nothing.
-use Prim.Native.Nat.{_+_, _-_}
-use Rattle.temporal.proofs.Accepted.{accepted}
-use mathlib.Core.Path.{sym, _∙_}
 use borrow.Author.Needs.{needs}
-use native.Mathlib.Omega.{arith}
-use Rattle.temporal.specs.Bytes.{records}
-use Rattle.plan.proofs.SlotLaws.{in-slot-inv}
-use Rattle.pass.proofs.PassLaws.{Passing, ready-area, passing-area, passing-length}
-use Rattle.pass.proofs.PassLaws.{passing-foldable, passing-fold, passing-settle, passed-over, passed-end}
-use Rattle.pass.proofs.PassLaws.{ready-begun, passing-begun, passed-entry}
+use Rattle.pass.proofs.UseLaws.{block-passed}
 use Rattle.pass.proofs.pass.Statement.{statement}
 use Rattle.pass.proofs.pass.Tie as tie
 
-abbrev Inv-loop : tie.InvT-loop
-Inv-loop work₀ plan n t source low block u₀ j₀ work u j = Passing plan n t source low block work₀ u j work
+sub-pass-columns : tie.Need-sub-pass-columns
+sub-pass-columns c = search needs
 
-abbrev μ-loop : tie.MeasureT-loop
-μ-loop work₀ plan n t source low block u₀ j₀ work u j = (t + 1 - u) + (records plan - j)
+part-pass-columns-start : tie.Need-part-pass-columns-start
+part-pass-columns-start c = search needs
 
-begin-requires : tie.Need-begin-requires Inv-loop μ-loop
-begin-requires c κs = (ready-area _ _ _ _ _ _ _ (c .before .before .before .pre), c .before .before .before .pre .source)
+part-pass-columns-end : tie.Need-part-pass-columns-end
+part-pass-columns-end c = search needs
 
-loop-holds : tie.Need-loop-holds Inv-loop μ-loop
-loop-holds c = passing-begun _ _ _ _ _ _ _ _ (c .before .before .before .before .before .before .pre) (c .before .before .begin .ensures)
+pass-columns-requires : tie.Need-pass-columns-requires
+pass-columns-requires c κs = search needs
 
-in-slot-requires : tie.Need-in-slot-requires Inv-loop μ-loop
-in-slot-requires c κs = search needs
+same-length : tie.Need-same-length
+same-length c = search needs
 
-fold-record-requires : tie.Need-fold-record-requires Inv-loop μ-loop
-fold-record-requires c κs =
-    let ready = ready-begun _ _ _ _ _ _ _ _ (c .before .before .before .before .before .before .before .before .before .before .before .pre) (c .before .before .before .before .before .before .before .begin .ensures) in
-    passing-foldable _ _ _ _ _ _ _ ready _ _ _ (c .before .before .before .before .loop .inv) (sym (c .before .before .in-slot .ensures) ∙ c .before .if1 .taken)
-
-add-j : tie.Need-add-j Inv-loop μ-loop
-add-j c =
-    let (there, slot) = in-slot-inv _ _ _ (sym (c .before .before .before .before .before .in-slot .ensures) ∙ c .before .before .before .before .if1 .taken) in
-    omega (arith, accepted _ _ _ (c .before .before .before .before .before .before .before .before .before .before .before .before .before .before .pre .accepted) .few)
-
-loop-less : tie.Need-loop-less Inv-loop μ-loop
-loop-less c =
-    let (there, slot) = in-slot-inv _ _ _ (sym (c .before .before .before .before .before .in-slot .ensures) ∙ c .before .before .before .before .if1 .taken) in
-    omega arith
-
-loop-again : tie.Need-loop-again Inv-loop μ-loop
-loop-again c =
-    let ready = ready-begun _ _ _ _ _ _ _ _ (c .before .before .before .before .before .before .before .before .before .before .before .before .before .before .pre) (c .before .before .before .before .before .before .before .before .before .before .begin .ensures) in
-    rw (c .before .before .fold-record .ensures)
-    (passing-fold _ _ _ _ _ _ _ ready _ _ _ (c .before .before .before .before .before .before .before .loop .inv) (sym (c .before .before .before .before .before .in-slot .ensures) ∙ c .before .before .before .before .if1 .taken))
-
-settle-requires : tie.Need-settle-requires Inv-loop μ-loop
-settle-requires c κs =
-    let ready = ready-begun _ _ _ _ _ _ _ _ (c .before .before .before .before .before .before .before .before .before .before .before .pre) (c .before .before .before .before .before .before .before .begin .ensures) in
-    passing-area _ _ _ _ _ _ _ ready _ _ _ (c .before .before .before .before .loop .inv)
-
-same-length : tie.Need-same-length Inv-loop μ-loop
-same-length c =
-    let ready = ready-begun _ _ _ _ _ _ _ _ (c .before .before .before .before .before .before .before .before .before .before .before .before .before .before .before .pre) (c .before .before .before .before .before .before .before .before .before .before .before .begin .ensures) in
-    c .before .before .before .settle .kept .0 ∙ passing-length _ _ _ _ _ _ _ ready _ _ _ (c .before .before .before .before .before .before .before .before .loop .inv) ∙ c .before .before .before .before .before .before .before .before .before .before .before .begin .kept .0
-
-returns : tie.Need-returns Inv-loop μ-loop
-returns c =
-    let ready = ready-begun _ _ _ _ _ _ _ _ (c .before .before .before .before .before .before .before .before .before .before .before .before .before .before .before .pre) (c .before .before .before .before .before .before .before .before .before .before .before .begin .ensures) in
-    passed-entry _ _ _ _ _ _ _ _ (c .before .before .before .before .before .before .before .before .before .before .before .before .before .before .before .pre) (c .before .before .before .before .before .before .before .before .before .before .before .begin .ensures) _ _
-    (passed-over _ _ _ _ _ _ _ ready _ _ _ (c .before .before .before .before .before .before .before .before .loop .inv) (sym (c .before .before .before .before .before .before .in-slot .ensures) ∙ c .before .before .before .before .before .if1 .left) _ _
-    (omega arith) (c .if2 .taken) (c .before .before .before .settle .ensures))
-
-add-u : tie.Need-add-u Inv-loop μ-loop
-add-u c = omega (arith, accepted _ _ _ (c .before .before .before .before .before .before .before .before .before .before .before .before .before .before .before .pre .accepted) .slots)
-
-loop-less-2 : tie.Need-loop-less-2 Inv-loop μ-loop
-loop-less-2 c = omega arith
-
-loop-again-2 : tie.Need-loop-again-2 Inv-loop μ-loop
-loop-again-2 c =
-    let ready = ready-begun _ _ _ _ _ _ _ _ (c .before .before .before .before .before .before .before .before .before .before .before .before .before .before .before .pre) (c .before .before .before .before .before .before .before .before .before .before .before .begin .ensures) in
-    passing-settle _ _ _ _ _ _ _ ready _ _ _ (c .before .before .before .before .before .before .before .before .loop .inv) (sym (c .before .before .before .before .before .before .in-slot .ensures) ∙ c .before .before .before .before .before .if1 .left) _ _
-    (omega arith) (c .if2 .left) (c .before .before .before .settle .ensures)
-
-any-overflows-requires : tie.Need-any-overflows-requires Inv-loop μ-loop
-any-overflows-requires c κs =
-    let ready = ready-begun _ _ _ _ _ _ _ _ (c .before .before .before .before .before .before .before .before .before .pre) (c .before .before .before .before .before .begin .ensures) in
-    let fits = passing-area _ _ _ _ _ _ _ ready _ _ _ (c .before .before .loop .inv) .fits in
-    omega arith
-
-same-length-2 : tie.Need-same-length-2 Inv-loop μ-loop
-same-length-2 c =
-    let ready = ready-begun _ _ _ _ _ _ _ _ (c .before .before .before .before .before .before .before .before .before .before .pre) (c .before .before .before .before .before .before .begin .ensures) in
-    passing-length _ _ _ _ _ _ _ ready _ _ _ (c .before .before .before .loop .inv) ∙ c .before .before .before .before .before .before .begin .kept .0
-
-returns-2 : tie.Need-returns-2 Inv-loop μ-loop
-returns-2 c =
-    let ready = ready-begun _ _ _ _ _ _ _ _ (c .before .before .before .before .before .before .before .before .before .before .pre) (c .before .before .before .before .before .before .begin .ensures) in
-    passed-entry _ _ _ _ _ _ _ _ (c .before .before .before .before .before .before .before .before .before .before .pre) (c .before .before .before .before .before .before .begin .ensures) _ _
-    (passed-end _ _ _ _ _ _ _ ready _ _ _ _ (c .before .before .before .loop .inv) (omega arith) (c .any-overflows .ensures))
+returns : tie.Need-returns
+returns c = block-passed _ _ _ _ _ _ _ _ _ _ (c .before .before .before .before .before .before .before .pre) (c .before .before .pass-columns .ensures)
 
 pub pass-spec : {M : Type 1} → statement M
 pass-spec =
     tie.close
     (tie.spec
-    Inv-loop
-    μ-loop
-    begin-requires
-    loop-holds
-    in-slot-requires
-    fold-record-requires
-    add-j
-    loop-less
-    loop-again
-    settle-requires
+    sub-pass-columns
+    part-pass-columns-start
+    part-pass-columns-end
+    pass-columns-requires
     same-length
-    returns
-    add-u
-    loop-less-2
-    loop-again-2
-    any-overflows-requires
-    same-length-2
-    returns-2)
+    returns)

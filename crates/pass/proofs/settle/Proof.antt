@@ -4,20 +4,22 @@
 use Prim.Native.Nat.{_-_}
 use native.Mathlib.Omega.{arith}
 use Rattle.pass.proofs.PlaceLaws.{area-kept, SettlingArea, settling-none, settling-more, settling-all}
+use Rattle.pass.specs.Column.{columnOf}
 use Rattle.pass.proofs.settle.Statement.{statement}
 use Rattle.pass.proofs.settle.Tie as tie
 
 abbrev Inv-loop : tie.InvT-loop
-Inv-loop work₀ n block source low over₀ v₀ work over v = SettlingArea n block source low work₀ v over work
+Inv-loop work₀ n block source columns set over₀ v₀ work over v =
+    SettlingArea n block source (columnOf columns set block) work₀ v over work
 
 abbrev μ-loop : tie.MeasureT-loop
-μ-loop work₀ n block source low over₀ v₀ work over v = n - v
+μ-loop work₀ n block source columns set over₀ v₀ work over v = n - v
 
 loop-holds : tie.Need-loop-holds Inv-loop μ-loop
 loop-holds c = settling-none _ _ _ _ _
 
 settle-one-requires : tie.Need-settle-one-requires Inv-loop μ-loop
-settle-one-requires c κs = (area-kept (c .before .before .before .before .pre) (c .before .before .loop .inv .same), c .before .loop-test .taken)
+settle-one-requires c κs = (area-kept (c .before .before .before .before .before .pre) (c .before .before .loop .inv .same), c .before .loop-test .taken)
 
 add-v : tie.Need-add-v Inv-loop μ-loop
 add-v c = omega arith

@@ -30,16 +30,16 @@ slice-read-d : tie.Need-slice-read-d
 slice-read-d c = search needs
 
 row-at-requires : tie.Need-row-at-requires
-row-at-requires c κs = omega (arith, row-settled (c .before .before .before .before .pre .1) (c .before .before .before .before .pre .0), c .before .before .before .before .good .0 .0)
+row-at-requires c κs = omega (arith, row-settled (c .before .before .before .before .before .pre .1) (c .before .before .before .before .before .pre .0), c .before .before .before .before .before .good .0 .0)
 
 add-row-at : tie.Need-add-row-at
 add-row-at c = search needs
 
 row-at-requires-2 : tie.Need-row-at-requires-2
-row-at-requires-2 c κs = omega (arith, row-pending (c .before .before .before .before .before .pre .1) (c .before .before .before .before .before .pre .0), c .before .before .before .before .before .good .0 .0)
+row-at-requires-2 c κs = omega (arith, row-pending (c .before .before .before .before .before .before .pre .1) (c .before .before .before .before .before .before .pre .0), c .before .before .before .before .before .before .good .0 .0)
 
 absorb-requires : tie.Need-absorb-requires
-absorb-requires c κs = absorbable _ _ _ _ _ _ _ _ (c .before .before .before .before .before .before .before .pre .0) (omega arith) (omega arith) (omega arith) (c .before .before .row-at .ensures) (c .before .row-at2 .ensures)
+absorb-requires c κs = absorbable _ _ _ _ _ _ _ _ (c .before .before .before .before .before .before .before .before .pre .0) (omega arith) (omega arith) (omega arith) (c .before .before .row-at .ensures) (c .before .row-at2 .ensures)
 
 mask-requires : tie.Need-mask-requires
 mask-requires c κs = search needs
@@ -54,7 +54,7 @@ mul-work-2 : tie.Need-mul-work-2
 mul-work-2 c = search needs
 
 slice-write-work-2 : tie.Need-slice-write-work-2
-slice-write-work-2 c = lt-length-set (c .before .before .mask .last .0) _ _ (omega (arith, c .before .before .mask .kept .0, c .before .before .before .before .before .before .absorb .kept .0, c .before .before .before .before .before .before .before .before .before .before .before .before .before .before .pre .0 .fits))
+slice-write-work-2 c = lt-length-set (c .before .before .mask .last .0) _ _ (omega (arith, c .before .before .mask .kept .0, c .before .before .before .before .before .before .absorb .kept .0, c .before .before .before .before .before .before .before .before .before .before .before .before .before .before .before .pre .0 .fits))
 
 same-length : tie.Need-same-length
 same-length c = set-twice-length (c .before .before .before .mask .last .0) _ _ _ _ ∙ c .before .before .before .mask .kept .0 ∙ c .before .before .before .before .before .before .before .absorb .kept .0
