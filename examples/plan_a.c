@@ -1,6 +1,7 @@
 /*
  * Plan A of document 01 through the C interface: check, reach from 0, the row of station 3, the pairs 0 to 4 and 0 to 3 with
- * their ways one by one, the loads and the busiest station. The callers lend all memory; the example stops at a refusal.
+ * their ways one by one, how many ways of 0 to 4 stations 2 and 3 touch together, the loads and the busiest station. The
+ * callers lend all memory; the example stops at a refusal.
  */
 #include <inttypes.h>
 #include <stdio.h>
@@ -105,6 +106,17 @@ static void print_ways(size_t destination, uint64_t *work)
         accept_or_stop(number);
 }
 
+/* Through a set: how many ways of a pair have station 2 or 3 inside, those with both once. */
+static void print_set(size_t destination, uint64_t *work)
+{
+    static const uint8_t set[STATIONS] = {0, 0, 1, 1, 0};
+    uint64_t count;
+
+    accept_or_stop(joftaki_through_set(plan, sizeof plan, STATIONS, SLOTS, SOURCE, destination, &count,
+                                       set, STATIONS, work, JOFTAKI_WORK_LENGTH(STATIONS, SLOTS)));
+    printf("set 2 3 count %" PRIu64 "\n", count);
+}
+
 /* Operation 5: each station's pairs and load. */
 static void print_loads(uint64_t *work)
 {
@@ -139,6 +151,7 @@ int main(void)
     print_reach();
     print_pair(4, work);
     print_ways(4, work);
+    print_set(4, work);
     print_pair(3, work);
     print_ways(3, work);
     print_loads(work);

@@ -1,5 +1,5 @@
 /*
- * Joftaki: least ways through a slot plan. The operations of document 01 for C99 and C++.
+ * Joftaki: least ways through a slot plan. The operations of document 01 and of document 02's changes for C99 and C++.
  *
  * Words. The comments have document 01's words; in names a walk is a chain, hops are legs, a path is a way, and shortest is
  * least, with the fewest legs. An appearance (v, u) is station v reached by a chain whose last contact is in slot u.
@@ -9,15 +9,15 @@
  * 256; they are numbered from 0. t: the number of slots, 1 to 255; they are numbered from 1. s, z, v: stations. Every
  * function but row and row_number reads the plan anew and trusts no earlier table.
  *
- * Answers. Every function gives a number: 0 where the call is accepted, else the number of document 01's first cause that
- * holds, in its order: 1, 2, then 3, 4, 5 record by record, then 6, 7, 8, 9, 10. First way and next way have two more
+ * Answers. Every function gives a number: 0 where the call is accepted, else the number of the papers' first cause that
+ * holds, in their order: 1, 2, then 3, 4, 5 record by record, then 6, 7, 8, 11, 9, 10. First way and next way have two more
  * numbers, JOFTAKI_NONE and JOFTAKI_LAST, which are acceptances. A slot (hops, count, station, offset, length) is always
  * written: its value on acceptance; 0 on every refusal, and 0 beside JOFTAKI_NONE and JOFTAKI_LAST.
  *
- * Lent memory. Tables, buffers and work areas may hold anything at entry. Numbers 1 to 8 leave all of them as they were. 9
- * sets the named parts of the tables and of the work area to 0 and leaves the way buffer. 10 sets the named part of the work
- * area to 0 and leaves the way buffer. Every acceptance leaves the named part of the work area 0. The named part is the
- * length said at each prototype; entries past it are never touched, and longer is always fine.
+ * Lent memory. Tables, buffers, sets and work areas may hold anything at entry. Numbers 1 to 8 and 11 leave all of them as
+ * they were. 9 sets the named parts of the tables and of the work area to 0 and leaves the way buffer. 10 sets the named part
+ * of the work area to 0 and leaves the way buffer. Every acceptance leaves the named part of the work area 0. The named part
+ * is the length said at each prototype; entries past it are never touched, and longer is always fine.
  *
  * Proved. For every call that lends memory as said below, the number, the slots and every lent entry at exit are those of
  * the definitions in crates/temporal/specs, and the function ends. The contracts stand in crates/joftaki_c/src/lib.rt, with
@@ -34,7 +34,7 @@
  *     not const for writing;
  *   - it is aligned for its type;
  *   - it is not null, also where the length is 0;
- *   - no slot, table, buffer, work area or plan overlaps another that is lent to the same call;
+ *   - no slot, table, buffer, set, work area or plan overlaps another that is lent to the same call;
  *   - nothing else reads or writes what is lent as not const, or writes what is lent as const, until the call returns;
  *   - an area takes at most PTRDIFF_MAX bytes.
  *
@@ -51,7 +51,7 @@
 extern "C" {
 #endif
 
-/* The numbers. 11 to 17 are kept for later causes; no function gives one of them. */
+/* The numbers. 12 to 17 are kept for later causes; no function gives one of them. */
 #define JOFTAKI_ACCEPTED 0u
 /* A fault of the plan. */
 #define JOFTAKI_LIMITS 1u /* n or t outside its limits */
@@ -65,6 +65,7 @@ extern "C" {
 #define JOFTAKI_SHORT 8u             /* a lent table or buffer is too short */
 #define JOFTAKI_TOO_MANY 9u          /* an appearance or station has over 2^64 - 1 least chains from a source worked on */
 #define JOFTAKI_NOT_SHORTEST_PATH 10u /* next way: the offered positions are no least way of the pair, or it has none */
+#define JOFTAKI_SET_BYTE 11u          /* through_set: one of the first n bytes of the set is neither 0 nor 1 */
 /* First way and next way: acceptances that give no way. */
 #define JOFTAKI_NONE 100u /* the pair has no way */
 #define JOFTAKI_LAST 101u /* there is no way after the one in the buffer */
@@ -150,6 +151,24 @@ uint32_t joftaki_pair(const uint8_t *plan, size_t plan_length, size_t n, size_t 
                       size_t *hops, uint64_t *count,
                       uint64_t *through, size_t through_length,
                       uint64_t *work, size_t work_length);
+
+/*
+ * Through a set (document 02, C-12): in *count how many of the least ways from s to z have at least one member of the set
+ * inside. A way through two members counts once; s and z never count as inside, also where they are members. For a set of one
+ * station it is its through count, for the empty set 0, and where there is no way 0. The set has a byte for each station, at
+ * place v: 1 where v is a member, 0 where not. It is only read, and only its first n bytes are.
+ *
+ * Lend: set n bytes, work JOFTAKI_WORK_LENGTH(n, t) entries.
+ * Gives 0, or the first of 1, 2, 3, 4, 5, 6, 7, 8, 11, 9. 9 sets the named part of work to 0.
+ * Proved: the number, the slot, and every entry of work at exit. The cases of one station and of the empty set, and bounds by
+ * the through counts, are theorems (crates/demands/specs/Sets.antt).
+ * Not covered: each pointer is valid for its length, aligned and not null, also where its length is 0; count is valid,
+ * aligned and not null; the slot, set, work and the plan do not overlap.
+ */
+uint32_t joftaki_through_set(const uint8_t *plan, size_t plan_length, size_t n, size_t t, size_t s, size_t z,
+                             uint64_t *count,
+                             const uint8_t *set, size_t set_length,
+                             uint64_t *work, size_t work_length);
 
 /*
  * Operation 5, loads: for each station v, at place v, in pairs its pairs, the number of ordered pairs of two different

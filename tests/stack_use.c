@@ -18,7 +18,7 @@
 #define STACK 262144
 #define MARK 0xa5
 
-static uint8_t plan[T * JOFTAKI_RECORD_BYTES];
+static uint8_t plan[T * JOFTAKI_RECORD_BYTES], set[N];
 static uint16_t hops_table[TABLE], near_hops[N], way[T];
 static uint64_t counts[TABLE], near_counts[N], through[N], pairs[N], loads[N], work[WORK], count;
 static size_t offset, length, hops, station;
@@ -33,6 +33,10 @@ static uint32_t run_row_number(void) { return joftaki_row_number(counts, TABLE, 
 static uint32_t run_pair(void)
 {
     return joftaki_pair(plan, sizeof plan, N, T, 0, 255, &hops, &count, through, N, work, WORK);
+}
+static uint32_t run_through_set(void)
+{
+    return joftaki_through_set(plan, sizeof plan, N, T, 0, 255, &count, set, N, work, WORK);
 }
 static uint32_t run_loads(void) { return joftaki_loads(plan, sizeof plan, N, T, pairs, N, loads, N, work, WORK); }
 static uint32_t run_busiest(void) { return joftaki_busiest(plan, sizeof plan, N, T, &station, work, WORK); }
@@ -54,7 +58,7 @@ static const struct {
     {"joftaki_row", run_row, 0},             {"joftaki_row_number", run_row_number, 0},
     {"joftaki_pair", run_pair, 0},           {"joftaki_loads", run_loads, 0},
     {"joftaki_busiest", run_busiest, 0},     {"joftaki_first_way", run_first_way, 0},
-    {"joftaki_next_way", run_next_way, JOFTAKI_LAST},
+    {"joftaki_next_way", run_next_way, JOFTAKI_LAST}, {"joftaki_through_set", run_through_set, 0},
 };
 
 static unsigned char stack[STACK];

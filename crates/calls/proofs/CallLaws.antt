@@ -95,3 +95,4 @@ call-number-positive call-fault.SameStation = lit< tt
 call-number-positive call-fault.Short = lit< tt
 call-number-positive call-fault.TooMany = lit< tt
 call-number-positive call-fault.NotShortestPath = lit< tt
+call-number-positive call-fault.SetByte = lit< tt

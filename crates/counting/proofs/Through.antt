@@ -3,12 +3,10 @@
 -- Assumes nothing.
 use Prim.Native.Nat.{ℕ, _+_, _<_}
 use mathlib.Core.Path.{_≡_, refl, sym, ap, _∙_, fun-ext}
-use mathlib.Core.Bool.{Bool, true, false, not, cond, _&&_, _||_, and-false, or-false, not-and-self, and-eq-true-iff}
+use mathlib.Core.Bool.{Bool, true, false, not, cond, _&&_, _||_, or-false, not-and-self, and-eq-true-iff}
 use mathlib.Core.List.{List, [], _∷_, List·Memᴰ, List·Memᴰ·not-nil, Memᴰ·cast}
-use mathlib.Core.Logic.{by-cases}
 use mathlib.Core.Option.{some}
 use native.Mathlib.Omega.{arith}
-use native.Mathlib.Decide.{ℕ-discrete}
 use borrow.Author.Tests.{eqb-true, eq-eqb, ne-eqb}
 use lib.Dec.{eqb}
 use lib.ListN.{length, getElem?}
@@ -16,7 +14,7 @@ use Rattle.temporal.specs.Lists.{below, any, member, distinct, select, tuples}
 use Rattle.temporal.specs.Plan.{Contact, Plan, Appearance, start}
 use Rattle.temporal.specs.Walk.{run, lastOr, stationsOf, holds, isAt, isWalkTo, isPath, isInterior}
 use Rattle.temporal.specs.Definition3.{startingPoints}
-use Rattle.temporal.specs.Shortest.{ofHops, shortest, shortestPaths, hops, count, through}
+use Rattle.temporal.specs.Shortest.{ofHops, shortest, shortestPaths, hops, count}
 use Rattle.temporal.specs.Set.{touches, touched}
 use Rattle.temporal.specs.Bytes.{planOf}
 use Rattle.temporal.specs.Cause.{planFault}
@@ -213,23 +211,6 @@ module _ (p : Plan) (s z : ℕ) where
       → touched p s z m ≡ touched p s z m′
   unfolding touched
   touched-ext m m′ e = ap (λ t. length (select t (shortestPaths p s z))) (fun-ext e)
-
-  -- the through count of a station is that of the set of it alone
-  pub through-touched : (v : ℕ) → v < p .stations → through p s z v ≡ touched p s z (eqb v)
-  unfolding through touched touches
-  through-touched v h =
-      ap (λ t. length (select t (shortestPaths p s z))) (fun-ext (λ w.
-      sym (any-one v (λ u. isInterior p s z u w) (below (p .stations)) (mem-below (p .stations) .1 h))))
-    where
-      any-one : (v : ℕ) (t : ℕ → Bool) (l : List ℕ) → List·Memᴰ v l → any (λ u. eqb v u && t u) l ≡ t v
-      any-one v t l there = go (t v) refl
-        where
-          go : (b : Bool) → t v ≡ b → any (λ u. eqb v u && t u) l ≡ b
-          go true e =
-              any-true (λ u. eqb v u && t u) l .1 (v, there, and-eq-true-iff (eqb v v) (t v) .1 (eq-eqb v v refl, e))
-          go false e =
-              any-false (λ u. eqb v u && t u) l .1 (λ u m.
-              by-cases (ℕ-discrete v u) (λ q. rw (← q, e) (and-false (eqb v v))) (λ d. rw (ne-eqb v u d)))
 
   -- the destination is never inside, member or not
   pub touched-others : (m : ℕ → Bool) → touched p s z (λ v. not (eqb v z) && m v) ≡ touched p s z m

@@ -11,6 +11,7 @@ use Rattle.temporal.specs.Bytes.{planOf}
 use Rattle.temporal.specs.Cause.{cause, first, planFault, planCauses, tooMany, tooManyAnywhere}
 use Rattle.temporal.specs.Outcome.{cleared, workSize, ReachTables, reached, reach, rowNumber, row}
 use Rattle.temporal.specs.OutcomePair.{PairBuffers, paired, pair, LoadBuffers, loaded, loads, compared, busiest}
+use Rattle.temporal.specs.OutcomeSet.{setCounted, throughSet}
 use Rattle.plan.specs.Fault.{checkNumber}
 use Rattle.plan.specs.declared.CheckAnswer.{CheckAnswer}
 use Rattle.plan.specs.declared.CheckAnswer.the-variants as check-answer
@@ -26,6 +27,7 @@ use Rattle.demands.specs.Causes.{
   loadsCauses,
   loadsEmptied,
   busiestCauses,
+  throughSetCauses,
   firstWayCauses,
   nextWayCauses,
   wayEmptied,
@@ -37,6 +39,7 @@ use Rattle.demands.proofs.JudgedLaws.{
   plain-station,
   plain-pair,
   plain-short,
+  plain-set,
   judged-entered,
   judged-accepted,
   judged-too-many,
@@ -121,6 +124,13 @@ busiest-judged bs n t old =
     (judged-entered 0 old (cleared (workSize n t) old) _ _ _ (plain-short bs n t _)
     (judged-work 0 old (cleared (workSize n t) old) (tooManyAnywhere (planOf bs n t)) _ refl))
 
+set-judged : (bs : List ℕ) (n t s z : ℕ) (set old : List ℕ)
+    → Judged (throughSetCauses bs n t s z set old) 0 old (cleared (workSize n t) old) (throughSet bs n t s z set old)
+unfolding throughSet setCounted throughSetCauses planOf
+set-judged bs n t s z set old =
+    judged-entered 0 old (cleared (workSize n t) old) _ _ _ (plain-set bs n t s z set old)
+    (judged-work 0 old (cleared (workSize n t) old) (tooMany (planOf bs n t) s) _ refl)
+
 -- ---- the theorem
 
 pub demand1 : Demand1
@@ -138,6 +148,9 @@ demand1 =
           subst (Judged (loadsCauses bs n t old) tt old (loadsEmptied n t old)) (sym e) (loads-judged bs n t old);
       of-busiest = λ bs n t old x r e.
           subst (Judged (busiestCauses bs n t old) 0 old (cleared (workSize n t) old)) (sym e) (busiest-judged bs n t old);
+      of-set = λ bs n t s z set old x r e.
+          subst (Judged (throughSetCauses bs n t s z set old) 0 old (cleared (workSize n t) old)) (sym e)
+          (set-judged bs n t s z set old);
       of-first-way = λ bs n t s z old x r e.
           subst (Judged (firstWayCauses (question bs n t s z) old) 0 old (wayEmptied n t old)) (sym (ap outcomeOf e))
           (first-way-judged (question bs n t s z) old);

@@ -3,12 +3,13 @@ use Prim.Native.Nat.{ℕ, zero, suc}
 use native.Mathlib.Omega.{arith}
 use mathlib.Core.Path.{_≡_, refl, sym, subst, _∙_}
 use mathlib.Core.Bool.{Bool, true, false, cond}
-use mathlib.Core.List.{List, [], _∷_, _++_, flatMap}
+use mathlib.Core.List.{List, [], _∷_, _++_, flatMap, append-assoc}
 use mathlib.Core.Logic.{_↔_, _≢_}
 use Rattle.temporal.specs.Lists.{below}
 use Rattle.temporal.specs.Bytes.{records}
 use Rattle.temporal.specs.Cause.{cause, first, unless, recordCauses, planCauses, stationCauses, pairCauses}
 use Rattle.temporal.specs.Outcome.{Outcome, entered}
+use Rattle.temporal.specs.OutcomeSet.{setCauses}
 use Rattle.temporal.proofs.CauseLaws.{first-append-none, first-append-some}
 use Rattle.temporal.proofs.EnteredLaws.{unless-some, unless-none, refusedWith}
 use Rattle.demands.specs.Demand1.{NoneHolds, Numbered, Judged}
@@ -84,6 +85,13 @@ module _ (bs : List ℕ) (n t : ℕ) (lacking : Bool) where
 
   pub plain-short : Plain (planCauses bs n t ++ cause 8 lacking ∷ [])
   plain-short = plain-append _ _ (plain-plan bs n t) (plain-cause 8 _ [] (omega arith) (omega arith) plain-none)
+
+-- and with those of a call that names a pair and a set
+pub plain-set : (bs : List ℕ) (n t s z : ℕ) (set old : List ℕ) → Plain (planCauses bs n t ++ setCauses n t s z set old)
+unfolding setCauses
+plain-set bs n t s z set old =
+    subst Plain (append-assoc (planCauses bs n t) _ _)
+    (plain-append _ _ (plain-pair bs n t _ s z) (plain-cause 11 _ [] (omega arith) (omega arith) plain-none))
 
 -- ---- the call
 

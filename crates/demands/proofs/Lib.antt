@@ -17,3 +17,5 @@ mod ListedLaws
 mod BetweenLaws
 -- what the load program prints for plan A
 pub mod PlanAText
+-- C-12: a set of stations
+pub mod Sets

@@ -10,6 +10,7 @@ use Rattle.temporal.specs.Bytes.{planOf}
 use Rattle.temporal.specs.Cause.{cause, outside, planCauses, pairCauses, stationCauses, tooMany, tooManyAnywhere}
 use Rattle.temporal.specs.Outcome.{cleared, short, places, workSize, ReachTables}
 use Rattle.temporal.specs.OutcomePair.{PairBuffers, LoadBuffers}
+use Rattle.temporal.specs.OutcomeSet.{setCauses}
 use Rattle.temporal.specs.Cursor.{sameNumbers}
 use Rattle.temporal.specs.FirstNext.{Question, listOf, wayCauses, overflow}
 
@@ -71,6 +72,12 @@ loadsEmptied n t old =
 unfoldable pub busiestCauses : List ℕ → ℕ → ℕ → List ℕ → List ℕ
 busiestCauses bs n t work =
     planCauses bs n t ++ cause 8 (short (workSize n t) work) ∷ cause 9 (tooManyAnywhere (planOf bs n t)) ∷ []
+
+-- ---- The operation on a pair and a set (document 02, C-12): 1 to 8, 11, 9; of what is lent it writes the work area alone
+
+unfoldable pub throughSetCauses : List ℕ → ℕ → ℕ → ℕ → ℕ → List ℕ → List ℕ → List ℕ
+throughSetCauses bs n t s z set old =
+    planCauses bs n t ++ setCauses n t s z set old ++ cause 9 (tooMany (planOf bs n t) s) ∷ []
 
 -- ---- Operation 7, first way: 1 to 9; operation 8, next way: 1 to 10
 

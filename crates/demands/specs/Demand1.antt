@@ -10,6 +10,7 @@ use denote.Ref.{RefT}
 use Rattle.temporal.specs.Cause.{first, planCauses, planFault}
 use Rattle.temporal.specs.Outcome.{Outcome, cleared, workSize, ReachTables, reach, rowNumber}
 use Rattle.temporal.specs.OutcomePair.{PairBuffers, pair, LoadBuffers, loads, busiest}
+use Rattle.temporal.specs.OutcomeSet.{throughSet}
 use Rattle.temporal.specs.Cursor.{Reply, path, no-path, last-path, refused, first-way, next-way}
 use Rattle.temporal.specs.FirstNext.{WayContract}
 use Rattle.plan.specs.Fault.{checkNumber}
@@ -23,6 +24,8 @@ use Rattle.loads.specs.Answer.{loadsOutcome, busiestOutcome}
 use Rattle.pair.specs.declared.PairAnswer.{PairAnswer}
 use Rattle.loads.specs.declared.LoadsAnswer.{LoadsAnswer}
 use Rattle.loads.specs.declared.BusiestAnswer.{BusiestAnswer}
+use Rattle.sets.specs.Answer.{setOutcome}
+use Rattle.sets.specs.declared.SetAnswer.{SetAnswer}
 use Rattle.listing.specs.Answer.{replyOf, question}
 use Rattle.listing.specs.declared.WayAnswer.{WayAnswer}
 use Rattle.demands.specs.Limits.{WithinLimits}
@@ -35,6 +38,7 @@ use Rattle.demands.specs.Causes.{
   loadsCauses,
   loadsEmptied,
   busiestCauses,
+  throughSetCauses,
   WayBuffers,
   firstWayCauses,
   nextWayCauses,
@@ -106,6 +110,8 @@ pub record Demand1 : Type 0 where
       → Judged (loadsCauses bs n t old) tt old (loadsEmptied n t old) (loadsOutcome r x)
   pub of-busiest : (bs : List ℕ) (n t : ℕ) (old x : List ℕ) (r : BusiestAnswer) → busiestOutcome r x ≡ busiest bs n t old
       → Judged (busiestCauses bs n t old) 0 old (cleared (workSize n t) old) (busiestOutcome r x)
+  pub of-set : (bs : List ℕ) (n t s z : ℕ) (set old x : List ℕ) (r : SetAnswer) → setOutcome r x ≡ throughSet bs n t s z set old
+      → Judged (throughSetCauses bs n t s z set old) 0 old (cleared (workSize n t) old) (setOutcome r x)
   pub of-first-way : (bs : List ℕ) (n t s z : ℕ) (old x : WayBuffers) (r : WayAnswer)
       → WayContract first-way (question bs n t s z) (old .way) (old .work) (replyOf r) (x .way) (x .work)
       → Judged (firstWayCauses (question bs n t s z) old) 0 old (wayEmptied n t old) (wayResult r x)

@@ -11,3 +11,5 @@ pub mod Demand3
 pub mod Demand2
 -- what the load program prints for plan A
 pub mod PlanAText
+-- C-12: a set of stations
+pub mod Sets

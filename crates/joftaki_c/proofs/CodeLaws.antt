@@ -1,4 +1,4 @@
--- Document 01's numbers are at most 10, so they fit 32 bits. Assumes nothing.
+-- The papers' numbers are at most 11, so they fit 32 bits. Assumes nothing.
 use Prim.Native.Nat.{ℕ, _≤_}
 use native.Mathlib.Omega.{arith}
 use mathlib.Core.Path.{_≡_}
@@ -23,14 +23,15 @@ plan-small plan-fault.Slot = omega arith
 plan-small plan-fault.Ends = omega arith
 plan-small plan-fault.Order = omega arith
 
-call-small : (f : CallFault) → callNumber f ≤ 10
+call-small : (f : CallFault) → callNumber f ≤ 11
 call-small call-fault.Station = omega arith
 call-small call-fault.SameStation = omega arith
 call-small call-fault.Short = omega arith
 call-small call-fault.TooMany = omega arith
 call-small call-fault.NotShortestPath = omega arith
+call-small call-fault.SetByte = omega arith
 
-pub fault-small : (f : Fault) (k : ℕ) → k ≡ faultNumber f → k ≤ 10
+pub fault-small : (f : Fault) (k : ℕ) → k ≡ faultNumber f → k ≤ 11
 fault-small (fault.Plan f) k e = omega (arith, plan-small f)
 fault-small (fault.Call f) k e = omega (arith, call-small f)
 

@@ -1,4 +1,5 @@
--- What the lent slots of reach, row, pair, loads and busiest hold at exit, beside the number given. Definitions only.
+-- What the lent slots of reach, row, pair, loads, busiest and through_set hold at exit, beside the number given. Definitions
+-- only.
 -- Assumes nothing.
 use Prim.Native.Nat.{ℕ, _+_, _*_}
 use mathlib.Core.Path.{_≡_}
@@ -26,3 +27,7 @@ pub record RowGiven (n t v : ℕ) (table : List ℕ) (r offset size : ℕ) : Typ
 -- a number with busiest's slot and the work area at exit
 abbrev pub busiestGiven : ℕ → ℕ → List ℕ → Outcome ℕ (List ℕ)
 busiestGiven r station work = record { number = r; values = station; buffers = work }
+
+-- a number with through_set's slot and the work area at exit
+abbrev pub setGiven : ℕ → ℕ → List ℕ → Outcome ℕ (List ℕ)
+setGiven r count work = record { number = r; values = count; buffers = work }

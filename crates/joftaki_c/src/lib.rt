@@ -1,9 +1,10 @@
-// The operations for C: numbers as themselves, a slice as pointer and length, document 01's number as the answer (0:
-// accepted), and the values beside it in lent slots, 0 on refusal. include/joftaki.h declares them.
+// The operations for C: numbers as themselves, a slice as pointer and length, the papers' number as the answer (0: accepted),
+// and the values beside it in lent slots, 0 on refusal. include/joftaki.h declares them.
 ghost use mathlib.Core.Path.{_≡_};
 ghost use Rattle.temporal.specs.Cause.{planFault};
 ghost use Rattle.temporal.specs.Outcome.{reach, rowNumber};
 ghost use Rattle.temporal.specs.OutcomePair.{pair, loads, busiest};
+ghost use Rattle.temporal.specs.OutcomeSet.{throughSet};
 ghost use Rattle.temporal.specs.Cursor.{first-way, next-way};
 ghost use Rattle.temporal.specs.FirstNext.{wayAnswer};
 ghost use Rattle.plan.specs.Fault.{faultNumber};
@@ -11,7 +12,7 @@ ghost use Rattle.reach.specs.Pass.{lentTables};
 ghost use Rattle.pair.specs.Answer.{pairBuffers};
 ghost use Rattle.loads.specs.Answer.{loadBuffers};
 ghost use Rattle.listing.specs.Answer.{replyOf, question};
-ghost use Rattle.joftaki_c.specs.Slots.{answered, pairGiven, RowGiven, busiestGiven};
+ghost use Rattle.joftaki_c.specs.Slots.{answered, pairGiven, RowGiven, busiestGiven, setGiven};
 ghost use Rattle.joftaki_c.specs.Code.{replyCode, replyHops, wayGiven, wayExit};
 use listing::WayAnswer;
 use loads::BusiestAnswer;
@@ -19,8 +20,9 @@ use loads::LoadsAnswer;
 use pair::PairAnswer;
 use plan::Fault;
 use reach::ReachAnswer;
+use sets::SetAnswer;
 
-// Document 01's number of a fault, in 32 bits.
+// The papers' number of a fault, in 32 bits.
 fn fault_code(fault: Fault) -> u32
     ensures { λ r. ⌜ r ≡ faultNumber fault ⌝ }
 {
@@ -151,6 +153,32 @@ pub extern "C" fn joftaki_busiest(
         }
         BusiestAnswer::Refused(fault) => {
             *station = 0;
+            fault_code(fault)
+        }
+    }
+}
+
+// Document 02's operation on a pair and a set: its number, and the count in a slot; 0 on refusal.
+#[no_mangle]
+pub extern "C" fn joftaki_through_set(
+    plan: &[u8],
+    n: usize,
+    t: usize,
+    s: usize,
+    z: usize,
+    count: &mut u64,
+    set: &[u8],
+    work: &mut [u64],
+) -> u32
+    ensures { λ r. ⌜ setGiven r (now (count .exit)) (now (work .exit)) ≡ throughSet (now (plan .entry)) n t s z (now (set .entry)) (now (work .entry)) ⌝ }
+{
+    match sets::through_set(plan, n, t, s, z, set, work) {
+        SetAnswer::Counted(c) => {
+            *count = c;
+            0
+        }
+        SetAnswer::Refused(fault) => {
+            *count = 0;
             fault_code(fault)
         }
     }

@@ -4,7 +4,7 @@ use native.Mathlib.Omega.{arith}
 use mathlib.Core.Path.{_≡_, sym, ap, _∙_}
 use mathlib.Core.List.{List, []}
 use borrow.Author.Tests.{leb-false, ltb-false, eqb-false}
-use lib.Dec.{ltb, leb, lit<}
+use lib.Dec.{ltb, leb}
 use lib.ListN.{length}
 use Rattle.temporal.specs.Cause.{first, planFault, planCauses, pairCauses}
 use Rattle.temporal.specs.Outcome.{workSize}
@@ -22,22 +22,14 @@ use Rattle.temporal.proofs.EnteredLaws.{unless-some, unless-none}
 use Rattle.plan.specs.Fault.{planNumber, callNumber, checkNumber}
 use Rattle.plan.specs.declared.PlanFault.{PlanFault}
 use Rattle.plan.specs.declared.CallFault.{CallFault}
-use Rattle.plan.specs.declared.CallFault.the-variants as call-fault
 use Rattle.plan.specs.declared.CheckAnswer.{CheckAnswer}
 use Rattle.plan.specs.declared.CheckAnswer.the-variants as check-answer
 use Rattle.plan.proofs.Answers.{number-positive}
 use Rattle.calls.specs.Call.{pairCallFault, callCheckNumber}
+use Rattle.calls.proofs.CallLaws.{call-number-positive}
 use Rattle.calls.specs.declared.CallCheck.{CallCheck}
 use Rattle.calls.specs.declared.CallCheck.the-variants as call-check
 use Rattle.listing.specs.Work.{WayReady, wayOutcome}
-
--- no fault of a call has the number 0
-call-number-positive : (f : CallFault) → 0 < callNumber f
-call-number-positive call-fault.Station = lit< tt
-call-number-positive call-fault.SameStation = lit< tt
-call-number-positive call-fault.Short = lit< tt
-call-number-positive call-fault.TooMany = lit< tt
-call-number-positive call-fault.NotShortestPath = lit< tt
 
 -- a plan that check accepts
 pub accepted-plan : (bs : List ℕ) (n t : ℕ) (r : CheckAnswer) → checkNumber r ≡ planFault bs n t

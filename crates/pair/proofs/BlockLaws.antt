@@ -20,10 +20,9 @@ use Rattle.temporal.specs.Bytes.{planOf}
 use Rattle.temporal.specs.Cause.{planFault, tooMany}
 use Rattle.temporal.specs.Outcome.{workSize}
 use Rattle.temporal.proofs.Accepted.{accepted}
-use Rattle.temporal.proofs.Adequacy.{bounded-paths}
+use Rattle.temporal.proofs.Adequacy.{few-hops}
 use Rattle.temporal.proofs.ListLaws.{select-none, length-zero}
-use Rattle.temporal.proofs.PlanLaws.{slots-within}
-use Rattle.temporal.proofs.ShortestLaws.{hops-bound, hops-empty}
+use Rattle.temporal.proofs.ShortestLaws.{hops-empty}
 use Rattle.pass.specs.Passed.{PassReady, Counted, Passed}
 use Rattle.pair.specs.Throughs.{throughEntry, Storing, StoredBlock, PairReady, Throughs}
 use Rattle.pair.proofs.ThroughLaws.{entry-itself, entry-no-path, entry-rest}
@@ -38,15 +37,6 @@ through-destination p s z =
 pub through-no-path : (p : Plan) (s z v : ℕ) → shortestPaths p s z ≡ [] → through p s z v ≡ 0
 unfolding through select
 through-no-path p s z v e = rw e
-
--- a pair has no path, or few hops
-pub few-hops :
-    (bs : List ℕ) (n t s z : ℕ) → planFault bs n t ≡ 0 →
-    (shortestPaths (planOf bs n t) s z ≡ []) ⊎ (hops (shortestPaths (planOf bs n t) s z) < 65535)
-unfolding shortestPaths planOf
-few-hops bs n t s z ok =
-    let slots = accepted bs n t ok .slots in
-    ⊎-elim inl (λ h. inr (omega arith)) (hops-bound (bounded-paths (planOf bs n t) (slots-within bs n t ok) s z))
 
 -- a block of at most twice the slots fits the work area
 pub area-fits : (n t block : ℕ) → block ≤ 2 * t → 4 * n + 2 * n * block ≤ workSize n t

@@ -13,7 +13,8 @@ use lib.ListN.{getD}
 use Rattle.temporal.specs.Bytes.{planOf}
 use Rattle.temporal.specs.Shortest.{through}
 use Rattle.temporal.specs.Set.{touched}
-use Rattle.counting.proofs.Through.{through-touched, touched-others}
+use Rattle.temporal.proofs.SetLaws.{touched-one}
+use Rattle.counting.proofs.Through.{touched-others}
 use Rattle.pass.specs.declared.Columns.the-variants as columns
 use Rattle.pass.specs.Column.{columnOf}
 use Rattle.pass.specs.Passed.{PassReady, Passed, SetReady, SetPassed}
@@ -55,7 +56,7 @@ block-passed bs n t s low block set old new r ready x =
             let here : low + j < n = let all = ready .stations in omega arith in
             let same : through (planOf bs n t) s z (low + j)
             ≡ touched (planOf bs n t) s z (λ v. eqb (columnOf (columns.From low) set block v) j) =
-            through-touched (planOf bs n t) s z (low + j) here
+            sym (touched-one (planOf bs n t) s z (low + j) here)
             ∙ ap (touched (planOf bs n t) s z) (sym (fun-ext (block-column low block set j column))) in
             ap (λ k. getD new (4 * n + z * block + j) 0 + k) same
             ∙ x .rows q z j inside column (block-other low block set j z column (λ e. d (sym e))) some;

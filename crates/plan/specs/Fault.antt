@@ -18,13 +18,14 @@ planNumber plan-fault.Slot = 3
 planNumber plan-fault.Ends = 4
 planNumber plan-fault.Order = 5
 
--- causes 6 to 10
+-- causes 6 to 10, and 11 of document 02
 abbrev pub callNumber : CallFault → ℕ
 callNumber call-fault.Station = 6
 callNumber call-fault.SameStation = 7
 callNumber call-fault.Short = 8
 callNumber call-fault.TooMany = 9
 callNumber call-fault.NotShortestPath = 10
+callNumber call-fault.SetByte = 11
 
 abbrev pub faultNumber : Fault → ℕ
 faultNumber (fault.Plan f) = planNumber f

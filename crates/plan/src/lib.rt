@@ -16,13 +16,14 @@ pub enum PlanFault {
     Order,
 }
 
-// A fault of the call, document 01's causes 6 to 10 in turn.
+// A fault of the call, document 01's causes 6 to 10 in turn, then document 02's.
 pub enum CallFault {
     Station,
     SameStation,
     Short,
     TooMany,
     NotShortestPath,
+    SetByte,
 }
 
 // Why an operation refuses.
@@ -60,6 +61,7 @@ pub fn call_number(fault: CallFault) -> usize
         CallFault::Short => 8,
         CallFault::TooMany => 9,
         CallFault::NotShortestPath => 10,
+        CallFault::SetByte => 11,
     }
 }
 

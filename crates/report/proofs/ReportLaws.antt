@@ -79,6 +79,7 @@ call-positive call-fault.SameStation = lit< tt
 call-positive call-fault.Short = lit< tt
 call-positive call-fault.TooMany = lit< tt
 call-positive call-fault.NotShortestPath = lit< tt
+call-positive call-fault.SetByte = lit< tt
 
 fault-positive : (f : Fault) → 0 < faultNumber f
 fault-positive (fault.Plan f) = number-positive f

@@ -9,27 +9,23 @@ use native.Mathlib.Omega.{arith}
 use native.Mathlib.Decide.{decLt}
 use native.Mathlib.Nat.{mul-le-mul-left}
 use lib.ListN.{getD, drop}
-use lib.Seq.{getD-drop, drop-drop}
+use lib.Seq.{getD-drop}
 use Rattle.temporal.specs.Plan.{Plan}
 use Rattle.temporal.specs.Bytes.{planOf}
 use Rattle.temporal.specs.Cause.{tooMany}
 use Rattle.temporal.proofs.Accepted.{accepted}
+use Rattle.temporal.proofs.BufferLaws.{later-drop}
 use Rattle.pass.specs.Passed.{areaSize, PassReady, Passed}
 use Rattle.tallies.specs.Progress.{pairTerm, loadTerm, TallyEntry, State, Kept, Working, Workable, DestinationsAdded}
 use Rattle.tallies.specs.Sources.{BlockReady, BlockDone, SourceReady, SourceDone}
 use Rattle.tallies.proofs.TermLaws.{partly-source}
 use Rattle.tallies.proofs.StateLaws.{kept-over, kept-same, working-again}
 
--- lists that agree from a on agree at every later place, and from every later place on
+-- lists that agree from a on agree at every later place
 later-same : (a i : ℕ) (x y : List ℕ) → a ≤ i → drop a x ≡ drop a y → getD x i 0 ≡ getD y i 0
 later-same a i x y h e =
     let place : i ≡ a + (i - a) = omega arith in
     rw place (sym (getD-drop a x (i - a) 0) ∙ ap (λ l. getD l (i - a) 0) e ∙ getD-drop a y (i - a) 0)
-
-pub later-drop : (a b : ℕ) (x y : List ℕ) → a ≤ b → drop a x ≡ drop a y → drop b x ≡ drop b y
-later-drop a b x y h e =
-    let place : b ≡ a + (b - a) = omega arith in
-    rw place (sym (drop-drop (b - a) a x) ∙ ap (drop (b - a)) e ∙ drop-drop (b - a) a y)
 
 module _ (p : Plan) (n base s low : ℕ) where
   -- the same entries stand in a list that agrees from a place before them on

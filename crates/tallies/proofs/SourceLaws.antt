@@ -23,7 +23,7 @@ use Rattle.tallies.specs.Progress.{pairTerm, loadTerm, TallyEntry, Kept}
 use Rattle.tallies.specs.Sources.{SourceReady, SourceDone, AllReady}
 use Rattle.tallies.proofs.TermLaws.{partly-none, pairs-partly, load-partly}
 use Rattle.tallies.proofs.StateLaws.{kept-over, kept-same}
-use Rattle.tallies.proofs.BlockLaws.{later-drop}
+use Rattle.temporal.proofs.BufferLaws.{later-drop}
 use Rattle.tallies.proofs.Sizes.{base-fits}
 
 -- ---- the sizes

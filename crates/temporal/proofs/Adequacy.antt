@@ -5,7 +5,7 @@ use Prim.Native.Nat.{ℕ, _+_, _≤_, _<_}
 use native.Mathlib.Omega.{arith}
 use mathlib.Core.Path.{_≡_, refl, sym, ap, _∙_}
 use mathlib.Core.Bool.{Bool, true, cond}
-use mathlib.Core.List.{List, map, List·Memᴰ}
+use mathlib.Core.List.{List, [], map, List·Memᴰ}
 use mathlib.Core.Logic.{_⊎_, inl, inr, ⊎-elim, _↔_, _≢_}
 use mathlib.Core.Option.{some}
 use lib.Dec.{eqb}
@@ -172,3 +172,12 @@ shortest-walks-rise p s v u = shortest-rising p (isWalk p s v u)
 pub complete-list-rises : (p : Plan) (s z : ℕ) → Rising (shortestPaths p s z)
 unfolding shortestPaths
 complete-list-rises p s z = shortest-rising p (isPath p s z)
+
+-- A pair of an accepted plan has no path, or few hops.
+pub few-hops :
+    (bs : List ℕ) (n t s z : ℕ) → planFault bs n t ≡ 0 →
+    (shortestPaths (planOf bs n t) s z ≡ []) ⊎ (hops (shortestPaths (planOf bs n t) s z) < 65535)
+unfolding shortestPaths planOf
+few-hops bs n t s z ok =
+    let slots = accepted bs n t ok .slots in
+    ⊎-elim inl (λ h. inr (omega arith)) (hops-bound (bounded-paths (planOf bs n t) (slots-within bs n t ok) s z))

@@ -1,5 +1,5 @@
 -- What is written to the beginning of a buffer, as whole lists. Assumes nothing.
-use Prim.Native.Nat.{ℕ, zero, suc, _<_, _≤_}
+use Prim.Native.Nat.{ℕ, zero, suc, _+_, _-_, _<_, _≤_}
 use native.Mathlib.Omega.{arith}
 use mathlib.Core.Path.{_≡_, refl, sym, ap, ap₂, _∙_}
 use mathlib.Core.List.{List, [], _∷_, _++_, map}
@@ -17,7 +17,7 @@ use lib.ListN.{
   List·getD-append,
   take-append-drop,
 }
-use lib.Seq.{ext-getD, getD-take, length-take-le}
+use lib.Seq.{ext-getD, getD-take, length-take-le, drop-drop}
 use Rattle.temporal.specs.Lists.{below}
 use Rattle.temporal.specs.Outcome.{over}
 use Rattle.temporal.proofs.ListLaws.{length-below, getD-below}
@@ -68,3 +68,9 @@ pub written : (f : ℕ → ℕ) (k i : ℕ) (old : List ℕ) → i < k → getD 
 unfolding over
 written f k i old h =
     List·getD-append (map f (below k)) _ 0 i (rw (length-made f k) h) ∙ getD-made f k i h
+
+-- lists that agree from a on agree from every later place on
+pub later-drop : (a b : ℕ) (x y : List ℕ) → a ≤ b → drop a x ≡ drop a y → drop b x ≡ drop b y
+later-drop a b x y h e =
+    let place : b ≡ a + (b - a) = omega arith in
+    rw place (sym (drop-drop (b - a) a x) ∙ ap (drop (b - a)) e ∙ drop-drop (b - a) a y)

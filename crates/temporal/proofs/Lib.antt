@@ -1,9 +1,11 @@
 -- What follows from the definitions. Adequacy has the theorems by which a reader can trust them.
 pub mod Adequacy
+-- figures of plan A by computation
+mod Figures
 -- the busiest station
 pub mod BusiestLaws
--- a load in which rounding each share differs from rounding the sum
-mod Rounding
+-- a set of stations
+pub mod SetLaws
 -- the causes of refusal, what an accepted plan keeps, and what a check of a plan rests on
 pub mod CauseLaws
 pub mod NumberLaws

@@ -10,6 +10,7 @@ pub mod Bytes
 pub mod Cause
 pub mod Outcome
 pub mod OutcomePair
+pub mod OutcomeSet
 pub mod Cursor
 pub mod FirstNext
 pub mod Trace

@@ -96,6 +96,19 @@ extern "C" {
         work: *mut u64,
         work_length: usize,
     ) -> u32;
+    fn joftaki_through_set(
+        plan: *const u8,
+        plan_length: usize,
+        n: usize,
+        t: usize,
+        s: usize,
+        z: usize,
+        count: *mut u64,
+        set: *const u8,
+        set_length: usize,
+        work: *mut u64,
+        work_length: usize,
+    ) -> u32;
     way_function!(joftaki_first_way);
     way_function!(joftaki_next_way);
 }
@@ -207,6 +220,27 @@ pub fn loads(input: PlanInput, pairs: &mut [u64], loads: &mut [u64], work: &mut 
 pub fn busiest(input: PlanInput, station: &mut u64, work: &mut [u64]) -> u32 {
     let (area, length) = (work.as_mut_ptr(), work.len());
     on_plan!(joftaki_busiest, input, size(station), area, length)
+}
+
+/// Document 02's operation on a pair and a set.
+pub fn through_set(
+    input: PlanInput,
+    (source, destination): Ends,
+    count: &mut u64,
+    set: &[u8],
+    work: &mut [u64],
+) -> u32 {
+    on_plan!(
+        joftaki_through_set,
+        input,
+        source,
+        destination,
+        count,
+        set.as_ptr(),
+        set.len(),
+        work.as_mut_ptr(),
+        work.len()
+    )
 }
 
 /// Operations 7 and 8.

@@ -18,6 +18,7 @@ pub fn function(operation: Operation) -> &'static str {
         Operation::Busiest => "joftaki_busiest",
         Operation::FirstWay => "joftaki_first_way",
         Operation::NextWay => "joftaki_next_way",
+        Operation::ThroughSet => "joftaki_through_set",
     }
 }
 
@@ -65,6 +66,9 @@ impl fmt::Display for Call<'_> {
         write!(to, "{}, stations {named:?}", function(self.operation))?;
         write!(to, ", 16-bit tables {:?}", lengths(&self.lent.narrow))?;
         writeln!(to, ", 64-bit tables {:?}", lengths(&self.lent.wide))?;
+        for set in &self.lent.sets {
+            writeln!(to, "set: {set:?}")?;
+        }
         if self.operation.takes_way_buffer() {
             writeln!(to, "way buffer before: {:?}", self.lent.narrow[0])?;
         }

@@ -26,6 +26,7 @@ impl Comparison {
         let mut told = differences(call, &expected, &seen);
         told += &tables_text("16-bit", &lent.narrow, &seen.lent.narrow);
         told += &tables_text("64-bit", &lent.wide, &seen.lent.wide);
+        told += &tables_text("8-bit", &lent.sets, &seen.lent.sets);
         if !told.is_empty() {
             let given = answer_text(call.operation, seen.number, &seen.values);
             let asked = answer_text(call.operation, expected.number, &expected.values);
@@ -62,7 +63,7 @@ impl Comparison {
             let answered = |number: &u32| self.answered(operation, *number);
             let calls: u64 = numbers.iter().map(answered).sum();
             total += calls;
-            let _ = write!(text, "{:18} {calls:>8}:", function(operation));
+            let _ = write!(text, "{:19} {calls:>8}:", function(operation));
             for number in numbers {
                 let _ = write!(text, " {} {}", number_name(number), answered(&number));
             }

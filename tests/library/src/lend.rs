@@ -24,13 +24,14 @@ fn named_size(size: usize, most: usize) -> usize {
     }
 }
 
-/// The named lengths of an operation's tables: 16 bits, then 64 bits.
-pub fn named(operation: Operation, input: PlanInput) -> [Vec<usize>; 2] {
+/// The named lengths of an operation's tables, 16 bits, then 64 bits, and of its sets.
+pub fn named(operation: Operation, input: PlanInput) -> [Vec<usize>; 3] {
     let stations = named_size(input.stations, MOST_STATIONS);
     let slots = named_size(input.slots, MOST_SLOTS);
     [
         operation.narrow(stations, slots),
         operation.wide(stations, slots),
+        operation.sets(stations),
     ]
 }
 
@@ -57,15 +58,33 @@ pub fn wide(random: &mut Random, length: usize) -> Vec<u64> {
     (0..length).map(|_| random.number()).collect()
 }
 
-/// Memory of given lengths for a call, with arbitrary contents.
-pub fn of_lengths(random: &mut Random, lengths: &[Vec<usize>; 2]) -> Lent {
-    let [narrow_lengths, wide_lengths] = lengths;
+/// A set for so many stations, at any odds of members; behind them arbitrary bytes. Some sets have
+/// another byte than 0 and 1.
+pub fn set(random: &mut Random, stations: usize, length: usize) -> Vec<u8> {
+    let odds = random.between(1, 6);
+    let inverted = random.below(2) == 0;
+    let member = |random: &mut Random| u8::from((random.below(odds) == 0) != inverted);
+    let mut set: Vec<u8> = (0..length).map(|_| random.number() as u8).collect();
+    let inside = stations.min(length);
+    set[..inside].fill_with(|| member(random));
+    if inside > 0 && random.below(12) == 0 {
+        set[random.below(inside)] = [2, 3, 128, 254, 255][random.below(5)];
+    }
+    set
+}
+
+/// Memory of given lengths for a call, with arbitrary contents; sets are for so many stations.
+pub fn of_lengths(random: &mut Random, lengths: &[Vec<usize>; 3], stations: usize) -> Lent {
+    let [narrow_lengths, wide_lengths, set_lengths] = lengths;
     Lent {
         narrow: (narrow_lengths.iter())
             .map(|length| narrow(random, *length))
             .collect(),
         wide: (wide_lengths.iter())
             .map(|length| wide(random, *length))
+            .collect(),
+        sets: (set_lengths.iter())
+            .map(|length| set(random, stations, *length))
             .collect(),
     }
 }
@@ -87,7 +106,7 @@ pub fn call<'a>(
         operation,
         input,
         stations,
-        lent: of_lengths(random, &tables),
+        lent: of_lengths(random, &tables, input.stations),
         values: wide(random, operation.values().len()),
     }
 }

@@ -66,23 +66,28 @@ pub fn run(call: &Call) -> Seen {
     let mut wide: Vec<Guarded<u64>> = wide
         .map(|table| Guarded::new(table, 0xA5C3_0F69_1E2D_B487))
         .collect();
+    let sets = call.lent.sets.iter();
+    let mut sets: Vec<Guarded<u8>> = sets.map(|set| Guarded::new(set, 1)).collect();
     let mut values = Guarded::new(&call.values, 0x5A3C_F096);
     let mut plan = Guarded::new(call.input.bytes, 0xA5);
     let input = PlanInput {
         bytes: plan.lent(),
         ..call.input
     };
-    let number = answer(call, input, &mut narrow, &mut wide, values.lent());
+    let tables = (&mut narrow[..], &mut wide[..], &mut sets[..]);
+    let number = answer(call, input, tables, values.lent());
     let outside_kept = plan.entries() == call.input.bytes
         && plan.kept()
         && values.kept()
         && narrow.iter().all(Guarded::kept)
-        && wide.iter().all(Guarded::kept);
+        && wide.iter().all(Guarded::kept)
+        && sets.iter().all(Guarded::kept);
     Seen {
         number,
         lent: Lent {
             narrow: entries_of(&narrow),
             wide: entries_of(&wide),
+            sets: entries_of(&sets),
         },
         values: values.entries().to_vec(),
         outside_kept,
@@ -95,14 +100,15 @@ fn entries_of<N: Copy + PartialEq>(tables: &[Guarded<N>]) -> Vec<Vec<N>> {
     entries.collect()
 }
 
+/// The lent parts: 16-bit tables, 64-bit tables and sets.
+type Tables<'a> = (
+    &'a mut [Guarded<u16>],
+    &'a mut [Guarded<u64>],
+    &'a mut [Guarded<u8>],
+);
+
 /// The number that the library answers.
-fn answer(
-    call: &Call,
-    input: PlanInput,
-    narrow: &mut [Guarded<u16>],
-    wide: &mut [Guarded<u64>],
-    values: &mut [u64],
-) -> u32 {
+fn answer(call: &Call, input: PlanInput, (narrow, wide, sets): Tables, values: &mut [u64]) -> u32 {
     let [s, z] = call.stations;
     match (call.operation, narrow, wide, values) {
         (Operation::Check, [], [], []) => archive::check(input),
@@ -134,6 +140,9 @@ fn answer(
         }
         (Operation::NextWay, [way], [work], [hops]) => {
             archive::way(Way::Next, input, (s, z), hops, way.lent(), work.lent())
+        }
+        (Operation::ThroughSet, [], [work], [count]) => {
+            archive::through_set(input, (s, z), count, sets[0].lent(), work.lent())
         }
         (operation, ..) => panic!("{operation:?} lends other tables"),
     }

@@ -64,7 +64,12 @@ fn small_plan(
         return Ok(());
     }
     for (source, destination) in pairs(owned.stations) {
-        for operation in [Operation::Pair, Operation::FirstWay, Operation::NextWay] {
+        for operation in [
+            Operation::Pair,
+            Operation::FirstWay,
+            Operation::NextWay,
+            Operation::ThroughSet,
+        ] {
             let stations = [source, destination];
             one_call(comparison, random, owned, operation, stations, LISTED)?;
         }
@@ -193,12 +198,16 @@ fn trace(
             }
             Step::Call(way, call) => (*way, call),
         };
-        let lengths = [vec![call.buffer_length], vec![call.scratch_length]];
+        let lengths = [
+            vec![call.buffer_length],
+            vec![call.scratch_length],
+            Vec::new(),
+        ];
         let operation = match way {
             Way::First => Operation::FirstWay,
             Way::Next => Operation::NextWay,
         };
-        let mut lent = lend::of_lengths(random, &lengths);
+        let mut lent = lend::of_lengths(random, &lengths, call.input.stations);
         lent.narrow[0].copy_from_slice(&buffer[..call.buffer_length]);
         let made = Call {
             operation,

@@ -1,12 +1,16 @@
-//! All plans of tiny sizes and plans with equal loads, in all calls.
+//! All plans of tiny sizes and plans with equal loads, in all calls; every number of through set
+//! against every other.
 
 use lister::cases::{plan_bytes, Record, PLAN_A};
-use lister::means::LISTED;
+use lister::means::{COUNTED, LISTED};
 use lister::operation::{Operation, OPERATIONS};
 use lister::pair_cases::TIED_PLANS;
 use lister::plan::PlanInput;
 use lister::plans::{all_lists, all_plans, pairs, possible_records, Owned};
 use lister::random::Random;
+use lister::reach_cases::ladder;
+use lister::set_cases::all_sets;
+use lister::sets::set_of;
 
 use crate::compare::{Comparison, Difference};
 use crate::lend::{self, Lengths};
@@ -19,15 +23,21 @@ pub fn compare(comparison: &mut Comparison, seed: u64) -> Result<(), Difference>
             for owned in all_plans(stations, slots) {
                 every_call(comparison, random, &owned)?;
                 every_buffer(comparison, random, &owned)?;
+                every_set(comparison, random, &owned)?;
             }
         }
     }
     for tied in TIED_PLANS {
         every_call(comparison, random, &tied.owned())?;
     }
+    for owned in all_plans(4, 2).iter().step_by(5) {
+        every_set(comparison, random, owned)?;
+    }
     every_size(comparison, random)?;
     every_sequence(comparison, random)?;
-    every_length(comparison, random)
+    every_length(comparison, random)?;
+    every_set_byte(comparison, random)?;
+    every_two_causes(comparison, random)
 }
 
 /// Every operation, with every station up to n.
@@ -67,6 +77,24 @@ fn every_buffer(
         let mut call = lend::call(random, operation, input, stations, Lengths::Named);
         for buffer in &buffers {
             call.lent.narrow[0].copy_from_slice(buffer);
+            comparison.compare(&call, LISTED)?;
+        }
+    }
+    Ok(())
+}
+
+/// Through set on every set, for every pair.
+fn every_set(
+    comparison: &mut Comparison,
+    random: &mut Random,
+    owned: &Owned,
+) -> Result<(), Difference> {
+    for (source, destination) in pairs(owned.stations) {
+        let (operation, stations) = (Operation::ThroughSet, [source, destination]);
+        let input = owned.input();
+        let mut call = lend::call(random, operation, input, stations, Lengths::Named);
+        for members in all_sets(owned.stations) {
+            call.lent.sets[0] = set_of(owned.stations, &members);
             comparison.compare(&call, LISTED)?;
         }
     }
@@ -149,18 +177,96 @@ fn every_length(comparison: &mut Comparison, random: &mut Random) -> Result<(), 
     let owned = Owned::new(5, 4, &PLAN_A);
     for operation in OPERATIONS {
         let named = lend::named(operation, owned.input());
-        for width in 0..2 {
+        for width in 0..named.len() {
             for table in 0..named[width].len() {
                 for length in 0..=named[width][table] + 2 {
                     let mut lengths = named.clone();
                     lengths[width][table] = length;
                     let input = owned.input();
                     let mut call = lend::call(random, operation, input, [0, 4], Lengths::Named);
-                    call.lent = lend::of_lengths(random, &lengths);
+                    call.lent = lend::of_lengths(random, &lengths, owned.stations);
                     comparison.compare(&call, LISTED)?;
                 }
             }
         }
     }
     Ok(())
+}
+
+/// Through set on plan A with every byte at every place of the set, and behind it.
+fn every_set_byte(comparison: &mut Comparison, random: &mut Random) -> Result<(), Difference> {
+    let owned = Owned::new(5, 4, &PLAN_A);
+    for destination in [1, 4] {
+        let (operation, stations) = (Operation::ThroughSet, [0, destination]);
+        let input = owned.input();
+        let mut call = lend::call(random, operation, input, stations, Lengths::Named);
+        for place in 0..8 {
+            for byte in 0..=255 {
+                call.lent.sets[0] = vec![0, 1, 1, 0, 1, 1, 0, 1];
+                call.lent.sets[0][place] = byte;
+                comparison.compare(&call, LISTED)?;
+            }
+        }
+    }
+    Ok(())
+}
+
+/// Through set with each set of causes of which one is of the plan, and any of the call: 6 and 7 by the
+/// stations, 8 by the set or the work area, 11, and 9 by a ladder of 65 layers.
+fn every_two_causes(comparison: &mut Comparison, random: &mut Random) -> Result<(), Difference> {
+    let ladder = Owned::built(&ladder(65, 2));
+    let (stations, slots) = (ladder.stations, ladder.slots);
+    let slot = slots as u16;
+    let records = [(1, 0, 1), (1, 0, 2), (2, 1, 3)];
+    let with = |record: Record| plan_bytes(&[&records[..], &[record]].concat());
+    let cut = ladder.bytes[1..].to_vec();
+    let plans = [
+        (ladder.bytes.clone(), stations, slots),
+        (plan_bytes(&records), stations, slots),
+        (ladder.bytes.clone(), 257, slots),
+        (ladder.bytes.clone(), stations, 256),
+        (cut, stations, slots),
+        (with((slot + 1, 0, 1)), stations, slots),
+        (with((slot, 5, 5)), stations, slots),
+        (with((1, 0, 1)), stations, slots),
+    ];
+    let ends = [[0, 130], [1, 130], [0, 131], [300, 300], [7, 7]];
+    for (bytes, stations, slots) in &plans {
+        let input = PlanInput {
+            bytes,
+            stations: *stations,
+            slots: *slots,
+        };
+        for ends in ends {
+            for (set, work, wrong) in all_changes() {
+                let operation = Operation::ThroughSet;
+                let mut call = lend::call(random, operation, input, ends, Lengths::Named);
+                call.lent.sets[0] = vec![1; ladder.stations + 1 - set];
+                call.lent.wide[0] = lend::wide(random, ladder.scratch_length() + 1 - work);
+                if let Some((place, byte)) = wrong {
+                    let last = call.lent.sets[0].len() - 1;
+                    call.lent.sets[0][place.min(last)] = byte;
+                }
+                comparison.compare(&call, COUNTED)?;
+            }
+        }
+    }
+    Ok(())
+}
+
+/// How many entries fewer than one more than the named ones the set and the work area have, and a wrong
+/// byte with its place.
+type Change = (usize, usize, Option<(usize, u8)>);
+
+/// Lengths around the named ones, with and without a wrong byte at the first and the last place.
+fn all_changes() -> Vec<Change> {
+    let mut changes = Vec::new();
+    for set in 0..3 {
+        for work in 0..3 {
+            for wrong in [None, Some((0, 2)), Some((130, 255))] {
+                changes.push((set, work, wrong));
+            }
+        }
+    }
+    changes
 }

@@ -15,7 +15,7 @@ pub enum PlanFault {
     Order,
 }
 
-/// A fault of the call: causes 6 to 10.
+/// A fault of the call: causes 6 to 10, and document 02's from 11 on.
 #[derive(Clone, Copy, Debug, PartialEq, Eq)]
 pub enum CallFault {
     /// 6: a named station is not below n.
@@ -28,6 +28,8 @@ pub enum CallFault {
     TooMany,
     /// 10: the offered positions are no shortest path of the pair.
     NotShortest,
+    /// 11: a byte of a set is neither 0 nor 1.
+    SetByte,
 }
 
 /// A refusal, of the plan or of the call.
@@ -38,7 +40,7 @@ pub enum Refusal {
 }
 
 impl Refusal {
-    /// Document 01's number of the cause.
+    /// The papers' number of the cause.
     pub fn number(self) -> u8 {
         match self {
             Refusal::Plan(PlanFault::Limits) => 1,
@@ -51,6 +53,7 @@ impl Refusal {
             Refusal::Call(CallFault::TooShort) => 8,
             Refusal::Call(CallFault::TooMany) => 9,
             Refusal::Call(CallFault::NotShortest) => 10,
+            Refusal::Call(CallFault::SetByte) => 11,
         }
     }
 }

@@ -1,4 +1,4 @@
-//! The causes of the call from 6 to 9; those of the plan are in `plan`, 10 in `ways`.
+//! The causes of the call from 6 to 9, and 11; those of the plan are in `plan`, 10 in `ways`.
 
 use crate::answer::{Answer, CallFault};
 use crate::plan::Ends;
@@ -26,6 +26,12 @@ pub fn known_pair(stations: usize, (source, destination): Ends) -> Answer<()> {
 /// Cause 8: a lent table has at least its named entries.
 pub fn long_enough(length: usize, named: usize) -> Answer<()> {
     unless(length < named, CallFault::TooShort)
+}
+
+/// Cause 11: each byte of a set is 0 or 1. It is looked at after 8 and before 9.
+pub fn set_bytes(set: &[u8]) -> Answer<()> {
+    let wrong = |byte: &u8| ![0, 1].contains(byte);
+    unless(set.iter().any(wrong), CallFault::SetByte)
 }
 
 /// Cause 9: none of the counts of a source is over the limit.

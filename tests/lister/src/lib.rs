@@ -1,8 +1,10 @@
-//! The plain lister: document 01's operations, answered from its definitions alone.
+//! The plain lister: the operations of document 01 and of document 02's changes, answered from their
+//! definitions alone.
 //!
 //! Every walk from a source is listed, hop by hop; the shortest are picked by comparing lengths;
 //! a count is the length of a list. It serves as the other side of comparisons on small plans. The
-//! modules `fast`, `fast_pairs` and `fast_ways` alone list no walk; they serve plans with too many.
+//! modules `fast`, `fast_pairs`, `fast_sets` and `fast_ways` alone list no walk; they serve plans with
+//! too many.
 //!
 //! The words here, and document 01's where they differ:
 //!
@@ -29,6 +31,7 @@ pub mod causes;
 pub mod cursor;
 pub mod fast;
 pub mod fast_pairs;
+pub mod fast_sets;
 pub mod fast_ways;
 pub mod files;
 pub mod lent;
@@ -47,6 +50,8 @@ pub mod random;
 pub mod reach;
 pub mod reach_cases;
 pub mod row;
+pub mod set_cases;
+pub mod sets;
 pub mod shortest;
 pub mod show;
 pub mod traces;

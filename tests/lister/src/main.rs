@@ -8,8 +8,8 @@ use lister::files::{stdin_bytes, stdout_text, Filed};
 use lister::load_program::load_text;
 use lister::means::LISTED;
 use lister::plan::PlanInput;
-use lister::show::{loads_text, pair_text, reach_text, text_of};
-use lister::{cases, load_cases, pair_cases, program, reach_cases, way_cases};
+use lister::show::{loads_text, pair_text, reach_text, set_text, text_of};
+use lister::{cases, load_cases, pair_cases, program, reach_cases, set_cases, way_cases};
 
 const USAGE: &str = "usage:
   lister check-cases DIR         write DIR/stdin and DIR/stdout, cases of check
@@ -18,9 +18,11 @@ const USAGE: &str = "usage:
   lister load-text < input       what the load program prints
   lister pair-cases DIR          write DIR/stdin and DIR/stdout, cases of pair, loads and busiest
   lister way-cases DIR           write DIR/stdin and DIR/stdout, cases of first way and next way
+  lister set-cases DIR           write DIR/stdin and DIR/stdout, cases of through set
   lister show n T s z < plan     hops, count, through counts and shortest paths of s, z
   lister reach n T s < plan      hops and count of each station from s, and the stations' rows
-  lister loads n T < plan        pairs and load of each station";
+  lister loads n T < plan        pairs and load of each station
+  lister set n T s z V.. < plan  how many shortest paths of s, z have one of the stations V interior";
 
 fn main() -> ExitCode {
     program::exit(run)
@@ -37,6 +39,7 @@ fn run(words: &[&str]) -> Result<(), String> {
         }
         ["pair-cases", directory] => write_files(directory, &pair_cases::all_cases()),
         ["way-cases", directory] => write_files(directory, &way_cases::all_cases()),
+        ["set-cases", directory] => write_files(directory, &set_cases::all_cases()),
         ["show", stations, slots, source, destination] => {
             let source = decimal(source)?;
             let destination = decimal(destination)?;
@@ -46,6 +49,14 @@ fn run(words: &[&str]) -> Result<(), String> {
         }
         ["loads", stations, slots] => {
             print_for_plan(stations, slots, |input| text_of(loads_text(LISTED, input)))
+        }
+        ["set", stations, slots, source, destination, members @ ..] => {
+            let ends = (decimal(source)?, decimal(destination)?);
+            let members = members.iter().map(|member| decimal(member));
+            let members: Vec<usize> = members.collect::<Result<_, _>>()?;
+            print_for_plan(stations, slots, |input| {
+                text_of(set_text(input, ends, &members))
+            })
         }
         ["reach", stations, slots, source] => {
             let source = decimal(source)?;

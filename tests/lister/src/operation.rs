@@ -9,7 +9,7 @@ use crate::reach::ReachTables;
 use crate::row::{row, row_number};
 use crate::ways::{hops_beside, Found, Way};
 
-/// The operations, row's sister among them.
+/// The operations, row's sister and document 02's among them.
 #[derive(Clone, Copy, Debug, PartialEq, Eq, PartialOrd, Ord)]
 pub enum Operation {
     Check,
@@ -21,13 +21,14 @@ pub enum Operation {
     Busiest,
     FirstWay,
     NextWay,
+    ThroughSet,
 }
 
 use Operation::*;
 
 /// All operations.
-pub const OPERATIONS: [Operation; 9] = [
-    Check, Reach, Row, RowNumber, Pair, Loads, Busiest, FirstWay, NextWay,
+pub const OPERATIONS: [Operation; 10] = [
+    Check, Reach, Row, RowNumber, Pair, Loads, Busiest, FirstWay, NextWay, ThroughSet,
 ];
 
 /// The C interface's number of first way's answer "none".
@@ -45,6 +46,7 @@ impl Operation {
             Pair | FirstWay => &[1, 2, 3, 4, 5, 6, 7, 8, 9],
             Loads | Busiest => &[1, 2, 3, 4, 5, 8, 9],
             NextWay => &[1, 2, 3, 4, 5, 6, 7, 8, 9, 10],
+            ThroughSet => &[1, 2, 3, 4, 5, 6, 7, 8, 11, 9],
         }
     }
 
@@ -64,7 +66,7 @@ impl Operation {
         match self {
             Check | Loads | Busiest => 0,
             Reach | Row | RowNumber => 1,
-            Pair | FirstWay | NextWay => 2,
+            Pair | FirstWay | NextWay | ThroughSet => 2,
         }
     }
 
@@ -87,7 +89,15 @@ impl Operation {
             Row | RowNumber => vec![table],
             Pair => vec![stations, scratch],
             Loads => vec![stations, stations, scratch],
-            Busiest | FirstWay | NextWay => vec![scratch],
+            Busiest | FirstWay | NextWay | ThroughSet => vec![scratch],
+        }
+    }
+
+    /// The named lengths of its sets of stations.
+    pub fn sets(self, stations: usize) -> Vec<usize> {
+        match self {
+            ThroughSet => vec![stations],
+            _ => Vec::new(),
         }
     }
 
@@ -104,15 +114,18 @@ impl Operation {
             Pair => &["hops", "count"],
             Busiest => &["station"],
             FirstWay | NextWay => &["hops"],
+            ThroughSet => &["count"],
         }
     }
 }
 
-/// The tables that a call lends, by the width of their entries.
+/// What a call lends: tables by the width of their entries, and sets.
 #[derive(Clone, Debug, PartialEq, Eq)]
 pub struct Lent {
     pub narrow: Vec<Vec<u16>>,
     pub wide: Vec<Vec<u64>>,
+    /// The sets of stations, which are only read.
+    pub sets: Vec<Vec<u8>>,
 }
 
 /// The number of a call, and the values beside it.
@@ -201,6 +214,10 @@ impl Means {
                     number: way_number(&answer),
                     values: vec![way_hops(&answer)],
                 }
+            }
+            (ThroughSet, [], [scratch]) => {
+                let answer = self.through_set(input, ends, &lent.sets[0], scratch);
+                Answered::new(&answer, &[beside(&answer)])
             }
             (operation, _, _) => panic!("{operation:?} lends other tables"),
         }

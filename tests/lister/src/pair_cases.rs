@@ -31,8 +31,9 @@ use crate::means::Counting;
 use crate::plans::pairs;
 use crate::reach_cases::{counts_text, Builder};
 
-pub use limits::BLOCKS;
+pub use limits::{dense, BLOCKS};
 pub use shares::{mixed_ladders, MixedLadder};
+pub use small::{checked_plans, small_plans};
 pub use ties::{TiedPlan, TIED_PLANS};
 
 /// The longest label, in bytes.
@@ -163,17 +164,17 @@ impl Filed for Case {
 
 /// A plan with a label, for cases of each operation.
 #[derive(Clone, Debug)]
-struct LabelledPlan {
-    label: String,
+pub struct LabelledPlan {
+    pub label: String,
     /// n and T
-    sizes: (u16, u16),
-    bytes: Vec<u8>,
-    counting: Counting,
+    pub sizes: (u16, u16),
+    pub bytes: Vec<u8>,
+    pub counting: Counting,
 }
 
 impl LabelledPlan {
     /// A plan whose walks are listed.
-    fn new(label: &str, sizes: (u16, u16), bytes: Vec<u8>) -> LabelledPlan {
+    pub fn new(label: &str, sizes: (u16, u16), bytes: Vec<u8>) -> LabelledPlan {
         LabelledPlan {
             label: label.to_string(),
             sizes,
@@ -183,17 +184,17 @@ impl LabelledPlan {
     }
 
     /// A plan of records, whose walks are listed.
-    fn of_records(label: &str, sizes: (u16, u16), records: &[Record]) -> LabelledPlan {
+    pub fn of_records(label: &str, sizes: (u16, u16), records: &[Record]) -> LabelledPlan {
         LabelledPlan::new(label, sizes, plan_bytes(records))
     }
 
     /// A plan with too many walks to be listed.
-    fn built(label: &str, builder: &Builder) -> LabelledPlan {
+    pub fn built(label: &str, builder: &Builder) -> LabelledPlan {
         LabelledPlan::new(label, builder.sizes(), builder.bytes()).counted()
     }
 
     /// The plan with its walks counted and not listed.
-    fn counted(self) -> LabelledPlan {
+    pub fn counted(self) -> LabelledPlan {
         LabelledPlan {
             counting: Counting::Fast,
             ..self

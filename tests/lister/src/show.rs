@@ -1,11 +1,12 @@
-//! The texts of the subcommands show, loads and reach.
+//! The texts of the subcommands show, loads, reach and set.
 
 use crate::answer::Answer;
 use crate::lent::scratch_length;
 use crate::means::{Means, COUNT_LIMIT, LISTED};
-use crate::plan::{read, PlanInput};
+use crate::plan::{read, Ends, PlanInput};
 use crate::reach::{reach_named, Tables};
 use crate::row::row;
+use crate::sets::set_of;
 use crate::ways::{paths_of_call, PathCall};
 
 /// The text of an answer; a refusal is one line.
@@ -43,6 +44,19 @@ pub fn pair_text(input: PlanInput, source: usize, destination: usize) -> Answer<
         text += &format!("path {}\n", spaced(&positions));
     }
     Ok(text)
+}
+
+/// The members of a set, and how many shortest paths of a pair have one of them interior.
+pub fn set_text(input: PlanInput, ends: Ends, members: &[usize]) -> Answer<String> {
+    let plan = read(input)?;
+    let set = set_of(plan.stations, members);
+    let mut scratch = vec![0; scratch_length(plan.stations, plan.slots)];
+    let count = LISTED.through_set(input, ends, &set, &mut scratch)?;
+    let members = members.iter().map(|member| format!(" {member}"));
+    Ok(format!(
+        "set{} count {count}\n",
+        members.collect::<String>()
+    ))
 }
 
 /// The loads as document 01 prints them for plan A.

@@ -54,7 +54,7 @@ fn few_records() -> Vec<Case> {
 }
 
 /// 4,096 contacts of 64 stations in 127 slots, spread over the possible ones.
-fn dense() -> Vec<Record> {
+pub fn dense() -> Vec<Record> {
     let of_slot = |slot: u16| {
         let of_a = move |a: u16| (a + 1..64).map(move |b| (slot, a, b));
         (0..64).flat_map(of_a)

@@ -37,7 +37,7 @@ fn length_near(random: &mut Random, named: usize) -> usize {
 }
 
 /// The plans of up to 6 stations.
-fn small_plans() -> Vec<LabelledPlan> {
+pub fn small_plans() -> Vec<LabelledPlan> {
     let further = further_plans().into_iter().enumerate();
     let further = further.map(|(index, case)| {
         let label = format!("small {index}");
@@ -50,7 +50,7 @@ fn small_plans() -> Vec<LabelledPlan> {
 }
 
 /// The valid plans of check-cases.
-fn checked_plans() -> Vec<LabelledPlan> {
+pub fn checked_plans() -> Vec<LabelledPlan> {
     let mut plans = Vec::new();
     for (index, case) in generated_cases().into_iter().enumerate() {
         if case.number() == 0 {

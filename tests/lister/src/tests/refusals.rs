@@ -12,10 +12,11 @@ use crate::ways::{Found, Way};
 const SIZES: (usize, usize) = (5, 4);
 
 impl Operation {
-    /// The named lengths of its 16-bit tables, then of its 64-bit tables.
-    fn named(self) -> [Vec<usize>; 2] {
+    /// The named lengths of its 16-bit tables, of its 64-bit tables, and of its sets.
+    fn named(self) -> [Vec<usize>; 3] {
         let (stations, slots) = SIZES;
-        [self.narrow(stations, slots), self.wide(stations, slots)]
+        let (narrow, wide) = (self.narrow(stations, slots), self.wide(stations, slots));
+        [narrow, wide, self.sets(stations)]
     }
 
     fn takes_scratch(self) -> bool {
@@ -25,18 +26,19 @@ impl Operation {
 
 #[test]
 fn named_lengths_of_plan_a() {
-    for (operation, narrow, wide) in [
-        (Operation::Check, vec![], vec![]),
-        (Operation::Reach, vec![25, 5], vec![25, 5]),
-        (Operation::Row, vec![], vec![25]),
-        (Operation::RowNumber, vec![], vec![25]),
-        (Operation::Pair, vec![], vec![5, 100]),
-        (Operation::Loads, vec![], vec![5, 5, 100]),
-        (Operation::Busiest, vec![], vec![100]),
-        (Operation::FirstWay, vec![4], vec![100]),
-        (Operation::NextWay, vec![4], vec![100]),
+    for (operation, narrow, wide, sets) in [
+        (Operation::Check, vec![], vec![], vec![]),
+        (Operation::Reach, vec![25, 5], vec![25, 5], vec![]),
+        (Operation::Row, vec![], vec![25], vec![]),
+        (Operation::RowNumber, vec![], vec![25], vec![]),
+        (Operation::Pair, vec![], vec![5, 100], vec![]),
+        (Operation::Loads, vec![], vec![5, 5, 100], vec![]),
+        (Operation::Busiest, vec![], vec![100], vec![]),
+        (Operation::FirstWay, vec![4], vec![100], vec![]),
+        (Operation::NextWay, vec![4], vec![100], vec![]),
+        (Operation::ThroughSet, vec![], vec![100], vec![5]),
     ] {
-        assert_eq!(operation.named(), [narrow, wide], "{operation:?}");
+        assert_eq!(operation.named(), [narrow, wide, sets], "{operation:?}");
     }
 }
 
@@ -49,10 +51,12 @@ struct Arguments {
     source: usize,
     destination: usize,
     limit: u64,
+    /// The first byte of a set.
+    byte: u8,
 }
 
 impl Arguments {
-    /// Plan A from 0 to 4, with each cause of the set but 8 and 10.
+    /// Plan A from 0 to 4, with each cause of the list but 8 and 10.
     fn with(causes: &[u8]) -> Arguments {
         let has = |cause: u8| causes.contains(&cause);
         let slot = match (has(3), has(5)) {
@@ -84,6 +88,7 @@ impl Arguments {
             source,
             destination,
             limit: if has(9) { 2 } else { u64::MAX },
+            byte: if has(11) { 2 } else { 1 },
         }
     }
 
@@ -105,21 +110,27 @@ impl Arguments {
     }
 }
 
-/// Memory with 3 entries past each named part; `short` names a table that lacks one entry.
-fn lend(operation: Operation, short: Option<usize>, offered: &[u16]) -> Lent {
-    let [narrow, wide] = operation.named();
+/// Memory with 3 entries past each named part; `short` names a table or set that lacks one entry. A
+/// set begins with the byte given, and has a wrong byte past its named part.
+fn lend(operation: Operation, short: Option<usize>, offered: &[u16], byte: u8) -> Lent {
+    let [narrow, wide, sets] = operation.named();
     let length = |table: usize, named: &usize| match short {
         Some(other) if other == table => named - 1,
         _ => named + 3,
     };
     let filled = |(table, named)| (1..=length(table, named)).map(|value| 1000 + value as u64);
     let wide_from = narrow.len();
+    let sets_from = wide_from + wide.len();
+    let set = |length: usize| [[byte, 0, 1, 1, 0], [2; 5]].concat()[..length].to_vec();
     let mut lent = Lent {
         narrow: (narrow.iter().enumerate())
             .map(|entry| filled(entry).map(|value| value as u16).collect())
             .collect(),
         wide: (wide.iter().enumerate())
             .map(|(table, named)| filled((wide_from + table, named)).collect())
+            .collect(),
+        sets: (sets.iter().enumerate())
+            .map(|(table, named)| set(length(sets_from + table, named)))
             .collect(),
     };
     if operation.takes_way_buffer() {
@@ -142,7 +153,7 @@ fn run(operation: Operation, arguments: &Arguments, lent: &mut Lent) -> (u32, bo
 /// The memory after a call with a cause of refusal.
 fn memory_after(operation: Operation, refusal: u32, before: &Lent) -> Lent {
     let mut after = before.clone();
-    let [narrow, wide] = operation.named();
+    let [narrow, wide, _] = operation.named();
     if refusal == 9 || refusal == 10 {
         for (table, named) in after.wide.iter_mut().zip(wide) {
             table[..named].fill(0);
@@ -156,14 +167,14 @@ fn memory_after(operation: Operation, refusal: u32, before: &Lent) -> Lent {
     after
 }
 
-/// All sets of the numbers 1 to 10.
+/// All sets of the numbers 1 to 11.
 fn sets_of_causes() -> Vec<Vec<u8>> {
     let set = |bits: u16| {
-        (1..=10)
+        (1..=11)
             .filter(|cause| bits >> (cause - 1) & 1 == 1)
             .collect()
     };
-    (0..1 << 10).map(set).collect()
+    (0..1 << 11).map(set).collect()
 }
 
 /// The tables that may be short: each in turn with cause 8, none without.
@@ -178,7 +189,7 @@ fn short_tables(operation: Operation, causes: &[u8]) -> Vec<Option<usize>> {
 
 #[test]
 fn every_set_of_causes_gives_its_first() {
-    let mut calls = [0; 11];
+    let mut calls = [0; 12];
     for causes in sets_of_causes() {
         let arguments = Arguments::with(&causes);
         let offered = if causes.contains(&10) {
@@ -191,7 +202,7 @@ fn every_set_of_causes_gives_its_first() {
             let holds = |cause: &u32| causes.contains(&(*cause as u8));
             let expected = known.copied().find(holds);
             for short in short_tables(operation, &causes) {
-                let before = lend(operation, short, &offered);
+                let before = lend(operation, short, &offered, arguments.byte);
                 let mut after = before.clone();
                 let (number, zeros) = run(operation, &arguments, &mut after);
                 let place = format!("{operation:?} {causes:?} {short:?}");
@@ -212,10 +223,11 @@ fn every_set_of_causes_gives_its_first() {
 fn accepted_calls_leave_unnamed_parts() {
     let arguments = Arguments::with(&[]);
     for operation in OPERATIONS {
-        let before = lend(operation, None, &[0, 2, 5]);
+        let before = lend(operation, None, &[0, 2, 5], 1);
         let mut after = before.clone();
         assert_eq!(run(operation, &arguments, &mut after).0, 0);
-        let [narrow, wide] = operation.named();
+        assert_eq!(after.sets, before.sets);
+        let [narrow, wide, _] = operation.named();
         for (table, named) in narrow.into_iter().enumerate() {
             assert_eq!(after.narrow[table][named..], before.narrow[table][named..]);
         }
@@ -239,6 +251,7 @@ fn exact_lengths_are_accepted() {
     assert!(owned.pair(u64::MAX, 0, 4).is_ok());
     assert!(owned.loads(u64::MAX).is_ok());
     assert!(owned.busiest(u64::MAX).is_ok());
+    assert!(owned.through_set(u64::MAX, (0, 4), &[1; 5]).is_ok());
     let (mut buffer, mut scratch) = ([9; 4], [9; 100]);
     assert!(first(&owned, (0, 4), &mut buffer, &mut scratch).is_ok());
     assert!(next(&owned, (0, 4), &mut buffer, &mut scratch).is_ok());
@@ -287,5 +300,8 @@ fn stations_far_out_are_6() {
         six(number(&owned.pair(u64::MAX, far, 0)));
         six(number(&owned.pair(u64::MAX, 0, far)));
         six(number(&owned.pair(u64::MAX, far, far)));
+        for ends in [(far, 0), (0, far), (far, far)] {
+            six(number(&owned.through_set(u64::MAX, ends, &[1; 5])));
+        }
     }
 }

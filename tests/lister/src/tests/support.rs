@@ -3,11 +3,12 @@
 use crate::answer::Answer;
 use crate::cases::PLAN_A;
 use crate::loads::Load;
-use crate::means::LISTED;
+use crate::means::{COUNT_LIMIT, LISTED};
 use crate::pair::Paired;
-use crate::plan::{read, Plan};
+use crate::plan::{read, Ends, Plan};
 use crate::reach::{reach_named, Tables};
 use crate::reach_cases::{exact_plans, Exact};
+use crate::sets::set_of;
 
 pub use crate::plans::{all_plans, pairs, random_plan, Owned};
 
@@ -37,6 +38,21 @@ impl Owned {
         let values = listed.pair(self.input(), ends, &mut through, &mut scratch)?;
         assert!(scratch.iter().all(|entry| *entry == 0));
         Ok(Paired { values, through })
+    }
+
+    /// Through set on a scratch of exactly the named length.
+    pub fn through_set(&self, limit: u64, ends: Ends, set: &[u8]) -> Answer<u64> {
+        let mut scratch = vec![7; self.scratch_length()];
+        let listed = LISTED.within(limit);
+        let touched = listed.through_set(self.input(), ends, set, &mut scratch)?;
+        assert!(scratch.iter().all(|entry| *entry == 0));
+        Ok(touched)
+    }
+
+    /// How many shortest paths of a pair have one of the members interior.
+    pub fn touched(&self, ends: Ends, members: &[usize]) -> u64 {
+        let set = set_of(self.stations, members);
+        self.through_set(COUNT_LIMIT, ends, &set).unwrap()
     }
 
     /// Loads on tables of exactly the named lengths.

@@ -1,0 +1,2 @@
+-- a search of the set's bytes, and what the operation leaves
+mod SetCallLaws
