@@ -28,7 +28,7 @@ use Rattle.text.specs.Decimal.{code, codes, powersUpTo, digitCount, deci
 power-rises : {i j : ℕ} → i ≤ j → 10 ^ i ≤ 10 ^ j
 power-rises h = pow-le-pow-right (lit< tt) h
 
-pub power-positive : (k : ℕ) → 0 < 10 ^ k
+power-positive : (k : ℕ) → 0 < 10 ^ k
 power-positive k = one-le-pow k 10 (lit< tt)
 
 -- ---- how many digits
@@ -104,13 +104,14 @@ module _ (x : ℕ) where
       (λ few. absurd (omega (arith, digits-long (digitCount x) (omega arith) over))))
       (λ under. omega arith)
 
-  -- one digit less does not hold a number of several digits
-  pub power-below : 10 ≤ x → 10 ^ (digitCount x - 1) ≤ x
+  -- one digit less does not hold a positive number
+  pub power-below : 1 ≤ x → 10 ^ (digitCount x - 1) ≤ x
   power-below h =
+      by-cases (decLe (digitCount x) 1)
+      (λ one. let e : digitCount x - 1 ≡ 0 = omega arith in rw e h)
+      (λ several.
       by-cases (decLe (10 ^ (digitCount x - 1)) x) (λ q. q)
-      (λ over.
-      let several : 1 < digitCount x = digits-long 1 (lit< tt) h in
-      absurd (omega (arith, digits-short (digitCount x - 1) (omega arith) (omega arith))))
+      (λ over. absurd (omega (arith, digits-short (digitCount x - 1) (omega arith) (omega arith)))))
 
 -- ---- the codes
 
@@ -119,11 +120,6 @@ pub length-codes : (x k : ℕ) → length (codes x k) ≡ k
 unfolding codes
 length-codes x zero = refl
 length-codes x (suc k) = ap suc (length-codes x k)
-
--- no code of no digit
-pub codes-none : (x k : ℕ) → k ≡ 0 → codes x k ≡ []
-unfolding codes
-codes-none x k e = ap (codes x) e
 
 -- the first of several codes, and the others
 pub codes-first : (x k : ℕ) → 0 < k → codes x k ≡ code x (k - 1) ∷ codes x (k - 1)
@@ -195,9 +191,16 @@ module _ (x : ℕ) where
   no-leading-zero several h =
       let e : suc (digitCount x - 1) ≡ digitCount x = omega (arith, digits-positive x) in
       rw (codes-first x (digitCount x) (digits-positive x))
-      (code-leading x (digitCount x - 1) (power-below x several) (rw e (below-power x h)))
+      (code-leading x (digitCount x - 1) (power-below x (omega arith)) (rw e (below-power x h)))
 
 -- 0 has one digit
 pub decimal-zero : decimal 0 ≡ 48 ∷ []
 unfolding decimal digitCount powersUpTo codes code
 decimal-zero = refl
+
+-- the largest number of 64 bits has 20
+pub decimal-largest :
+    decimal 18446744073709551615 ≡
+    49 ∷ 56 ∷ 52 ∷ 52 ∷ 54 ∷ 55 ∷ 52 ∷ 52 ∷ 48 ∷ 55 ∷ 51 ∷ 55 ∷ 48 ∷ 57 ∷ 53 ∷ 53 ∷ 49 ∷ 54 ∷ 49 ∷ 53 ∷ []
+unfolding decimal digitCount powersUpTo codes code
+decimal-largest = refl

@@ -2,6 +2,6 @@
 pub mod WrittenLaws
 -- how many digits a number has, and that they read back as the number
 pub mod DecimalLaws
--- the rule of the table of powers
-mod PowerLaws
 pub mod PutLaws
+-- the digits of a number are those of its tenth, then the last one
+mod DivisionLaws

@@ -35,7 +35,7 @@ module _ (at : ℕ) (new old : List ℕ) where
   writing-none = record { same = refl; ends = refl; left = refl }
 
   -- one byte more
-  pub writing-more :
+  writing-more :
       (i c : ℕ) (rest rest′ now : List ℕ) → rest ≡ c ∷ rest′ → Writing at new old i rest now →
       Writing at new old (i + 1) rest′ (set now i c)
   writing-more i c rest rest′ now e w =
