@@ -1,7 +1,7 @@
 -- What follows from the definitions. Adequacy has the theorems by which a reader can trust them.
 pub mod Adequacy
--- figures of plan A by computation
-mod Figures
+-- figures of plan A by computation; public, so that they are checked before the laws of sets
+pub mod Figures
 -- the busiest station
 pub mod BusiestLaws
 -- a set of stations
