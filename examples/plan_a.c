@@ -1,7 +1,7 @@
 /*
  * Plan A of document 01 through the C interface: check, reach from 0, the row of station 3, the pairs 0 to 4 and 0 to 3 with
- * their ways one by one, how many ways of 0 to 4 stations 2 and 3 touch together, the loads and the busiest station. The
- * callers lend all memory; the example stops at a refusal.
+ * their ways one by one, how many ways of 0 to 4 stations 2 and 3 touch together, the earliest ways of 0 to 3, the loads and
+ * the busiest station. The callers lend all memory; the example stops at a refusal.
  */
 #include <inttypes.h>
 #include <stdio.h>
@@ -117,6 +117,21 @@ static void print_set(size_t destination, uint64_t *work)
     printf("set 2 3 count %" PRIu64 "\n", count);
 }
 
+/* Foremost: the slot in which a reading arrives first, the fewest legs then, and the count and the through counts of these
+ * ways. Of the three least ways from 0 to 3 two arrive in slot 2; the third arrives in slot 3. */
+static void print_foremost(size_t destination, uint64_t *work)
+{
+    size_t arrival;
+    size_t hops;
+    uint64_t count;
+    uint64_t through[STATIONS];
+
+    accept_or_stop(joftaki_foremost(plan, sizeof plan, STATIONS, SLOTS, SOURCE, destination, &arrival, &hops, &count,
+                                    through, STATIONS, work, JOFTAKI_WORK_LENGTH(STATIONS, SLOTS)));
+    printf("slot %zu\nhops %zu\ncount %" PRIu64 "\n", arrival, hops, count);
+    print_counts("through", through, STATIONS);
+}
+
 /* Operation 5: each station's pairs and load. */
 static void print_loads(uint64_t *work)
 {
@@ -154,6 +169,7 @@ int main(void)
     print_set(4, work);
     print_pair(3, work);
     print_ways(3, work);
+    print_foremost(3, work);
     print_loads(work);
     print_busiest(work);
     return 0;

@@ -11,8 +11,8 @@
  *
  * Answers. Every function gives a number: 0 where the call is accepted, else the number of the papers' first cause that
  * holds, in their order: 1, 2, then 3, 4, 5 record by record, then 6, 7, 8, 11, 9, 10. First way and next way have two more
- * numbers, JOFTAKI_NONE and JOFTAKI_LAST, which are acceptances. A slot (hops, count, station, offset, length) is always
- * written: its value on acceptance; 0 on every refusal, and 0 beside JOFTAKI_NONE and JOFTAKI_LAST.
+ * numbers, JOFTAKI_NONE and JOFTAKI_LAST, which are acceptances. A slot (arrival, hops, count, station, offset, length) is
+ * always written: its value on acceptance; 0 on every refusal, and 0 beside JOFTAKI_NONE and JOFTAKI_LAST.
  *
  * Lent memory. Tables, buffers, sets and work areas may hold anything at entry. Numbers 1 to 8 and 11 leave all of them as
  * they were. 9 sets the named parts of the tables and of the work area to 0 and leaves the way buffer. 10 sets the named part
@@ -63,7 +63,8 @@ extern "C" {
 #define JOFTAKI_STATION 6u           /* a named station is >= n */
 #define JOFTAKI_SAME_STATION 7u      /* source equals destination */
 #define JOFTAKI_SHORT 8u             /* a lent table or buffer is too short */
-#define JOFTAKI_TOO_MANY 9u          /* an appearance or station has over 2^64 - 1 least chains from a source worked on */
+#define JOFTAKI_TOO_MANY 9u          /* an appearance or station has over 2^64 - 1 least chains from a source worked on;
+                                        foremost: an appearance */
 #define JOFTAKI_NOT_SHORTEST_PATH 10u /* next way: the offered positions are no least way of the pair, or it has none */
 #define JOFTAKI_SET_BYTE 11u          /* through_set: one of the first n bytes of the set is neither 0 nor 1 */
 /* First way and next way: acceptances that give no way. */
@@ -76,7 +77,7 @@ extern "C" {
 #define JOFTAKI_MOST_RECORDS 4096
 #define JOFTAKI_RECORD_BYTES 6
 
-/* The legs where there is no chain, in a table or in the hops slot of pair. */
+/* The legs where there is no chain, in a table or in the hops slot of pair or foremost; and foremost's arrival then. */
 #define JOFTAKI_NO_WALK 65535u
 
 /* The named lengths, in entries: of a table of appearances and of a work area. n and t are within their limits. */
@@ -151,6 +152,26 @@ uint32_t joftaki_pair(const uint8_t *plan, size_t plan_length, size_t n, size_t 
                       size_t *hops, uint64_t *count,
                       uint64_t *through, size_t through_length,
                       uint64_t *work, size_t work_length);
+
+/*
+ * Foremost, the earliest ways of a pair s, z (document 02, C-14): in *arrival the earliest slot in which any chain from s
+ * reaches z, in *hops the fewest legs of the chains that reach z in that slot, in *count how many of them have so few, and in
+ * through at place v how many of these have v inside: visited, and neither s nor z. They are ways: document 000's shortest
+ * foremost paths (Definition 11). Chains that arrive later do not count, also where they have fewer legs. Where there is no
+ * way: 65535, 65535, 0 and all 0.
+ *
+ * Lend: as for pair: through n entries, work JOFTAKI_WORK_LENGTH(n, t) entries.
+ * Gives 0, or the first of 1, 2, 3, 4, 5, 6, 7, 8, 9. 9 looks at appearances alone, at every one of them, also in slots after
+ * the arrival; what a station has over several slots is no cause. 9 sets the named parts of through and work to 0.
+ * Proved: the number, the three slots, and every entry of through and work at exit. That the chains counted are ways, and that
+ * no chain arrives earlier, are theorems (crates/demands/specs/Foremost.antt).
+ * Not covered: each pointer is valid for its length, aligned and not null, also where its length is 0; arrival, hops and count
+ * are valid, aligned and not null; the three slots, through, work and the plan do not overlap.
+ */
+uint32_t joftaki_foremost(const uint8_t *plan, size_t plan_length, size_t n, size_t t, size_t s, size_t z,
+                          size_t *arrival, size_t *hops, uint64_t *count,
+                          uint64_t *through, size_t through_length,
+                          uint64_t *work, size_t work_length);
 
 /*
  * Through a set (document 02, C-12): in *count how many of the least ways from s to z have at least one member of the set

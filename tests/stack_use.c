@@ -21,7 +21,7 @@
 static uint8_t plan[T * JOFTAKI_RECORD_BYTES], set[N];
 static uint16_t hops_table[TABLE], near_hops[N], way[T];
 static uint64_t counts[TABLE], near_counts[N], through[N], pairs[N], loads[N], work[WORK], count;
-static size_t offset, length, hops, station;
+static size_t offset, length, arrival, hops, station;
 
 static uint32_t run_check(void) { return joftaki_check(plan, sizeof plan, N, T); }
 static uint32_t run_reach(void)
@@ -33,6 +33,10 @@ static uint32_t run_row_number(void) { return joftaki_row_number(counts, TABLE, 
 static uint32_t run_pair(void)
 {
     return joftaki_pair(plan, sizeof plan, N, T, 0, 255, &hops, &count, through, N, work, WORK);
+}
+static uint32_t run_foremost(void)
+{
+    return joftaki_foremost(plan, sizeof plan, N, T, 0, 255, &arrival, &hops, &count, through, N, work, WORK);
 }
 static uint32_t run_through_set(void)
 {
@@ -59,6 +63,7 @@ static const struct {
     {"joftaki_pair", run_pair, 0},           {"joftaki_loads", run_loads, 0},
     {"joftaki_busiest", run_busiest, 0},     {"joftaki_first_way", run_first_way, 0},
     {"joftaki_next_way", run_next_way, JOFTAKI_LAST}, {"joftaki_through_set", run_through_set, 0},
+    {"joftaki_foremost", run_foremost, 0},
 };
 
 static unsigned char stack[STACK];

@@ -16,9 +16,10 @@ use lib.ListN.{length, getElem?}
 use Rattle.temporal.specs.Lists.{below, sum}
 use Rattle.temporal.specs.Plan.{Contact, Plan, Appearance, start, mayFollow}
 use Rattle.temporal.specs.Walk.{step, isAppearance, isAt}
+use Rattle.temporal.specs.Foremost.{arrivesBy}
 use Rattle.temporal.proofs.ListLaws.{not-both, not-true-false, mem-below, sum-ext, sum-zero}
 use Rattle.temporal.proofs.RuleLaws.{comesFrom, leads-comes, comes-to-a, comes-to-b, comes-none}
-use Rattle.temporal.proofs.RuleLaws.{follows-later, follows-settled, follows-after}
+use Rattle.temporal.proofs.RuleLaws.{follows-later, follows-settled, follows-after, follows-by}
 use Rattle.temporal.proofs.WalkLaws.{StepBy, step-inv, step-intro, step-later, SlotsWithin}
 use Rattle.counting.proofs.SumLaws.{sum-less, sum-below-suc}
 use Rattle.counting.proofs.Weights.{worth, behind, total, positions, cond-zero, cond-less, worth-zero}
@@ -247,6 +248,12 @@ module _ (p : Plan) (s : ℕ) (g : ℕ → Bool) where
   unfolding atAppearance
   start-other v zero n = total-zero p g (start s) (atAppearance v 0) ∙ rw (ne-eqb s v (λ e. n (sym e)))
   start-other v (suc k) n = start-later v k
+
+  -- (turnaround) the walks to station v by slot e are those that the slot past e may follow
+  pub station-by : (v e k : ℕ)
+      → total p g (start s) (λ y. cond (arrivesBy v e y) 1 0) k ≡ total p g (start s) (before p v (e + 1)) k
+  unfolding before arrivesBy
+  station-by v e k = total-ext p g (λ y. rw (add-one, follows-by p (y .slot) e)) (start s) k
 
   -- (turnaround) the walks to station v are those that the slot past the plan's last may follow
   pub whole-station : SlotsWithin p → (v k : ℕ)

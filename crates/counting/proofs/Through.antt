@@ -1,8 +1,8 @@
--- Through counts by what avoids a set of stations: of the shortest paths from s to z, those that have a member inside and
--- those that never go on from one are together all. A single station is the set of it alone.
+-- Through counts by what avoids a set of stations: of the shortest walks from s that reach z by a slot, those that have a member
+-- inside and those that never go on from one are together all. A single station is the set of it alone.
 -- Assumes nothing.
 use Prim.Native.Nat.{ℕ, _+_, _<_}
-use mathlib.Core.Path.{_≡_, refl, sym, ap, _∙_, fun-ext}
+use mathlib.Core.Path.{_≡_, refl, sym, ap, subst, _∙_, fun-ext}
 use mathlib.Core.Bool.{Bool, true, false, not, cond, _&&_, _||_, or-false, not-and-self, and-eq-true-iff}
 use mathlib.Core.List.{List, [], _∷_, List·Memᴰ, List·Memᴰ·not-nil, Memᴰ·cast}
 use mathlib.Core.Option.{some}
@@ -12,20 +12,21 @@ use lib.Dec.{eqb}
 use lib.ListN.{length, getElem?}
 use Rattle.temporal.specs.Lists.{below, any, member, distinct, select, tuples}
 use Rattle.temporal.specs.Plan.{Contact, Plan, Appearance, start}
-use Rattle.temporal.specs.Walk.{run, lastOr, stationsOf, holds, isAt, isWalkTo, isPath, isInterior}
+use Rattle.temporal.specs.Walk.{run, lastOr, stationsOf, holds, endsIn, isPath, isInterior}
 use Rattle.temporal.specs.Definition3.{startingPoints}
-use Rattle.temporal.specs.Shortest.{ofHops, shortest, shortestPaths, hops, count}
-use Rattle.temporal.specs.Set.{touches, touched}
+use Rattle.temporal.specs.Shortest.{ofHops, shortest, hops, count}
+use Rattle.temporal.specs.Set.{touches, touchedIn}
+use Rattle.temporal.specs.Foremost.{arrivesBy, walksBy}
 use Rattle.temporal.specs.Bytes.{planOf}
 use Rattle.temporal.specs.Cause.{planFault}
 use Rattle.temporal.proofs.ListLaws.{not-both, not-true-false, by-member, mem-below, mem-select, any-true, any-false, any-ext}
 use Rattle.temporal.proofs.ListLaws.{member-true, distinct-cons, select-select, length-select, sum-ext, sum-map-add}
 use Rattle.temporal.proofs.RuleLaws.{leads-below}
-use Rattle.temporal.proofs.ShortestLaws.{shortest-mem}
-use Rattle.temporal.proofs.WalkLaws.{SlotsWithin, step-inv, run-nil, run-cons}
+use Rattle.temporal.proofs.WalkLaws.{SlotsWithin, step-inv, run-nil, run-cons, ends-at}
 use Rattle.temporal.proofs.PathLaws.{PathBy, path-inv, last-visited}
 use Rattle.temporal.proofs.PlanLaws.{contact-within, slots-within}
-use Rattle.temporal.proofs.Adequacy.{bounded-ends, bounded-paths, shortest-walks-are-paths}
+use Rattle.temporal.proofs.Adequacy.{bounded-ends}
+use Rattle.temporal.proofs.ForemostLaws.{walks-by-are-paths}
 use Rattle.counting.proofs.Weights.{worth, behind, value, total, everywhere, value-less, value-ends}
 use Rattle.counting.proofs.Fewest.{shortest-ofHops}
 
@@ -128,99 +129,96 @@ module _ (p : Plan) (ends : (i : ℕ) (c : Contact) → getElem? (p .contacts) i
       go v true false = refl
       go v false b = refl
 
-  -- a walk to z that is a path has some member inside, or never goes on from one
-  one-or-other : (s z : ℕ) (m : ℕ → Bool) (w : List ℕ) → (isWalkTo p s z w ≡ true → isPath p s z w ≡ true)
-      → cond (isWalkTo p s z w && touches p s z m w) 1 0
-      + value p (avoidingSet s m) (start s) (λ y. cond (isAt z y) 1 0) w
-      ≡ cond (isWalkTo p s z w) 1 0
-  unfolding everywhere
-  one-or-other s z m w path = go (isWalkTo p s z w) refl
-    where
-      at-z : Appearance → ℕ
-      at-z y = cond (isAt z y) 1 0
+  -- walks from s that end in a test t
+  module _ (s z : ℕ) (t : Appearance → Bool) where
+    -- a walk that ends in the test and is a path has some member inside, or never goes on from one
+    one-or-other : (m : ℕ → Bool) (w : List ℕ) → (endsIn p (start s) t w ≡ true → isPath p s z w ≡ true)
+        → cond (endsIn p (start s) t w && touches p s z m w) 1 0
+        + value p (avoidingSet s m) (start s) (λ y. cond (t y) 1 0) w
+        ≡ cond (endsIn p (start s) t w) 1 0
+    unfolding everywhere
+    one-or-other m w path = go (endsIn p (start s) t w) refl
+      where
+        weight : Appearance → ℕ
+        weight y = cond (t y) 1 0
 
-      together : (c : Bool) → _≡_ {A = ℕ} (cond c 1 0 + cond c 0 1) 1
-      together true = refl
-      together false = refl
+        together : (c : Bool) → _≡_ {A = ℕ} (cond c 1 0 + cond c 0 1) 1
+        together true = refl
+        together false = refl
 
-      go : (b : Bool) → isWalkTo p s z w ≡ b
-          → cond (b && touches p s z m w) 1 0 + value p (avoidingSet s m) (start s) (λ y. cond (isAt z y) 1 0) w
-          ≡ cond b 1 0
-      go true q =
-          let r = path-inv p s z w (path q) in
-          rw (value-run p (avoidingSet s m) at-z (start s) w (r .runs), inside s z m w r, eq-eqb _ z (r .ends))
-          (together (touches p s z m w))
-      go false q =
-          let less = value-less p (avoidingSet s m) everywhere (λ u h. refl) (start s) at-z w in
-          let none : value p everywhere (start s) at-z w ≡ 0 = rw q at (value-ends p (isAt z) (start s) w) in
-          omega arith
+        go : (b : Bool) → endsIn p (start s) t w ≡ b
+            → cond (b && touches p s z m w) 1 0 + value p (avoidingSet s m) (start s) (λ y. cond (t y) 1 0) w
+            ≡ cond b 1 0
+        go true q =
+            let r = path-inv p s z w (path q) in
+            let there : t (lastOr (start s) (r .visits)) ≡ true = ends-at p (start s) t w q (r .runs) in
+            rw (value-run p (avoidingSet s m) weight (start s) w (r .runs), inside s z m w r, there)
+            (together (touches p s z m w))
+        go false q =
+            let less = value-less p (avoidingSet s m) everywhere (λ u h. refl) (start s) weight w in
+            let none : value p everywhere (start s) weight w ≡ 0 = rw q at (value-ends p t (start s) w) in
+            omega arith
 
-  -- where the shortest walks to z are paths
-  module _ (g : SlotsWithin p) (s z : ℕ) (same : shortestPaths p s z ≡ shortest p (isWalkTo p s z)) where
-    -- all lists of as many positions as the shortest paths have
-    all : List (List ℕ)
-    all = tuples (length (p .contacts)) (hops (shortestPaths p s z))
+    -- where the shortest walks that end in it are paths
+    module _ (g : SlotsWithin p)
+        (paths : (w : List ℕ) → List·Memᴰ w (shortest p (endsIn p (start s) t)) → isPath p s z w ≡ true) where
+      -- all lists of as many positions as these have
+      all : List (List ℕ)
+      all = tuples (length (p .contacts)) (hops (shortest p (endsIn p (start s) t)))
 
-    -- the shortest paths are the walks to z among them
-    paths : shortestPaths p s z ≡ select (isWalkTo p s z) all
-    unfolding ofHops all
-    paths =
-        same ∙ shortest-ofHops (bounded-ends p g s (isAt z)) ∙ ap (λ l. ofHops p (isWalkTo p s z) (hops l)) (sym same)
+      -- they are the walks that end in the test among them
+      listed : shortest p (endsIn p (start s) t) ≡ select (endsIn p (start s) t) all
+      unfolding ofHops all
+      listed = shortest-ofHops (bounded-ends p g s t)
 
-    -- a walk to z among them is a path
-    is-path : (w : List ℕ) → List·Memᴰ w all → isWalkTo p s z w ≡ true → isPath p s z w ≡ true
-    unfolding shortestPaths
-    is-path w m q =
-        let there : List·Memᴰ w (shortestPaths p s z) = rw paths (mem-select (isWalkTo p s z) all .1 (m, q)) in
-        shortest-mem (bounded-paths p g s z) .0 there .0
+      -- such a walk among them is a path
+      is-path : (w : List ℕ) → List·Memᴰ w all → endsIn p (start s) t w ≡ true → isPath p s z w ≡ true
+      is-path w m q =
+          paths w (subst (λ l. List·Memᴰ w l) (sym listed) (mem-select (endsIn p (start s) t) all .1 (m, q)))
 
-    -- the shortest paths that have a member inside and those that never go on from one are together all
-    touched-or-avoiding : (m : ℕ → Bool)
-        → touched p s z m
-        + total p (avoidingSet s m) (start s) (λ y. cond (isAt z y) 1 0) (hops (shortestPaths p s z))
-        ≡ count (shortestPaths p s z)
-    unfolding touched total all
-    touched-or-avoiding m =
-        ap (λ n. n + total p (avoidingSet s m) (start s) (λ y. cond (isAt z y) 1 0) (hops (shortestPaths p s z)))
-        (ap (λ l. length (select (touches p s z m) l)) paths
-        ∙ ap length (select-select (touches p s z m) (isWalkTo p s z) all)
-        ∙ length-select (λ w. isWalkTo p s z w && touches p s z m w) all)
-        ∙ sym (sum-map-add (λ w. cond (isWalkTo p s z w && touches p s z m w) 1 0)
-        (value p (avoidingSet s m) (start s) (λ y. cond (isAt z y) 1 0)) all)
-        ∙ sum-ext all (λ w i. one-or-other s z m w (is-path w i))
-        ∙ sym (ap length paths ∙ length-select (isWalkTo p s z) all)
+      -- those that have a member inside and those that never go on from one are together all
+      touched-or-avoiding : (m : ℕ → Bool)
+          → touchedIn p s z (shortest p (endsIn p (start s) t)) m
+          + total p (avoidingSet s m) (start s) (λ y. cond (t y) 1 0) (hops (shortest p (endsIn p (start s) t)))
+          ≡ count (shortest p (endsIn p (start s) t))
+      unfolding total all
+      touched-or-avoiding m =
+          ap (λ n. n + total p (avoidingSet s m) (start s) (λ y. cond (t y) 1 0)
+          (hops (shortest p (endsIn p (start s) t))))
+          (ap (λ l. length (select (touches p s z m) l)) listed
+          ∙ ap length (select-select (touches p s z m) (endsIn p (start s) t) all)
+          ∙ length-select (λ w. endsIn p (start s) t w && touches p s z m w) all)
+          ∙ sym (sum-map-add (λ w. cond (endsIn p (start s) t w && touches p s z m w) 1 0)
+          (value p (avoidingSet s m) (start s) (λ y. cond (t y) 1 0)) all)
+          ∙ sum-ext all (λ w i. one-or-other m w (is-path w i))
+          ∙ sym (ap length listed ∙ length-select (endsIn p (start s) t) all)
 
 module _ (bs : List ℕ) (n t : ℕ) (ok : planFault bs n t ≡ 0) where
-  -- (kept) In an accepted plan, for every s and z and every set, the shortest paths from s to z that have a member inside
-  -- and those that never go on from one are together all.
-  pub touched-avoiding : (s z : ℕ) (m : ℕ → Bool) → touched (planOf bs n t) s z m
-      + total (planOf bs n t) (avoidingSet s m) (start s) (λ y. cond (isAt z y) 1 0)
-      (hops (shortestPaths (planOf bs n t) s z))
-      ≡ count (shortestPaths (planOf bs n t) s z)
-  unfolding planOf
-  touched-avoiding s z m =
+  -- (kept) In an accepted plan, for every s, z and slot e and every set, the shortest walks from s that reach z by slot e and
+  -- have a member inside and those that never go on from one are together all.
+  pub touched-avoiding : (s z e : ℕ) (m : ℕ → Bool)
+      → touchedIn (planOf bs n t) s z (walksBy (planOf bs n t) s z e) m
+      + total (planOf bs n t) (avoidingSet s m) (start s) (λ y. cond (arrivesBy z e y) 1 0)
+      (hops (walksBy (planOf bs n t) s z e))
+      ≡ count (walksBy (planOf bs n t) s z e)
+  unfolding planOf walksBy
+  touched-avoiding s z e m =
       touched-or-avoiding (planOf bs n t) (λ i c there. contact-within bs n t ok i c there .ends)
-      (λ i c there. contact-within bs n t ok i c there .station) (slots-within bs n t ok) s z
-      (shortest-walks-are-paths bs n t ok s z) m
+      (λ i c there. contact-within bs n t ok i c there .station) s z (arrivesBy z e)
+      (slots-within bs n t ok) (walks-by-are-paths (planOf bs n t) (slots-within bs n t ok) s z e) m
 
 -- ---- sets that touch the same paths
 
-module _ (p : Plan) (s z : ℕ) where
-  -- sets that touch the same lists of positions
-  touched-ext : (m m′ : ℕ → Bool) → ((w : List ℕ) → touches p s z m w ≡ touches p s z m′ w)
-      → touched p s z m ≡ touched p s z m′
-  unfolding touched
-  touched-ext m m′ e = ap (λ t. length (select t (shortestPaths p s z))) (fun-ext e)
-
-  -- the destination is never inside, member or not
-  pub touched-others : (m : ℕ → Bool) → touched p s z (λ v. not (eqb v z) && m v) ≡ touched p s z m
-  unfolding touches isInterior
-  touched-others m =
-      touched-ext (λ v. not (eqb v z) && m v) m (λ w.
-      ap (λ t. any t (below (p .stations))) (fun-ext (λ v. go (eqb v z) (m v) (eqb v s) _)))
-    where
-      go : (a b c d : Bool) → ((not a && b) && (not c && (not a && d))) ≡ (b && (not c && (not a && d)))
-      go true true true d = refl
-      go true true false d = refl
-      go true false c d = refl
-      go false b c d = refl
+-- the destination is never inside, member or not
+pub touched-others : (p : Plan) (s z : ℕ) (l : List (List ℕ)) (m : ℕ → Bool)
+    → touchedIn p s z l (λ v. not (eqb v z) && m v) ≡ touchedIn p s z l m
+unfolding touches isInterior
+touched-others p s z l m =
+    ap (λ t. length (select t l)) (fun-ext (λ w.
+    ap (λ t. any t (below (p .stations))) (fun-ext (λ v. go (eqb v z) (m v) (eqb v s) _))))
+  where
+    go : (a b c d : Bool) → ((not a && b) && (not c && (not a && d))) ≡ (b && (not c && (not a && d)))
+    go true true true d = refl
+    go true true false d = refl
+    go true false c d = refl
+    go false b c d = refl

@@ -8,10 +8,11 @@ use mathlib.Core.List.{List, [], _∷_, append-assoc}
 use mathlib.Core.Logic.{_↔_, _≢_}
 use lib.ListN.{length, take, drop, length-take, length-drop}
 use Rattle.temporal.specs.Bytes.{planOf}
-use Rattle.temporal.specs.Cause.{cause, first, planFault, planCauses, tooMany, tooManyAnywhere}
+use Rattle.temporal.specs.Cause.{cause, first, planFault, planCauses, appearanceTooMany, tooMany, tooManyAnywhere}
 use Rattle.temporal.specs.Outcome.{cleared, workSize, ReachTables, reached, reach, rowNumber, row}
 use Rattle.temporal.specs.OutcomePair.{PairBuffers, paired, pair, LoadBuffers, loaded, loads, compared, busiest}
 use Rattle.temporal.specs.OutcomeSet.{setCounted, throughSet}
+use Rattle.temporal.specs.OutcomeForemost.{foremostPaired, foremost}
 use Rattle.plan.specs.Fault.{checkNumber}
 use Rattle.plan.specs.declared.CheckAnswer.{CheckAnswer}
 use Rattle.plan.specs.declared.CheckAnswer.the-variants as check-answer
@@ -28,6 +29,7 @@ use Rattle.demands.specs.Causes.{
   loadsEmptied,
   busiestCauses,
   throughSetCauses,
+  foremostCauses,
   firstWayCauses,
   nextWayCauses,
   wayEmptied,
@@ -131,6 +133,14 @@ set-judged bs n t s z set old =
     judged-entered 0 old (cleared (workSize n t) old) _ _ _ (plain-set bs n t s z set old)
     (judged-work 0 old (cleared (workSize n t) old) (tooMany (planOf bs n t) s) _ refl)
 
+foremost-judged : (bs : List ℕ) (n t s z : ℕ) (old : PairBuffers)
+    → Judged (foremostCauses bs n t s z old) (record { slot = 0; hops = 0; count = 0 }) old (pairEmptied n t old)
+    (foremost bs n t s z old)
+unfolding foremost foremostPaired foremostCauses pairEmptied planOf
+foremost-judged bs n t s z old =
+    judged-entered (record { slot = 0; hops = 0; count = 0 }) old (pairEmptied n t old) _ _ _ (plain-pair bs n t _ s z)
+    (judged-work (record { slot = 0; hops = 0; count = 0 }) old (pairEmptied n t old) (appearanceTooMany (planOf bs n t) s) _ refl)
+
 -- ---- the theorem
 
 pub demand1 : Demand1
@@ -151,6 +161,10 @@ demand1 =
       of-set = λ bs n t s z set old x r e.
           subst (Judged (throughSetCauses bs n t s z set old) 0 old (cleared (workSize n t) old)) (sym e)
           (set-judged bs n t s z set old);
+      of-foremost = λ bs n t s z old x r e.
+          subst
+          (Judged (foremostCauses bs n t s z old) (record { slot = 0; hops = 0; count = 0 }) old (pairEmptied n t old))
+          (sym e) (foremost-judged bs n t s z old);
       of-first-way = λ bs n t s z old x r e.
           subst (Judged (firstWayCauses (question bs n t s z) old) 0 old (wayEmptied n t old)) (sym (ap outcomeOf e))
           (first-way-judged (question bs n t s z) old);

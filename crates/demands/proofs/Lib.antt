@@ -19,3 +19,5 @@ mod BetweenLaws
 pub mod PlanAText
 -- C-12: a set of stations
 pub mod Sets
+-- C-14: shortest foremost paths
+pub mod Foremost

@@ -73,7 +73,7 @@ module _ {p : Plan} {passes isAWalk : List ℕ → Bool} (b : Bounded p isAWalk)
         λ none. let (u, m) = least-member h in absurd (none u (mem-ofHops p isAWalk k .0 m .2)),
       )
 
-  listed :
+  pub listed :
       ShortestList passes isAWalk (shortest p isAWalk) (hops (shortest p isAWalk)) (count (shortest p isAWalk))
   listed =
       record {

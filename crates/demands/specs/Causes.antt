@@ -7,7 +7,8 @@ use mathlib.Core.List.{List, [], _∷_, _++_}
 use lib.ListN.{length, take}
 use Rattle.temporal.specs.Lists.{any}
 use Rattle.temporal.specs.Bytes.{planOf}
-use Rattle.temporal.specs.Cause.{cause, outside, planCauses, pairCauses, stationCauses, tooMany, tooManyAnywhere}
+use Rattle.temporal.specs.Cause.{cause, outside, planCauses, pairCauses, stationCauses}
+use Rattle.temporal.specs.Cause.{appearanceTooMany, tooMany, tooManyAnywhere}
 use Rattle.temporal.specs.Outcome.{cleared, short, places, workSize, ReachTables}
 use Rattle.temporal.specs.OutcomePair.{PairBuffers, LoadBuffers}
 use Rattle.temporal.specs.OutcomeSet.{setCauses}
@@ -78,6 +79,15 @@ busiestCauses bs n t work =
 unfoldable pub throughSetCauses : List ℕ → ℕ → ℕ → ℕ → ℕ → List ℕ → List ℕ → List ℕ
 throughSetCauses bs n t s z set old =
     planCauses bs n t ++ setCauses n t s z set old ++ cause 9 (tooMany (planOf bs n t) s) ∷ []
+
+-- ---- The operation on shortest foremost paths (document 02, C-14): 1 to 9, where 9 looks at appearances alone; it leaves the
+-- buffers as pair does
+
+unfoldable pub foremostCauses : List ℕ → ℕ → ℕ → ℕ → ℕ → PairBuffers → List ℕ
+foremostCauses bs n t s z old =
+    planCauses bs n t ++
+    pairCauses n s z (short n (old .throughTable) || short (workSize n t) (old .work)) ++
+    cause 9 (appearanceTooMany (planOf bs n t) s) ∷ []
 
 -- ---- Operation 7, first way: 1 to 9; operation 8, next way: 1 to 10
 

@@ -11,6 +11,7 @@ use Rattle.temporal.specs.Cause.{first, planCauses, planFault}
 use Rattle.temporal.specs.Outcome.{Outcome, cleared, workSize, ReachTables, reach, rowNumber}
 use Rattle.temporal.specs.OutcomePair.{PairBuffers, pair, LoadBuffers, loads, busiest}
 use Rattle.temporal.specs.OutcomeSet.{throughSet}
+use Rattle.temporal.specs.OutcomeForemost.{foremost}
 use Rattle.temporal.specs.Cursor.{Reply, path, no-path, last-path, refused, first-way, next-way}
 use Rattle.temporal.specs.FirstNext.{WayContract}
 use Rattle.plan.specs.Fault.{checkNumber}
@@ -26,6 +27,8 @@ use Rattle.loads.specs.declared.LoadsAnswer.{LoadsAnswer}
 use Rattle.loads.specs.declared.BusiestAnswer.{BusiestAnswer}
 use Rattle.sets.specs.Answer.{setOutcome}
 use Rattle.sets.specs.declared.SetAnswer.{SetAnswer}
+use Rattle.foremost.specs.Answer.{foremostOutcome}
+use Rattle.foremost.specs.declared.ForemostAnswer.{ForemostAnswer}
 use Rattle.listing.specs.Answer.{replyOf, question}
 use Rattle.listing.specs.declared.WayAnswer.{WayAnswer}
 use Rattle.demands.specs.Limits.{WithinLimits}
@@ -39,6 +42,7 @@ use Rattle.demands.specs.Causes.{
   loadsEmptied,
   busiestCauses,
   throughSetCauses,
+  foremostCauses,
   WayBuffers,
   firstWayCauses,
   nextWayCauses,
@@ -112,6 +116,10 @@ pub record Demand1 : Type 0 where
       → Judged (busiestCauses bs n t old) 0 old (cleared (workSize n t) old) (busiestOutcome r x)
   pub of-set : (bs : List ℕ) (n t s z : ℕ) (set old x : List ℕ) (r : SetAnswer) → setOutcome r x ≡ throughSet bs n t s z set old
       → Judged (throughSetCauses bs n t s z set old) 0 old (cleared (workSize n t) old) (setOutcome r x)
+  pub of-foremost : (bs : List ℕ) (n t s z : ℕ) (old x : PairBuffers) (r : ForemostAnswer)
+      → foremostOutcome r x ≡ foremost bs n t s z old
+      → Judged (foremostCauses bs n t s z old) (record { slot = 0; hops = 0; count = 0 }) old (pairEmptied n t old)
+      (foremostOutcome r x)
   pub of-first-way : (bs : List ℕ) (n t s z : ℕ) (old x : WayBuffers) (r : WayAnswer)
       → WayContract first-way (question bs n t s z) (old .way) (old .work) (replyOf r) (x .way) (x .work)
       → Judged (firstWayCauses (question bs n t s z) old) 0 old (wayEmptied n t old) (wayResult r x)

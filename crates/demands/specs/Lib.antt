@@ -13,3 +13,5 @@ pub mod Demand2
 pub mod PlanAText
 -- C-12: a set of stations
 pub mod Sets
+-- C-14: shortest foremost paths
+pub mod Foremost

@@ -1,5 +1,5 @@
--- What the lent slots of reach, row, pair, loads, busiest and through_set hold at exit, beside the number given. Definitions
--- only.
+-- What the lent slots of reach, row, pair, loads, busiest, through_set and foremost hold at exit, beside the number given.
+-- Definitions only.
 -- Assumes nothing.
 use Prim.Native.Nat.{ℕ, _+_, _*_}
 use mathlib.Core.Path.{_≡_}
@@ -8,6 +8,7 @@ use lib.ListN.{take, drop}
 use Rattle.temporal.specs.Cause.{unless}
 use Rattle.temporal.specs.Outcome.{Outcome, rowNumber, row}
 use Rattle.temporal.specs.OutcomePair.{PairValues, PairBuffers}
+use Rattle.temporal.specs.OutcomeForemost.{ForemostValues}
 
 -- a number with the lent buffers at exit
 abbrev pub answered : {Buffers : Type 0} → ℕ → Buffers → Outcome (Unit {0}) Buffers
@@ -31,3 +32,8 @@ busiestGiven r station work = record { number = r; values = station; buffers = w
 -- a number with through_set's slot and the work area at exit
 abbrev pub setGiven : ℕ → ℕ → List ℕ → Outcome ℕ (List ℕ)
 setGiven r count work = record { number = r; values = count; buffers = work }
+
+-- a number with foremost's three slots and its lent buffers at exit
+abbrev pub foremostGiven : ℕ → ℕ → ℕ → ℕ → PairBuffers → Outcome ForemostValues PairBuffers
+foremostGiven r arrival hops count b =
+    record { number = r; values = record { slot = arrival; hops = hops; count = count }; buffers = b }

@@ -5,6 +5,7 @@ ghost use Rattle.temporal.specs.Cause.{planFault};
 ghost use Rattle.temporal.specs.Outcome.{reach, rowNumber};
 ghost use Rattle.temporal.specs.OutcomePair.{pair, loads, busiest};
 ghost use Rattle.temporal.specs.OutcomeSet.{throughSet};
+ghost use Rattle.temporal.specs.OutcomeForemost.{foremost};
 ghost use Rattle.temporal.specs.Cursor.{first-way, next-way};
 ghost use Rattle.temporal.specs.FirstNext.{wayAnswer};
 ghost use Rattle.plan.specs.Fault.{faultNumber};
@@ -12,8 +13,16 @@ ghost use Rattle.reach.specs.Pass.{lentTables};
 ghost use Rattle.pair.specs.Answer.{pairBuffers};
 ghost use Rattle.loads.specs.Answer.{loadBuffers};
 ghost use Rattle.listing.specs.Answer.{replyOf, question};
-ghost use Rattle.joftaki_c.specs.Slots.{answered, pairGiven, RowGiven, busiestGiven, setGiven};
+ghost use Rattle.joftaki_c.specs.Slots.{
+  answered,
+  pairGiven,
+  RowGiven,
+  busiestGiven,
+  setGiven,
+  foremostGiven,
+};
 ghost use Rattle.joftaki_c.specs.Code.{replyCode, replyHops, wayGiven, wayExit};
+use foremost::ForemostAnswer;
 use listing::WayAnswer;
 use loads::BusiestAnswer;
 use loads::LoadsAnswer;
@@ -178,6 +187,39 @@ pub extern "C" fn joftaki_through_set(
             0
         }
         SetAnswer::Refused(fault) => {
+            *count = 0;
+            fault_code(fault)
+        }
+    }
+}
+
+// Document 02's operation on the shortest foremost paths of a pair: its number, the slot of arrival, the hops and the count in
+// three slots, 0 on refusal, and the lent table and work area as foremost leaves them.
+#[no_mangle]
+pub extern "C" fn joftaki_foremost(
+    plan: &[u8],
+    n: usize,
+    t: usize,
+    s: usize,
+    z: usize,
+    arrival: &mut usize,
+    hops: &mut usize,
+    count: &mut u64,
+    through: &mut [u64],
+    work: &mut [u64],
+) -> u32
+    ensures { λ r. ⌜ foremostGiven r (now (arrival .exit)) (now (hops .exit)) (now (count .exit)) (pairBuffers (now (through .exit)) (now (work .exit))) ≡ foremost (now (plan .entry)) n t s z (pairBuffers (now (through .entry)) (now (work .entry))) ⌝ }
+{
+    match foremost::foremost(plan, n, t, s, z, through, work) {
+        ForemostAnswer::Counted(u, h, c) => {
+            *arrival = u as usize;
+            *hops = h as usize;
+            *count = c;
+            0
+        }
+        ForemostAnswer::Refused(fault) => {
+            *arrival = 0;
+            *hops = 0;
             *count = 0;
             fault_code(fault)
         }

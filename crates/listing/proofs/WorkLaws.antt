@@ -10,7 +10,7 @@ use mathlib.Core.List.{List, [], _∷_, _++_}
 use mathlib.Core.Option.{Option, none, some}
 use borrow.Author.Tests.{ltb-true}
 use lib.ListN.{length, getD, drop, replicate, length-replicate}
-use lib.Seq.{drop-drop}
+use Rattle.temporal.proofs.BufferLaws.{later-drop}
 use Rattle.temporal.specs.Bytes.{planOf}
 use Rattle.temporal.specs.Walk.{holds}
 use Rattle.temporal.specs.Shortest.{shortestPaths, hops}
@@ -46,13 +46,6 @@ use Rattle.ways.specs.declared.Pair.{Pair}
 use Rattle.listing.specs.Work.{WayReady, moved, Worked, wayOutcome}
 
 -- ---- lists
-
--- lists that agree beyond a place agree beyond a later one
-drop-later : (j k : ℕ) (a b : List ℕ) → j ≤ k → drop j a ≡ drop j b → drop k a ≡ drop k b
-drop-later j k a b h e =
-    let sum : j + (k - j) ≡ k = omega arith in
-    ap (λ i. drop i a) (sym sum) ∙ sym (drop-drop (k - j) j a) ∙ ap (drop (k - j)) e ∙ drop-drop (k - j) j b ∙
-    ap (λ i. drop i b) sum
 
 -- clearing lists that agree beyond what is cleared
 clear-beyond : (k : ℕ) (a b : List ℕ) → drop k a ≡ drop k b → over (replicate k 0) a ≡ over (replicate k 0) b
@@ -129,7 +122,7 @@ module _ (q : Question) (way work : List ℕ) (ready : WayReady q way work) wher
         let slots = accepted (q .bytes) (q .stations) (q .slots) (ready .asked .accepted) .some-slot in
         let rows : q .stations * 1 ≤ q .stations * (q .slots + 1) =
         mul-le-mul {n₂ = q .stations} {m₂ = q .slots + 1} (omega arith) (omega arith) in
-        drop-later (areaSize (q .stations) 0) (workSize (q .stations) (q .slots)) mid work (omega arith) (passed .beyond)
+        later-drop (areaSize (q .stations) 0) (workSize (q .stations) (q .slots)) mid work (omega arith) (passed .beyond)
 
     -- a count over 2^64 - 1
     pub worked-too-many : (o : Operation) → r ≡ true → Worked o q way work (refused 9) way mid
@@ -215,7 +208,7 @@ module _ (q : Question) (way work : List ℕ) (ready : WayReady q way work) wher
             (completed : Completed (q .bytes) (q .stations) (q .slots) (q .destination) mid done) where
           done-beyond : drop (workSize (q .stations) (q .slots)) done ≡ drop (workSize (q .stations) (q .slots)) work
           done-beyond =
-              drop-later (q .stations * (q .slots + 1)) (workSize (q .stations) (q .slots)) done mid (omega arith)
+              later-drop (q .stations * (q .slots + 1)) (workSize (q .stations) (q .slots)) done mid (omega arith)
               (completed .beyond) ∙ pass-beyond
 
           pub ready-startable : Startable (q .bytes) (pairOf q h) done way

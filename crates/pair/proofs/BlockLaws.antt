@@ -1,42 +1,50 @@
--- The through counts of a pair, block after block: what the loop keeps, and what it gives at its end. Assumes nothing.
+-- The through counts of a pair, block after block: what one block gives, what the loop keeps, and what it gives at its end.
+-- Assumes nothing.
 use Prim.Native.Nat.{ℕ, zero, suc, _+_, _-_, _*_, _<_, _≤_, min}
 use native.Mathlib.Omega.{arith}
 use native.Mathlib.Nat.{mul-le-mul-left, mul-assoc, mul-left-comm, mul-suc}
 use native.Mathlib.Numerals.{add-one}
 use native.Mathlib.Decide.{decLt, ℕ-discrete}
 use mathlib.Core.Path.{_≡_, refl, sym, ap, subst, _∙_}
-use mathlib.Core.Bool.{Bool, true, false, not, _&&_, false≢true, and-false}
+use mathlib.Core.Bool.{Bool, true, false, not, _&&_, and-false}
 use mathlib.Core.Logic.{_≢_, _⊎_, inl, inr, ⊎-elim, by-cases}
 use mathlib.Core.List.{List, []}
 use borrow.Author.Tests.{eq-eqb}
 use lib.Dec.{eqb}
 use lib.ListN.{length, getD, drop}
-use lib.Seq.{drop-drop}
 use Rattle.temporal.specs.Lists.{select}
 use Rattle.temporal.specs.Plan.{Plan}
 use Rattle.temporal.specs.Walk.{isInterior}
-use Rattle.temporal.specs.Shortest.{shortestPaths, hops, count, through}
+use Rattle.temporal.specs.Shortest.{hops, count, throughIn}
+use Rattle.temporal.specs.Foremost.{arrival, arrivesBy, walksBy}
 use Rattle.temporal.specs.Bytes.{planOf}
-use Rattle.temporal.specs.Cause.{planFault, tooMany}
+use Rattle.temporal.specs.Cause.{planFault}
 use Rattle.temporal.specs.Outcome.{workSize}
 use Rattle.temporal.proofs.Accepted.{accepted}
-use Rattle.temporal.proofs.Adequacy.{few-hops}
-use Rattle.temporal.proofs.ListLaws.{select-none, length-zero}
-use Rattle.temporal.proofs.ShortestLaws.{hops-empty}
-use Rattle.pass.specs.Passed.{PassReady, Counted, Passed}
-use Rattle.pair.specs.Throughs.{throughEntry, Storing, StoredBlock, PairReady, Throughs}
+use Rattle.temporal.proofs.Adequacy.{bounded-ends}
+use Rattle.temporal.proofs.BufferLaws.{later-drop}
+use Rattle.temporal.proofs.ForemostLaws.{foremost-at-most, foremost-by-arrival}
+use Rattle.temporal.proofs.ListLaws.{select-none}
+use Rattle.temporal.proofs.PlanLaws.{slots-within}
+use Rattle.temporal.proofs.ShortestLaws.{hops-empty, hops-bound}
+use Rattle.pass.specs.Column.{blockColumn}
+use Rattle.pass.specs.declared.Ended.{Ended}
+use Rattle.pass.specs.PassedColumns.{ColumnsReady, SettledAt, ColumnsPassed, slotOf}
+use Rattle.pass.proofs.UseLaws.{block-row, settled-in, not-settled, whole-few}
+use Rattle.pair.specs.Throughs.{throughEntry, Storing, StoredBlock, PairReady, Asks, lastSlot, BlockReady}
+use Rattle.pair.specs.Throughs.{PairBy, BlockDone, ThroughsReady, Throughs}
 use Rattle.pair.proofs.ThroughLaws.{entry-itself, entry-no-path, entry-rest}
 
 -- an end is never inside
-pub through-destination : (p : Plan) (s z : ℕ) → through p s z z ≡ 0
-unfolding through isInterior
-through-destination p s z =
-    ap length (select-none (shortestPaths p s z) (λ w m. rw (eq-eqb z z refl) (and-false (not (eqb z s)))))
+pub through-destination : (p : Plan) (s z : ℕ) (l : List (List ℕ)) → throughIn p s z l z ≡ 0
+unfolding isInterior
+through-destination p s z l =
+    ap length (select-none l (λ w m. rw (eq-eqb z z refl) (and-false (not (eqb z s)))))
 
--- where there is no path, none has a station inside
-pub through-no-path : (p : Plan) (s z v : ℕ) → shortestPaths p s z ≡ [] → through p s z v ≡ 0
-unfolding through select
-through-no-path p s z v e = rw e
+-- of no walks, none has a station inside
+pub through-no-path : (p : Plan) (s z v : ℕ) (l : List (List ℕ)) → l ≡ [] → throughIn p s z l v ≡ 0
+unfolding select
+through-no-path p s z v l e = rw e
 
 -- a block of at most twice the slots fits the work area
 pub area-fits : (n t block : ℕ) → block ≤ 2 * t → 4 * n + 2 * n * block ≤ workSize n t
@@ -55,50 +63,179 @@ area-fits n t block few =
 difference : (row through count whole : ℕ) → row + through ≡ count → whole ≡ count → whole - row ≡ through
 difference row through count whole e f = omega arith
 
+-- ---- one block
+
+-- the source is not the station that the pass waits for
+pub waits-for-another : (n s z until : ℕ) → s < n → s ≢ z → Asks n z until → s ≢ until
+waits-for-another n s z until source different asks =
+    ⊎-elim (λ none q. omega arith) (λ same q. different (q ∙ same)) asks
+
+module _ (bs : List ℕ) (n t s z until low block : ℕ) (table area : List ℕ)
+    (ready : BlockReady bs n t s z until low block table area) where
+  ok : planFault bs n t ≡ 0
+  ok = ready .accepted
+
+  abbrev p : Plan
+  p = planOf bs n t
+
+  other : s ≢ until
+  other = waits-for-another n s z until (ready .source) (ready .different) (ready .asks)
+
+  -- the pass can be made
+  pub block-pass : ColumnsReady bs n t s until block area
+  block-pass = record { accepted = ok; source = ready .source; other = other; fits = ready .fits }
+
+  module _ (area′ : List ℕ) (r : Ended) (passed : ColumnsPassed bs n t s until (blockColumn low block) block area area′ r) where
+    -- a count over 2^64 - 1
+    pub block-over : slotOf r ≡ 0 → BlockDone bs n t s z until low block table area table area′ 0
+    block-over e =
+        record {
+          over = λ q. not-settled bs n t s until ok other (blockColumn low block) block area′ r (passed .ends) e;
+          settled = λ q. absurd (q refl);
+          here = λ q. absurd (q refl);
+          before = λ v h. refl;
+          table-beyond = refl;
+          table-length = refl;
+          area-beyond = passed .beyond;
+          area-length = passed .same-length;
+        }
+
+    module _ (d : slotOf r ≢ 0) where
+      at-end : SettledAt bs n t s until (blockColumn low block) block area′ (slotOf r)
+      at-end = settled-in bs n t s until ok other (blockColumn low block) block area′ r (passed .ends) d
+
+      -- the pair's walks by that slot are no more
+      small : count (walksBy p s z (slotOf r)) ≤ 18446744073709551615
+      unfolding planOf
+      small = ⊎-elim none-asked destination-asked (ready .asks)
+        where
+          none-asked : until ≡ n → count (walksBy p s z (slotOf r)) ≤ 18446744073709551615
+          none-asked q = at-end .stations (omega arith) z (ready .destination)
+
+          destination-asked : until ≡ z → count (walksBy p s z (slotOf r)) ≤ 18446744073709551615
+          destination-asked q =
+              let slot : slotOf r ≡ min t (arrival p s z) = at-end .slot ∙ ap (λ v. min t (arrival p s v)) q in
+              rw (ap (walksBy p s z) slot ∙ foremost-by-arrival bs n t ok s z)
+              (foremost-at-most p (slots-within bs n t ok) s z 18446744073709551615
+              (λ x h. at-end .appearances z x (ready .destination) (omega arith)))
+
+      -- the walks by that slot are none, or have few hops
+      few-hops : (walksBy p s z (slotOf r) ≡ []) ⊎ (hops (walksBy p s z (slotOf r)) < 65535)
+      unfolding walksBy planOf
+      few-hops =
+          let most = accepted bs n t ok .slots in
+          ⊎-elim inl (λ h. inr (omega arith)) (hops-bound (bounded-ends p (slots-within bs n t ok) s (arrivesBy z (slotOf r))))
+
+      here-hops : getD area′ z 0 ≡ hops (walksBy p s z (slotOf r))
+      here-hops = at-end .entries .station-hops z (ready .destination)
+
+      here-count : getD area′ (n + z) 0 ≡ count (walksBy p s z (slotOf r))
+      here-count = at-end .entries .station-counts z (ready .destination) small
+
+      -- hops that are not 65535 are fewer
+      with-path : getD area′ z 0 ≢ 65535 → hops (walksBy p s z (slotOf r)) < 65535
+      with-path ne = ⊎-elim (λ empty. absurd (ne (here-hops ∙ hops-empty _ empty))) (λ h. h) few-hops
+
+      row :
+          (j : ℕ) → j < block → low + j ≢ z → getD area′ z 0 ≢ 65535 →
+          getD area′ (4 * n + z * block + j) 0 + throughIn p s z (walksBy p s z (slotOf r)) (low + j) ≡
+          count (walksBy p s z (slotOf r))
+      row j h ne path =
+          block-row low block bs n t s (slotOf r) area′ (ready .stations) (at-end .entries) z j (ready .destination) h ne small
+          (with-path path)
+
+      -- what a stored entry is
+      entry-is :
+          (j : ℕ) → j < block →
+          throughEntry area′ n z low block j ≡ throughIn p s z (walksBy p s z (slotOf r)) (low + j)
+      entry-is j h =
+          by-cases (ℕ-discrete (low + j) z)
+          (λ q. entry-itself area′ n z low block j q ∙
+          sym (ap (throughIn p s z (walksBy p s z (slotOf r))) q ∙ through-destination p s z (walksBy p s z (slotOf r))))
+          (λ ne. by-cases (ℕ-discrete (getD area′ z 0) 65535)
+          (λ q. entry-no-path area′ n z low block j ne q ∙ sym (no-path q))
+          (λ path. entry-rest area′ n z low block j ne path ∙ difference _ _ _ _ (row j h ne path) here-count))
+        where
+          no-path : getD area′ z 0 ≡ 65535 → throughIn p s z (walksBy p s z (slotOf r)) (low + j) ≡ 0
+          no-path q =
+              ⊎-elim
+              (λ empty. through-no-path p s z (low + j) (walksBy p s z (slotOf r)) empty)
+              (λ some. let same = here-hops in absurd (omega arith))
+              few-hops
+
+      -- the block can be stored
+      pub block-store : Storing n z low block table area′
+      block-store =
+          let size = passed .same-length in
+          let room = ready .fits in
+          record {
+            station = ready .destination;
+            few = accepted bs n t ok .stations;
+            stations = ready .stations;
+            table = ready .table;
+            fits = omega arith;
+            at-most = λ j h ne path. let both = row j h ne path in let whole = here-count in omega arith;
+          }
+
+      -- and then it is done
+      pub block-done :
+          (table′ : List ℕ) → StoredBlock n z low block block area′ table table′ →
+          BlockDone bs n t s z until low block table area table′ area′ (slotOf r)
+      block-done table′ st =
+          record {
+            over = λ q. absurd (d q);
+            settled = λ q. record {
+              slot = at-end .slot;
+              few = λ none. whole-few bs n t s ok (ready .source) until none (blockColumn low block) block area′ (slotOf r) at-end;
+              pair-hops = here-hops;
+              pair-count = here-count;
+            };
+            here = λ q j h. st .here j h ∙ entry-is j h;
+            before = st .before;
+            table-beyond = st .beyond;
+            table-length = st .same-length;
+            area-beyond = passed .beyond;
+            area-length = passed .same-length;
+          }
+
 -- ---- the loop
 
 -- the stations below low have their through counts, and after the first block the work area has the pair's hops and count
-pub record Blocks (bs : List ℕ) (n t s z : ℕ) (table area : List ℕ) (low : ℕ) (table′ area′ : List ℕ) : Type 0 where
-  pub ready : PairReady bs n t s z table area
+pub record Blocks (bs : List ℕ) (n t s z until : ℕ) (table area : List ℕ) (low : ℕ) (table′ area′ : List ℕ) (slot : ℕ) :
+    Type 0 where
+  pub ready : ThroughsReady bs n t s z until table area
   pub within : low ≤ n
-  pub counted : (v : ℕ) → v < low → getD table′ v 0 ≡ through (planOf bs n t) s z v
-  pub few : 0 < low → tooMany (planOf bs n t) s ≡ false
-  pub pair-hops : 0 < low → getD area′ z 0 ≡ hops (shortestPaths (planOf bs n t) s z)
-  pub pair-count : 0 < low → getD area′ (n + z) 0 ≡ count (shortestPaths (planOf bs n t) s z)
+  pub some-slot : 0 < low → slot ≢ 0
+  pub settled : 0 < low → PairBy bs n t s z until area′ slot
+  pub counted : (v : ℕ) → v < low
+      → getD table′ v 0 ≡ throughIn (planOf bs n t) s z (walksBy (planOf bs n t) s z (lastSlot bs n t s until)) v
   pub table-beyond : drop n table′ ≡ drop n table
   pub table-length : length table′ ≡ length table
   pub area-beyond : drop (workSize n t) area′ ≡ drop (workSize n t) area
   pub area-length : length area′ ≡ length area
 
 pub blocks-none :
-    (bs : List ℕ) (n t s z : ℕ) (table area : List ℕ) → PairReady bs n t s z table area →
-    Blocks bs n t s z table area 0 table area
-blocks-none bs n t s z table area r =
+    (bs : List ℕ) (n t s z until : ℕ) (table area : List ℕ) (slot : ℕ) → ThroughsReady bs n t s z until table area →
+    Blocks bs n t s z until table area 0 table area slot
+blocks-none bs n t s z until table area slot r =
     record {
       ready = r;
       within = omega arith;
+      some-slot = λ h. absurd (omega arith);
+      settled = λ h. absurd (omega arith);
       counted = λ v h. absurd (omega arith);
-      few = λ h. absurd (omega arith);
-      pair-hops = λ h. absurd (omega arith);
-      pair-count = λ h. absurd (omega arith);
       table-beyond = refl;
       table-length = refl;
       area-beyond = refl;
       area-length = refl;
     }
 
--- entries past a shorter beginning include those past a longer one
-drop-later : {A : Type 0} (k m : ℕ) (a b : List A) → k ≤ m → drop k a ≡ drop k b → drop m a ≡ drop m b
-drop-later k m a b h e =
-    let whole : k + (m - k) ≡ m = omega arith in
-    rw (← whole) (sym (drop-drop (m - k) k a) ∙ ap (drop (m - k)) e ∙ drop-drop (m - k) k b)
-
-module _ (bs : List ℕ) (n t s z : ℕ) (table area : List ℕ) (low : ℕ) (table′ area′ : List ℕ)
-    (b : Blocks bs n t s z table area low table′ area′) (more : low < n) (most block : ℕ)
+module _ (bs : List ℕ) (n t s z until : ℕ) (table area : List ℕ) (low : ℕ) (table′ area′ : List ℕ) (slot : ℕ)
+    (b : Blocks bs n t s z until table area low table′ area′ slot) (more : low < n) (most block : ℕ)
     (m : most ≡ min n (2 * t)) (k : block ≡ min most (n - low)) where
   some-block : 0 < block
   some-block =
-      let a = accepted bs n t (b .ready .accepted) in
+      let a = accepted bs n t (b .ready .ready .accepted) in
       let stations = a .some-station in
       let slots = a .some-slot in
       omega arith
@@ -106,115 +243,69 @@ module _ (bs : List ℕ) (n t s z : ℕ) (table area : List ℕ) (low : ℕ) (ta
   pub block-within : low + block ≤ n
   block-within = omega arith
 
-  -- the pass can be made
-  pub pass-ready : PassReady bs n t s low block area′
-  pass-ready =
+  -- the next block can be counted
+  pub next-ready : BlockReady bs n t s z until low block table′ area′
+  next-ready =
       let fits = area-fits n t block (omega arith) in
-      let room = b .ready .area in
+      let room = b .ready .ready .area in
       let same = b .area-length in
+      let tables = b .ready .ready .table in
+      let kept = b .table-length in
       record {
-        accepted = b .ready .accepted;
-        source = b .ready .source;
+        accepted = b .ready .ready .accepted;
+        source = b .ready .ready .source;
+        destination = b .ready .ready .destination;
+        different = b .ready .ready .different;
+        asks = b .ready .asks;
         stations = block-within;
+        table = omega arith;
         fits = omega arith;
       }
 
-  module _ (area″ : List ℕ) (r : Bool) (passed : Passed bs n t s low block area′ area″ r) where
+  module _ (table″ area″ : List ℕ) (r : ℕ) (done : BlockDone bs n t s z until low block table′ area′ table″ area″ r) where
     same-beyond : drop (workSize n t) area″ ≡ drop (workSize n t) area
     same-beyond =
-        drop-later (4 * n + 2 * n * block) (workSize n t) area″ area′ (area-fits n t block (omega arith)) (passed .beyond) ∙
+        later-drop (4 * n + 2 * n * block) (workSize n t) area″ area′ (area-fits n t block (omega arith)) (done .area-beyond) ∙
         b .area-beyond
 
-    same-length : length area″ ≡ length area
-    same-length = passed .same-length ∙ b .area-length
-
     -- too many
-    pub blocks-refused : r ≡ true → Throughs bs n t s z table area table′ area″ true
+    pub blocks-refused : r ≡ 0 → Throughs bs n t s z until table area table″ area″ 0
     blocks-refused e =
         record {
-          too-many = sym e ∙ passed .too-many;
-          counted = λ q. absurd (false≢true (sym q));
-          pair-hops = λ q. absurd (false≢true (sym q));
-          pair-count = λ q. absurd (false≢true (sym q));
-          table-beyond = b .table-beyond;
-          table-length = b .table-length;
+          over = λ q. done .over e;
+          settled = λ q. absurd (q refl);
+          counted = λ q. absurd (q refl);
+          table-beyond = done .table-beyond ∙ b .table-beyond;
+          table-length = done .table-length ∙ b .table-length;
           area-beyond = same-beyond;
-          area-length = same-length;
+          area-length = done .area-length ∙ b .area-length;
         }
 
-    module _ (none : r ≡ false) where
-      c : Counted bs n t s low block area″
-      c = passed .counted none
-
-      -- hops that are not 65535 are fewer
-      with-path : getD area″ z 0 ≢ 65535 → hops (shortestPaths (planOf bs n t) s z) < 65535
-      with-path ne =
-          ⊎-elim
-          (λ empty. absurd (ne (c .station-hops z (b .ready .destination) ∙ hops-empty _ empty)))
-          (λ h. h)
-          (few-hops bs n t s z (b .ready .accepted))
-
-      -- what a stored entry is
-      entry-is :
-          (j : ℕ) → j < block → throughEntry area″ n z low block j ≡ through (planOf bs n t) s z (low + j)
-      entry-is j h =
-          by-cases (ℕ-discrete (low + j) z)
-          (λ q. entry-itself area″ n z low block j q ∙ sym (ap (through (planOf bs n t) s z) q ∙ through-destination _ s z))
-          (λ ne. by-cases (ℕ-discrete (getD area″ z 0) 65535)
-          (λ q. entry-no-path area″ n z low block j ne q ∙ sym (no-path q))
-          (λ p.
-          let row = c .rows z j (b .ready .destination) h ne (with-path p) in
-          let whole = c .station-counts z (b .ready .destination) in
-          entry-rest area″ n z low block j ne p ∙ difference _ _ _ _ row whole))
-        where
-          no-path : getD area″ z 0 ≡ 65535 → through (planOf bs n t) s z (low + j) ≡ 0
-          no-path q =
-              ⊎-elim
-              (λ empty. through-no-path (planOf bs n t) s z (low + j) empty)
-              (λ some. let same = c .station-hops z (b .ready .destination) in absurd (omega arith))
-              (few-hops bs n t s z (b .ready .accepted))
-
-      pub store-ready : Storing n z low block table′ area″
-      store-ready =
-          let fits = area-fits n t block (omega arith) in
-          let room = b .ready .area in
-          let size = same-length in
-          let tables = b .ready .table in
-          let kept = b .table-length in
-          record {
-            station = b .ready .destination;
-            few = accepted bs n t (b .ready .accepted) .stations;
-            stations = block-within;
-            table = omega arith;
-            fits = omega arith;
-            at-most = λ j h ne p.
-                let row = c .rows z j (b .ready .destination) h ne (with-path p) in
-                let whole = c .station-counts z (b .ready .destination) in
-                omega arith;
-          }
-
+    module _ (d : r ≢ 0) where
       -- the next block
-      pub blocks-more :
-          (table″ : List ℕ) → StoredBlock n z low block block area″ table′ table″ →
-          Blocks bs n t s z table area (low + block) table″ area″
-      blocks-more table″ st =
+      pub blocks-more : Blocks bs n t s z until table area (low + block) table″ area″ r
+      blocks-more =
           record {
             ready = b .ready;
             within = block-within;
+            some-slot = λ h. d;
+            settled = λ h. done .settled d;
             counted = λ v h.
                 by-cases (decLt v low)
-                (λ early. st .before v early ∙ b .counted v early)
+                (λ early. done .before v early ∙ b .counted v early)
                 (λ late.
                 let same : low + (v - low) ≡ v = omega arith in
-                subst (λ i. getD table″ i 0 ≡ through (planOf bs n t) s z i) same
-                (st .here (v - low) (omega arith) ∙ entry-is (v - low) (omega arith)));
-            few = λ h. sym (passed .too-many) ∙ none;
-            pair-hops = λ h. c .station-hops z (b .ready .destination);
-            pair-count = λ h. c .station-counts z (b .ready .destination);
-            table-beyond = st .beyond ∙ b .table-beyond;
-            table-length = st .same-length ∙ b .table-length;
+                subst
+                (λ i. getD table″ i 0 ≡
+                throughIn (planOf bs n t) s z (walksBy (planOf bs n t) s z (lastSlot bs n t s until)) i)
+                same
+                (done .here d (v - low) (omega arith) ∙
+                ap (λ e. throughIn (planOf bs n t) s z (walksBy (planOf bs n t) s z e) (low + (v - low)))
+                (done .settled d .slot)));
+            table-beyond = done .table-beyond ∙ b .table-beyond;
+            table-length = done .table-length ∙ b .table-length;
             area-beyond = same-beyond;
-            area-length = same-length;
+            area-length = done .area-length ∙ b .area-length;
           }
 
       pub block-progress : n - (low + block) < n - low
@@ -222,15 +313,16 @@ module _ (bs : List ℕ) (n t s z : ℕ) (table area : List ℕ) (low : ℕ) (ta
 
 -- after the last block
 pub blocks-end :
-    (bs : List ℕ) (n t s z : ℕ) (table area : List ℕ) (low : ℕ) (table′ area′ : List ℕ) → n ≤ low →
-    Blocks bs n t s z table area low table′ area′ → Throughs bs n t s z table area table′ area′ false
-blocks-end bs n t s z table area low table′ area′ last b =
-    let some = accepted bs n t (b .ready .accepted) .some-station in
+    (bs : List ℕ) (n t s z until : ℕ) (table area : List ℕ) (low : ℕ) (table′ area′ : List ℕ) (slot : ℕ) → n ≤ low →
+    Blocks bs n t s z until table area low table′ area′ slot → Throughs bs n t s z until table area table′ area′ slot
+blocks-end bs n t s z until table area low table′ area′ slot last b =
+    let some = accepted bs n t (b .ready .ready .accepted) .some-station in
     record {
-      too-many = sym (b .few (omega arith));
-      counted = λ q v h. b .counted v (omega arith);
-      pair-hops = λ q. b .pair-hops (omega arith);
-      pair-count = λ q. b .pair-count (omega arith);
+      over = λ q. absurd (b .some-slot (omega arith) q);
+      settled = λ q. b .settled (omega arith);
+      counted = λ q v h.
+          b .counted v (omega arith) ∙
+          ap (λ e. throughIn (planOf bs n t) s z (walksBy (planOf bs n t) s z e) v) (sym (b .settled (omega arith) .slot));
       table-beyond = b .table-beyond;
       table-length = b .table-length;
       area-beyond = b .area-beyond;

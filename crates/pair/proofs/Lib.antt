@@ -1,5 +1,6 @@
 -- places in the work area, and the through counts of a pair
 mod PlaceLaws
 mod ThroughLaws
-mod BlockLaws
+pub mod BlockLaws
+pub mod BeginLaws
 mod PairLaws

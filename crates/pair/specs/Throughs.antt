@@ -1,17 +1,18 @@
 -- The through counts of a pair, block by block. Definitions only.
 -- Assumes nothing.
-use Prim.Native.Nat.{ℕ, _+_, _-_, _*_, _<_, _≤_}
+use Prim.Native.Nat.{ℕ, _+_, _-_, _*_, _<_, _≤_, min}
 use mathlib.Core.Path.{_≡_}
-use mathlib.Core.Bool.{Bool, false, cond}
+use mathlib.Core.Bool.{false, cond}
 use mathlib.Core.List.{List}
-use mathlib.Core.Logic.{_≢_}
+use mathlib.Core.Logic.{_⊎_, _≢_}
 use lib.Dec.{eqb}
 use lib.ListN.{length, getD, drop}
 use Rattle.temporal.specs.Bytes.{planOf}
 use Rattle.temporal.specs.Cause.{planFault, tooMany}
-use Rattle.temporal.specs.Shortest as Shortest
-use Rattle.temporal.specs.Shortest.{shortestPaths, hops, count}
+use Rattle.temporal.specs.Shortest.{hops, count, throughIn}
+use Rattle.temporal.specs.Foremost.{arrival, walksBy}
 use Rattle.temporal.specs.Outcome.{workSize}
+use Rattle.pass.specs.PassedColumns.{Overfull}
 
 -- what the pass leaves for the station at j of a block: the count less its entry, 0 at z itself and where there is no path
 unfoldable pub throughEntry : List ℕ → ℕ → ℕ → ℕ → ℕ → ℕ → ℕ
@@ -54,13 +55,55 @@ pub record PairReady (bs : List ℕ) (n t s z : ℕ) (through work : List ℕ) :
   pub table : n ≤ length through
   pub area : workSize n t ≤ length work
 
--- whether a count is over 2^64 - 1; where none is, every station's through count in the table, and the pair's hops and
--- count in the work area
-pub record Throughs (bs : List ℕ) (n t s z : ℕ) (through work through′ work′ : List ℕ) (r : Bool) : Type 0 where
-  pub too-many : r ≡ tooMany (planOf bs n t) s
-  pub counted : r ≡ false → (v : ℕ) → v < n → getD through′ v 0 ≡ Shortest.through (planOf bs n t) s z v
-  pub pair-hops : r ≡ false → getD work′ z 0 ≡ hops (shortestPaths (planOf bs n t) s z)
-  pub pair-count : r ≡ false → getD work′ (n + z) 0 ≡ count (shortestPaths (planOf bs n t) s z)
+-- the station that a pass waits for is the destination, or none
+abbrev pub Asks : ℕ → ℕ → ℕ → Type 0
+Asks n z until = (until ≡ n) ⊎ (until ≡ z)
+
+-- the slot in which a pass ends: that in which it reaches the station until, or the last
+abbrev pub lastSlot : List ℕ → ℕ → ℕ → ℕ → ℕ → ℕ
+lastSlot bs n t s until = min t (arrival (planOf bs n t) s until)
+
+-- what storing the through counts of one block asks, from its pass on
+pub record BlockReady (bs : List ℕ) (n t s z until low block : ℕ) (through work : List ℕ) : Type 0 where
+  pub accepted : planFault bs n t ≡ 0
+  pub source : s < n
+  pub destination : z < n
+  pub different : s ≢ z
+  pub asks : Asks n z until
+  pub stations : low + block ≤ n
+  pub table : n ≤ length through
+  pub fits : 4 * n + 2 * n * block ≤ length work
+
+-- what the work area holds of the pair where no count is over 2^64 - 1: hops and count of its shortest walks by slot e
+pub record PairBy (bs : List ℕ) (n t s z until : ℕ) (work : List ℕ) (e : ℕ) : Type 0 where
+  pub slot : e ≡ lastSlot bs n t s until
+  pub few : until ≡ n → tooMany (planOf bs n t) s ≡ false
+  pub pair-hops : getD work z 0 ≡ hops (walksBy (planOf bs n t) s z e)
+  pub pair-count : getD work (n + z) 0 ≡ count (walksBy (planOf bs n t) s z e)
+
+-- one block: whether a count is over 2^64 - 1, where the slot is 0; else the block's through counts in the table
+pub record BlockDone (bs : List ℕ) (n t s z until low block : ℕ) (through work through′ work′ : List ℕ) (r : ℕ) : Type 0 where
+  pub over : r ≡ 0 → Overfull bs n t s until
+  pub settled : r ≢ 0 → PairBy bs n t s z until work′ r
+  pub here : r ≢ 0 → (j : ℕ) → j < block
+      → getD through′ (low + j) 0 ≡ throughIn (planOf bs n t) s z (walksBy (planOf bs n t) s z r) (low + j)
+  pub before : (v : ℕ) → v < low → getD through′ v 0 ≡ getD through v 0
+  pub table-beyond : drop n through′ ≡ drop n through
+  pub table-length : length through′ ≡ length through
+  pub area-beyond : drop (4 * n + 2 * n * block) work′ ≡ drop (4 * n + 2 * n * block) work
+  pub area-length : length work′ ≡ length work
+
+-- what counting block by block asks
+pub record ThroughsReady (bs : List ℕ) (n t s z until : ℕ) (through work : List ℕ) : Type 0 where
+  pub ready : PairReady bs n t s z through work
+  pub asks : Asks n z until
+
+-- all blocks: whether a count is over 2^64 - 1, where the slot is 0; else every station's through count in the table
+pub record Throughs (bs : List ℕ) (n t s z until : ℕ) (through work through′ work′ : List ℕ) (r : ℕ) : Type 0 where
+  pub over : r ≡ 0 → Overfull bs n t s until
+  pub settled : r ≢ 0 → PairBy bs n t s z until work′ r
+  pub counted : r ≢ 0 → (v : ℕ) → v < n
+      → getD through′ v 0 ≡ throughIn (planOf bs n t) s z (walksBy (planOf bs n t) s z r) v
   pub table-beyond : drop n through′ ≡ drop n through
   pub table-length : length through′ ≡ length through
   pub area-beyond : drop (workSize n t) work′ ≡ drop (workSize n t) work

@@ -1,6 +1,5 @@
 // Operation 4, pair, over the pass.
 ghost use mathlib.Core.Path.{_≡_};
-ghost use Prim.Native.Nat.{min};
 ghost use Rattle.temporal.specs.Bytes.{planOf};
 ghost use Rattle.temporal.specs.Cause.{planFault};
 ghost use Rattle.temporal.specs.OutcomePair.{paired, pair};
@@ -11,6 +10,9 @@ ghost use Rattle.pair.specs.Throughs.{
   Storing,
   StoredBlock,
   PairReady,
+  BlockReady,
+  BlockDone,
+  ThroughsReady,
   Throughs,
 };
 use calls::CallCheck;
@@ -22,16 +24,6 @@ use plan::Fault;
 pub enum PairAnswer {
     Counted(u64, u64),
     Refused(Fault),
-}
-
-// The lesser of two numbers.
-fn least(a: usize, b: usize) -> usize
-    ensures { λ r. ⌜ r ≡ min a b ⌝ }
-{
-    if a < b {
-        return a;
-    }
-    b
 }
 
 // The through count of the station at j of a block, to the destination z.
@@ -62,8 +54,9 @@ fn store(through: &mut [u64], work: &[u64], n: usize, z: usize, low: usize, bloc
     }
 }
 
-// The through counts of a pair, block by block. True where a count is over 2^64 - 1.
-fn throughs(
+// The through counts of a block of stations, from a pass that ends where the station until is reached. The slot in which it ends;
+// 0 where a count is over 2^64 - 1.
+fn block_throughs(
     through: &mut [u64],
     work: &mut [u64],
     plan: &[u8],
@@ -71,21 +64,51 @@ fn throughs(
     t: usize,
     s: usize,
     z: usize,
-) -> bool
-    requires { ⌜ PairReady (now plan) n t s z (now through) (now work) ⌝ }
-    ensures { λ r. ⌜ Throughs (now (plan .entry)) n t s z (now (through .entry)) (now (work .entry)) (now (through .exit)) (now (work .exit)) r ⌝ }
+    low: usize,
+    block: usize,
+    until: usize,
+) -> usize
+    requires { ⌜ BlockReady (now plan) n t s z until low block (now through) (now work) ⌝ }
+    ensures { λ r. ⌜ BlockDone (now (plan .entry)) n t s z until low block
+        (now (through .entry)) (now (work .entry)) (now (through .exit)) (now (work .exit)) r ⌝ }
 {
-    let most = least(n, 2 * t);
+    let ended = pass::pass_until(work, plan, n, t, s, low, block, until);
+    let slot = pass::settled_slot(ended);
+    if slot == 0 {
+        return 0;
+    }
+    store(through, work, n, z, low, block);
+    slot
+}
+
+// The through counts of a pair, block by block: of its shortest walks by the slot in which the station until is reached, which is
+// z, or n for none. That slot, or the last; 0 where a count is over 2^64 - 1.
+pub fn throughs(
+    through: &mut [u64],
+    work: &mut [u64],
+    plan: &[u8],
+    n: usize,
+    t: usize,
+    s: usize,
+    z: usize,
+    until: usize,
+) -> usize
+    requires { ⌜ ThroughsReady (now plan) n t s z until (now through) (now work) ⌝ }
+    ensures { λ r. ⌜ Throughs (now (plan .entry)) n t s z until
+        (now (through .entry)) (now (work .entry)) (now (through .exit)) (now (work .exit)) r ⌝ }
+{
+    let most = pass::smaller(n, 2 * t);
     let mut low = 0;
+    let mut slot = 0;
     while low < n {
-        let block = least(most, n - low);
-        if pass::pass(work, plan, n, t, s, low, block) {
-            return true;
+        let block = pass::smaller(most, n - low);
+        slot = block_throughs(through, work, plan, n, t, s, z, low, block, until);
+        if slot == 0 {
+            return 0;
         }
-        store(through, work, n, z, low, block);
         low += block;
     }
-    false
+    slot
 }
 
 // Pair once 1 to 8 are excluded.
@@ -101,7 +124,7 @@ fn pair_work(
     requires { ⌜ PairReady (now plan) n t s z (now through) (now work) ⌝ }
     ensures { λ r. ⌜ pairOutcome r (pairBuffers (now (through .exit)) (now (work .exit))) ≡ paired (planOf (now (plan .entry)) n t) s z (pairBuffers (now (through .entry)) (now (work .entry))) ⌝ }
 {
-    if throughs(through, work, plan, n, t, s, z) {
+    if throughs(through, work, plan, n, t, s, z, n) == 0 {
         memory::clear(through, n);
         memory::clear(work, 4 * (n * (t + 1)));
         return PairAnswer::Refused(Fault::Call(CallFault::TooMany));

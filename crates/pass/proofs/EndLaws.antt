@@ -1,4 +1,5 @@
--- The end of the pass: what the settled entries say of the shortest paths, and what large sequences say of cause 9.
+-- The end of the pass: what the settled entries say of the shortest walks by its last slot, and what large sequences say of
+-- cause 9.
 -- Assumes nothing.
 use Prim.Native.Nat.{ℕ, zero, suc, _+_, _*_, _%_, _^_, _<_, _≤_}
 use native.Mathlib.Omega.{arith}
@@ -12,18 +13,19 @@ use lib.Dec.{ltb, eqb}
 use lib.ListN.{getD}
 use Rattle.temporal.specs.Lists.{below, any}
 use Rattle.temporal.specs.Plan.{Plan, start}
-use Rattle.temporal.specs.Walk.{isAt, isAppearance, isWalk}
-use Rattle.temporal.specs.Shortest.{shortestWalks, shortestPaths, hops, count}
-use Rattle.temporal.specs.Set.{touched}
+use Rattle.temporal.specs.Walk.{isAppearance, isWalk}
+use Rattle.temporal.specs.Shortest.{shortestWalks, hops, count}
+use Rattle.temporal.specs.Set.{touchedIn}
+use Rattle.temporal.specs.Foremost.{arrivesBy, walksBy}
 use Rattle.temporal.specs.Bytes.{planOf}
-use Rattle.temporal.specs.Cause.{planFault, tooMany}
-use Rattle.temporal.proofs.ListLaws.{any-true, any-false, any-ext, mem-below}
+use Rattle.temporal.specs.Cause.{planFault, appearanceTooMany}
+use Rattle.temporal.proofs.ListLaws.{any-true, any-false, mem-below}
 use Rattle.temporal.proofs.WalkLaws.{SlotsWithin}
 use Rattle.temporal.proofs.PlanLaws.{slots-within}
-use Rattle.temporal.proofs.Adequacy.{bounded-ends, shortest-walks-are-paths}
+use Rattle.temporal.proofs.Adequacy.{bounded-ends}
 use Rattle.counting.proofs.Weights.{total, everywhere, total-zero}
 use Rattle.counting.proofs.Fewest.{Fewest, fewest-ext, fewest-unique, fewest-shortest, count-shortest}
-use Rattle.counting.proofs.Recurrence.{atAppearance, whole-station, start-later}
+use Rattle.counting.proofs.Recurrence.{atAppearance, station-by, start-later}
 use Rattle.counting.proofs.Through.{touched-avoiding}
 use Rattle.pass.specs.Row.{rowAt}
 use Rattle.entries.specs.Entry.{stored}
@@ -31,7 +33,7 @@ use Rattle.entries.proofs.CountLaws.{stored-small}
 use Rattle.entries.proofs.EntryLaws.{Large, Small, overflow-large, overflow-small}
 use Rattle.entries.proofs.HopLaws.{few-slots}
 use Rattle.pass.specs.Entry.{areaOverflows}
-use Rattle.pass.specs.Passed.{Counted}
+use Rattle.pass.specs.PassedColumns.{CountedBy}
 use Rattle.pass.proofs.BestLaws.{Best}
 use Rattle.pass.proofs.ColumnLaws.{mayLeave, other-free}
 use Rattle.pass.proofs.StateLaws.{AreaState}
@@ -85,121 +87,113 @@ module _ (bs : List ℕ) (n t : ℕ) (ok : planFault bs n t ≡ 0) (s : ℕ) whe
   -- an appearance with too many is a cause of refusal
   pub too-many-appearance : (v u : ℕ) → v < n → u ≤ t
       → 18446744073709551615 < count (shortestWalks (planOf bs n t) s v u)
-      → tooMany (planOf bs n t) s ≡ true
-  unfolding tooMany planOf
+      → appearanceTooMany (planOf bs n t) s ≡ true
+  unfolding planOf
   too-many-appearance v u hv hu big =
-      rw (any-true _ (below n) .1 (
+      any-true _ (below n) .1 (
         v,
         mem-below n .1 hv,
         any-true (λ t′. ltb 18446744073709551615 (count (shortestWalks (planOf bs n t) s v t′))) (below (t + 1)) .1
             (u, mem-below (t + 1) .1 (omega arith), lt-ltb 18446744073709551615 _ big),
-      ))
+      )
 
-  -- where no appearance has too many, a station with too many is the only cause
-  pub too-many-station : (f : ℕ → Bool)
-      → ((v u : ℕ) → v < n → u ≤ t → count (shortestWalks (planOf bs n t) s v u) ≤ 18446744073709551615)
-      → ((v : ℕ) → v < n → f v ≡ ltb 18446744073709551615 (count (shortestPaths (planOf bs n t) s v)))
-      → any f (below n) ≡ tooMany (planOf bs n t) s
-  unfolding tooMany planOf
-  too-many-station f small e =
-      rw (any-false _ (below n) .1 (λ v m. any-false _ (below (t + 1)) .1 (λ u l. le-ltb 18446744073709551615 _
-      (small v u (mem-below n .0 m) (let h = mem-below (t + 1) .0 l in omega arith)))))
-      (any-ext (below n) (λ v m. e v (mem-below n .0 m)))
+  -- where no appearance has too many there is no such cause
+  pub few-appearances :
+      ((v u : ℕ) → v < n → u ≤ t → count (shortestWalks (planOf bs n t) s v u) ≤ 18446744073709551615)
+      → appearanceTooMany (planOf bs n t) s ≡ false
+  unfolding planOf
+  few-appearances small =
+      any-false _ (below n) .1 (λ v m. any-false _ (below (t + 1)) .1 (λ u l. le-ltb 18446744073709551615 _
+      (small v u (mem-below n .0 m) (let h = mem-below (t + 1) .0 l in omega arith))))
 
   -- ---- stations
 
-  -- what is settled past the last slot is all that ends at a station
-  station-all : (z k : ℕ)
-      → kept (planOf bs n t) s everywhere z (t + 1) k
-      ≡ total (planOf bs n t) everywhere (start s) (λ y. cond (isAt z y) 1 0) k
-  unfolding kept everywhere planOf
-  station-all z k = sym (whole-station (planOf bs n t) s everywhere (slots-within bs n t ok) z k)
+  -- what is settled past slot e is all that ends at a station by slot e
+  station-all : (z e k : ℕ)
+      → kept (planOf bs n t) s everywhere z (e + 1) k
+      ≡ total (planOf bs n t) everywhere (start s) (λ y. cond (arrivesBy z e y) 1 0) k
+  unfolding kept everywhere
+  station-all z e k = sym (station-by (planOf bs n t) s everywhere z e k)
 
   -- and so are those under a permission to go on from there
-  station-may : (g : ℕ → Bool) (z k : ℕ) → g z ≡ true
-      → kept (planOf bs n t) s g z (t + 1) k
-      ≡ total (planOf bs n t) g (start s) (λ y. cond (isAt z y) 1 0) k
-  unfolding kept planOf
-  station-may g z k e = rw e (sym (whole-station (planOf bs n t) s g (slots-within bs n t ok) z k))
+  station-may : (g : ℕ → Bool) (z e k : ℕ) → g z ≡ true
+      → kept (planOf bs n t) s g z (e + 1) k
+      ≡ total (planOf bs n t) g (start s) (λ y. cond (arrivesBy z e y) 1 0) k
+  unfolding kept
+  station-may g z e k q = rw q (sym (station-by (planOf bs n t) s g z e k))
 
-  -- (kept) so its fewest hops and its number there are those of the shortest paths
-  station-fewest : (z : ℕ)
-      → Fewest (kept (planOf bs n t) s everywhere z (t + 1)) (hops (shortestPaths (planOf bs n t) s z))
-  station-fewest z =
-      rw (shortest-walks-are-paths bs n t ok s z)
-      (fewest-ext (λ k. sym (station-all z k))
-      (fewest-shortest (planOf bs n t) (start s) (isAt z)
-      (bounded-ends (planOf bs n t) (slots-within bs n t ok) s (isAt z))
-      (few-slots bs n t ok)))
+  -- so its fewest hops and its number there are those of the shortest walks by slot e
+  station-fewest : (z e : ℕ)
+      → Fewest (kept (planOf bs n t) s everywhere z (e + 1)) (hops (walksBy (planOf bs n t) s z e))
+  unfolding walksBy
+  station-fewest z e =
+      fewest-ext (λ k. sym (station-all z e k))
+      (fewest-shortest (planOf bs n t) (start s) (arrivesBy z e)
+      (bounded-ends (planOf bs n t) (slots-within bs n t ok) s (arrivesBy z e))
+      (few-slots bs n t ok))
 
-  -- (kept)
-  station-count : (z : ℕ) → count (shortestPaths (planOf bs n t) s z)
-      ≡ kept (planOf bs n t) s everywhere z (t + 1) (hops (shortestPaths (planOf bs n t) s z))
-  station-count z =
-      rw (shortest-walks-are-paths bs n t ok s z)
-      (count-shortest (planOf bs n t) (start s) (isAt z)
-      (bounded-ends (planOf bs n t) (slots-within bs n t ok) s (isAt z))
-      ∙ sym (station-all z _))
+  station-count : (z e : ℕ) → count (walksBy (planOf bs n t) s z e)
+      ≡ kept (planOf bs n t) s everywhere z (e + 1) (hops (walksBy (planOf bs n t) s z e))
+  unfolding walksBy
+  station-count z e =
+      count-shortest (planOf bs n t) (start s) (arrivesBy z e)
+      (bounded-ends (planOf bs n t) (slots-within bs n t ok) s (arrivesBy z e))
+      ∙ sym (station-all z e _)
 
-  module _ (col : ℕ → ℕ) (block : ℕ) (old w : List ℕ) (j : ℕ)
-      (state : AreaState n block old (walksAt (planOf bs n t) s (mayLeave s col) (t + 1) j) w) where
-    entry : (z : ℕ) → z < n → Best block 65535 (kept (planOf bs n t) s everywhere z (t + 1))
-        (λ c. kept (planOf bs n t) s (mayLeave s col c) z (t + 1)) (getD w z 0) (getD w (z + n) 0)
+  module _ (col : ℕ → ℕ) (block : ℕ) (old w : List ℕ) (e j : ℕ)
+      (state : AreaState n block old (walksAt (planOf bs n t) s (mayLeave s col) (e + 1) j) w) where
+    entry : (z : ℕ) → z < n → Best block 65535 (kept (planOf bs n t) s everywhere z (e + 1))
+        (λ c. kept (planOf bs n t) s (mayLeave s col c) z (e + 1)) (getD w z 0) (getD w (z + n) 0)
         (λ c. getD w (rowAt n block z + c) 0)
     unfolding walksAt
     entry z q = state .settled z q
 
-    -- (kept) a station's settled entry overflows just where its count is over 2^64 - 1
+    -- a station's settled entry overflows just where its count is over 2^64 - 1
     pub station-overflows : (z : ℕ) → z < n
-        → areaOverflows n w z ≡ ltb 18446744073709551615 (count (shortestPaths (planOf bs n t) s z))
+        → areaOverflows n w z ≡ ltb 18446744073709551615 (count (walksBy (planOf bs n t) s z e))
     station-overflows z q = go (areaOverflows n w z) refl
       where
-        go : (b : Bool) → areaOverflows n w z ≡ b → b ≡ ltb 18446744073709551615 (count (shortestPaths (planOf bs n t) s z))
-        go true e =
-            let large = overflow-large (entry z q .entry) e in
-            let same = fewest-unique (large .fewest) (station-fewest z) in
+        go : (b : Bool) → areaOverflows n w z ≡ b → b ≡ ltb 18446744073709551615 (count (walksBy (planOf bs n t) s z e))
+        go true f =
+            let large = overflow-large (entry z q .entry) f in
+            let same = fewest-unique (large .fewest) (station-fewest z e) in
             let big =
-            subst (λ x. 18446744073709551615 < kept (planOf bs n t) s everywhere z (t + 1) x) same (large .large) in
-            sym (lt-ltb 18446744073709551615 (count (shortestPaths (planOf bs n t) s z))
-            (omega (arith, station-count z)))
-        go false e =
-            let small = overflow-small (entry z q .entry) e .small _ (station-fewest z) in
-            sym (le-ltb 18446744073709551615 (count (shortestPaths (planOf bs n t) s z))
-            (omega (arith, station-count z)))
+            subst (λ x. 18446744073709551615 < kept (planOf bs n t) s everywhere z (e + 1) x) same (large .large) in
+            sym (lt-ltb 18446744073709551615 (count (walksBy (planOf bs n t) s z e))
+            (omega (arith, station-count z e)))
+        go false f =
+            let small = overflow-small (entry z q .entry) f .small _ (station-fewest z e) in
+            sym (le-ltb 18446744073709551615 (count (walksBy (planOf bs n t) s z e))
+            (omega (arith, station-count z e)))
 
-    module _ (small : (z : ℕ) → z < n → count (shortestPaths (planOf bs n t) s z) ≤ 18446744073709551615) where
-      at-hops : (z : ℕ) → z < n → getD w z 0 ≡ hops (shortestPaths (planOf bs n t) s z)
-      at-hops z q = fewest-unique (entry z q .entry .fewest) (station-fewest z)
+    -- its hops are those of the shortest walks
+    pub at-hops : (z : ℕ) → z < n → getD w z 0 ≡ hops (walksBy (planOf bs n t) s z e)
+    at-hops z q = fewest-unique (entry z q .entry .fewest) (station-fewest z e)
 
-      -- (kept) Where no count is over 2^64 - 1 the settled entries are hops and counts.
-      pub counted : Counted bs n t s 0 0 w
-      counted =
-          record {
-            station-hops = at-hops;
-            station-counts = λ z q.
-                let place : n + z ≡ z + n = omega arith in
-                rw place (entry z q .entry .count
-                ∙ ap (λ h. stored (kept (planOf bs n t) s everywhere z (t + 1) h)) (at-hops z q)
-                ∙ ap stored (sym (station-count z))
-                ∙ stored-small _ (small z q));
-            rows = λ z c q i. absurd (omega arith);
-          }
-
-      -- (kept) There a row says how many shortest paths have no station of a column inside.
-      pub counted-rows : (z c : ℕ) → z < n → c < block → col z ≢ c → hops (shortestPaths (planOf bs n t) s z) < 65535
-          → getD w (4 * n + z * block + c) 0 + touched (planOf bs n t) s z (λ v. eqb (col v) c)
-          ≡ count (shortestPaths (planOf bs n t) s z)
-      unfolding mayLeave
-      counted-rows z c q i d some =
-          let h = hops (shortestPaths (planOf bs n t) s z) in
-          let m = total (planOf bs n t) (mayLeave s col c) (start s) (λ y. cond (isAt z y) 1 0) h in
-          let parts : touched (planOf bs n t) s z (λ v. eqb (col v) c) + m ≡ count (shortestPaths (planOf bs n t) s z) =
-          touched-avoiding bs n t ok s z (λ v. eqb (col v) c) in
-          let here = at-hops z q in
-          let fits : m < 2 ^ 64 = let few = small z q in omega arith in
-          let held : getD w (rowAt n block z + c) 0 ≡ m =
-          entry z q .row c i (omega arith)
-          ∙ ap (λ x. kept (planOf bs n t) s (mayLeave s col c) z (t + 1) x % 2 ^ 64) here
-          ∙ ap (λ x. x % 2 ^ 64) (station-may (mayLeave s col c) z h (other-free s col c z d))
-          ∙ mod-eq-of-lt fits in
-          omega arith
+    -- (kept) The settled entries are hops and counts, and a row says how many walks have no station of a column inside.
+    pub counted : CountedBy bs n t s e col block w
+    unfolding mayLeave
+    counted =
+        record {
+          station-hops = at-hops;
+          station-counts = λ z q few.
+              let place : n + z ≡ z + n = omega arith in
+              rw place (entry z q .entry .count
+              ∙ ap (λ h. stored (kept (planOf bs n t) s everywhere z (e + 1) h)) (at-hops z q)
+              ∙ ap stored (sym (station-count z e))
+              ∙ stored-small _ few);
+          rows = λ z c q i d few some.
+              let h = hops (walksBy (planOf bs n t) s z e) in
+              let m = total (planOf bs n t) (mayLeave s col c) (start s) (λ y. cond (arrivesBy z e y) 1 0) h in
+              let parts : touchedIn (planOf bs n t) s z (walksBy (planOf bs n t) s z e) (λ v. eqb (col v) c) + m
+              ≡ count (walksBy (planOf bs n t) s z e) =
+              touched-avoiding bs n t ok s z e (λ v. eqb (col v) c) in
+              let here = at-hops z q in
+              let fits : m < 2 ^ 64 = omega arith in
+              let held : getD w (rowAt n block z + c) 0 ≡ m =
+              entry z q .row c i (omega arith)
+              ∙ ap (λ x. kept (planOf bs n t) s (mayLeave s col c) z (e + 1) x % 2 ^ 64) here
+              ∙ ap (λ x. x % 2 ^ 64) (station-may (mayLeave s col c) z e h (other-free s col c z d))
+              ∙ mod-eq-of-lt fits in
+              omega arith;
+        }

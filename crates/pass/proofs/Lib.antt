@@ -12,5 +12,6 @@ mod SettleLaws
 mod PlanWalks
 mod BeginLaws
 mod EndLaws
+mod ReachLaws
 mod PassLaws
-mod UseLaws
+pub mod UseLaws

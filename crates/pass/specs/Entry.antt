@@ -1,7 +1,8 @@
 -- Entries in the work area: an entry has its hops at a place and its count n places later. Definitions only.
 -- Assumes nothing.
 use Prim.Native.Nat.{ℕ, _+_, _*_, _<_, _≤_, min}
-use mathlib.Core.Bool.{Bool}
+use mathlib.Core.Bool.{Bool, false, cond}
+use lib.Dec.{ltb}
 use mathlib.Core.List.{List}
 use lib.ListN.{length, getD, set}
 use Rattle.entries.specs.Entry.{mergedCount, overflows}
@@ -19,6 +20,10 @@ absorbed n block w at row from l d = mergedArea n (combined (mergedRow (getD w a
 -- whether the entry at a place has a count over 2^64 - 1
 abbrev pub areaOverflows : ℕ → List ℕ → ℕ → Bool
 areaOverflows n w at = overflows (getD w at 0) (getD w (at + n) 0)
+
+-- whether a station has a settled walk; a number that is no station's has none
+unfoldable pub reachedEntry : ℕ → List ℕ → ℕ → Bool
+reachedEntry n w v = cond (ltb v n) (ltb (getD w v 0) 65535) false
 
 -- what taking in asks: the entry lies before the rows, and the rows within the list
 pub record Absorbable (n block : ℕ) (w : List ℕ) (at row from : ℕ) : Type 0 where

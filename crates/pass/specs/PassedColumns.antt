@@ -1,31 +1,83 @@
--- What the pass asks and promises for any columns: col gives the column that stands for a station. Definitions only.
+-- What the pass asks and promises for any columns, to the slot in which it ends: col gives the column that stands for a station.
+-- Definitions only.
 -- Assumes nothing.
-use Prim.Native.Nat.{ℕ, _+_, _*_, _<_, _≤_}
+use Prim.Native.Nat.{ℕ, _+_, _*_, _<_, _≤_, min}
 use mathlib.Core.Path.{_≡_}
-use mathlib.Core.Bool.{Bool, false}
+use mathlib.Core.Bool.{Bool, true, false, cond}
 use mathlib.Core.List.{List}
-use mathlib.Core.Logic.{_≢_}
-use lib.Dec.{eqb}
+use mathlib.Core.Logic.{_⊎_, _≢_}
+use lib.Dec.{ltb, eqb}
 use lib.ListN.{length, getD, drop}
 use Rattle.temporal.specs.Bytes.{planOf}
-use Rattle.temporal.specs.Cause.{planFault, tooMany}
-use Rattle.temporal.specs.Shortest.{shortestPaths, hops, count}
-use Rattle.temporal.specs.Set.{touched}
-use Rattle.pass.specs.Passed.{areaSize, Counted}
+use Rattle.temporal.specs.Cause.{planFault, appearanceTooMany, stationTooMany}
+use Rattle.temporal.specs.Shortest.{shortestWalks, hops, count}
+use Rattle.temporal.specs.Set.{touchedIn}
+use Rattle.temporal.specs.Foremost.{arrival, walksBy}
+use Rattle.pass.specs.declared.Ended.{Ended}
+use Rattle.pass.specs.declared.Ended.the-variants as ended
+use Rattle.pass.specs.Passed.{areaSize}
 
--- an accepted plan, a source in it, and a work area that is long enough
-pub record ColumnsReady (bs : List ℕ) (n t s block : ℕ) (work : List ℕ) : Type 0 where
+-- an accepted plan, a source in it that the pass does not wait for, and a work area that is long enough
+pub record ColumnsReady (bs : List ℕ) (n t s until block : ℕ) (work : List ℕ) : Type 0 where
   pub accepted : planFault bs n t ≡ 0
   pub source : s < n
+  pub other : s ≢ until
   pub fits : areaSize n block ≤ length work
 
--- As Passed (counted: hops and counts alone, with an empty block), and in the rows: at 4 n + z block + j stands how many of the
--- shortest paths of z have no station of column j inside. Nothing is said where j stands for z, nor where there is no path.
-pub record ColumnsPassed (bs : List ℕ) (n t s : ℕ) (col : ℕ → ℕ) (block : ℕ) (old new : List ℕ) (r : Bool) : Type 0 where
-  pub too-many : r ≡ tooMany (planOf bs n t) s
-  pub counted : r ≡ false → Counted bs n t s 0 0 new
-  pub rows : r ≡ false → (z j : ℕ) → z < n → j < block → col z ≢ j → hops (shortestPaths (planOf bs n t) s z) < 65535
-      → getD new (4 * n + z * block + j) 0 + touched (planOf bs n t) s z (λ v. eqb (col v) j)
-      ≡ count (shortestPaths (planOf bs n t) s z)
+-- The entries by slot e: station z has its hops at z and its count at n + z, and at 4 n + z block + j stands how many of its
+-- shortest walks by slot e have no station of column j inside. Nothing is said of a count over 2^64 - 1 and beside it, nor of a
+-- row's entry where j stands for z or where there is no walk.
+pub record CountedBy (bs : List ℕ) (n t s e : ℕ) (col : ℕ → ℕ) (block : ℕ) (work : List ℕ) : Type 0 where
+  pub station-hops : (z : ℕ) → z < n → getD work z 0 ≡ hops (walksBy (planOf bs n t) s z e)
+  pub station-counts : (z : ℕ) → z < n → count (walksBy (planOf bs n t) s z e) ≤ 18446744073709551615
+      → getD work (n + z) 0 ≡ count (walksBy (planOf bs n t) s z e)
+  pub rows : (z j : ℕ) → z < n → j < block → col z ≢ j → count (walksBy (planOf bs n t) s z e) ≤ 18446744073709551615
+      → hops (walksBy (planOf bs n t) s z e) < 65535
+      → getD work (4 * n + z * block + j) 0 + touchedIn (planOf bs n t) s z (walksBy (planOf bs n t) s z e) (λ v. eqb (col v) j)
+      ≡ count (walksBy (planOf bs n t) s z e)
+
+-- A pass that ends settled in slot e: the slot in which it reaches the station until, or the last where it does not. No appearance
+-- by that slot has over 2^64 - 1; nor has a station, where the pass waits for none.
+pub record SettledAt (bs : List ℕ) (n t s until : ℕ) (col : ℕ → ℕ) (block : ℕ) (work : List ℕ) (e : ℕ) : Type 0 where
+  pub slot : e ≡ min t (arrival (planOf bs n t) s until)
+  pub appearances : (v x : ℕ) → v < n → x ≤ e → count (shortestWalks (planOf bs n t) s v x) ≤ 18446744073709551615
+  pub stations : n ≤ until → (z : ℕ) → z < n → count (walksBy (planOf bs n t) s z e) ≤ 18446744073709551615
+  pub entries : CountedBy bs n t s e col block work
+
+-- a pass that meets a station with over 2^64 - 1, and no such appearance; it waits for no station
+pub record StationMet (bs : List ℕ) (n t s until : ℕ) : Type 0 where
+  pub waits-for-none : n ≤ until
+  pub appearances : appearanceTooMany (planOf bs n t) s ≡ false
+  pub station : stationTooMany (planOf bs n t) s ≡ true
+
+-- how a pass ends
+unfoldable pub EndedAs : List ℕ → ℕ → ℕ → ℕ → ℕ → (ℕ → ℕ) → ℕ → List ℕ → Ended → Type 0
+EndedAs bs n t s until col block work (ended.Settled e) = SettledAt bs n t s until col block work e
+EndedAs bs n t s until col block work ended.StationTooMany = StationMet bs n t s until
+EndedAs bs n t s until col block work ended.AppearanceTooMany = appearanceTooMany (planOf bs n t) s ≡ true
+
+-- What the pass promises: how it ends, and that nothing past its part of the work area is touched.
+pub record ColumnsPassed (bs : List ℕ) (n t s until : ℕ) (col : ℕ → ℕ) (block : ℕ) (old new : List ℕ) (r : Ended) : Type 0 where
+  pub ends : EndedAs bs n t s until col block new r
   pub beyond : drop (areaSize n block) new ≡ drop (areaSize n block) old
   pub same-length : length new ≡ length old
+
+-- whether a pass met a count over 2^64 - 1
+unfoldable pub overOf : Ended → Bool
+overOf (ended.Settled e) = false
+overOf ended.StationTooMany = true
+overOf ended.AppearanceTooMany = true
+
+-- the slot in which a pass ended settled; 0 where it met a count over 2^64 - 1
+unfoldable pub slotOf : Ended → ℕ
+slotOf (ended.Settled e) = e
+slotOf ended.StationTooMany = 0
+slotOf ended.AppearanceTooMany = 0
+
+-- what it met then: an appearance, or a station where it waits for none
+abbrev pub Overfull : List ℕ → ℕ → ℕ → ℕ → ℕ → Type 0
+Overfull bs n t s until = (appearanceTooMany (planOf bs n t) s ≡ true) ⊎ StationMet bs n t s until
+
+-- how a pass ends past the last slot t, where the Boolean says whether some station's settled entry is over 2^64 - 1
+unfoldable pub lastEnded : ℕ → ℕ → ℕ → Bool → Ended
+lastEnded n t until over = cond (ltb until n) (ended.Settled t) (cond over ended.StationTooMany (ended.Settled t))

@@ -8,7 +8,7 @@ ghost use lib.ListN.{length};
 ghost use Rattle.temporal.specs.Lists.{any, below};
 ghost use Rattle.temporal.specs.Bytes.{contactAt};
 ghost use Rattle.pass.specs.Row.{combined, second, wrapped, mergedRow, rowAt, RowsFit};
-ghost use Rattle.pass.specs.Entry.{mergedArea, absorbed, areaOverflows, Absorbable};
+ghost use Rattle.pass.specs.Entry.{mergedArea, absorbed, areaOverflows, reachedEntry, Absorbable};
 ghost use Rattle.pass.specs.Sweep.{
   sentArea,
   foldedArea,
@@ -20,15 +20,22 @@ ghost use Rattle.pass.specs.Sweep.{
   Area,
   FoldableArea,
 };
-ghost use Rattle.pass.specs.Column.{columnOf};
+ghost use Rattle.pass.specs.Column.{blockColumn, columnOf};
 ghost use Rattle.pass.specs.Passed.{PassReady, Passed, SetReady, SetPassed};
-ghost use Rattle.pass.specs.PassedColumns.{ColumnsReady, ColumnsPassed};
+ghost use Rattle.pass.specs.PassedColumns.{ColumnsReady, ColumnsPassed, overOf, slotOf, lastEnded};
 
 // Which column of a row stands for a station. From(low): column j for station low + j. Members(z): column 0 for each member
 // of a lent set of bytes but z, a byte for each station, 1 for a member.
 pub enum Columns {
     From(usize),
     Members(usize),
+}
+
+// How a pass ends: settled in a slot; with a station that has over 2^64 - 1 shortest walks; with an appearance that has.
+pub enum Ended {
+    Settled(usize),
+    StationTooMany,
+    AppearanceTooMany,
 }
 
 // The smaller of two numbers.
@@ -285,8 +292,33 @@ fn any_overflows(work: &[u64], n: usize) -> bool
     false
 }
 
-// The pass: the records slot by slot, a slot's records folded in and then settled. True where an appearance or a station has
-// a count over 2^64 - 1.
+// Whether the station until has a settled walk. Where it is no station's number it has none.
+fn reached(work: &[u64], n: usize, until: usize) -> bool
+    requires { ⌜ n ≤ length (now work) ⌝ }
+    ensures { λ r. ⌜ r ≡ reachedEntry n (now (work .entry)) until ⌝ }
+{
+    if until < n {
+        return work[until] < 65535;
+    }
+    false
+}
+
+// How a pass ends past the last slot: where it waits for no station, every station's count is looked at.
+fn end_pass(work: &[u64], n: usize, t: usize, until: usize) -> Ended
+    requires { ⌜ 2 * n ≤ length (now work) ⌝ }
+    ensures { λ r. ⌜ r ≡ lastEnded n t until (any (areaOverflows n (now (work .entry))) (below n)) ⌝ }
+{
+    if until < n {
+        return Ended::Settled(t);
+    }
+    if any_overflows(work, n) {
+        return Ended::StationTooMany;
+    }
+    Ended::Settled(t)
+}
+
+// The pass: the records slot by slot, a slot's records folded in and then settled, until the station until is reached or the
+// last slot is settled.
 fn pass_columns(
     work: &mut [u64],
     plan: &[u8],
@@ -296,9 +328,10 @@ fn pass_columns(
     columns: Columns,
     set: &[u8],
     block: usize,
-) -> bool
-    requires { ⌜ ColumnsReady (now plan) n t source block (now work) ⌝ }
-    ensures { λ r. ⌜ ColumnsPassed (now (plan .entry)) n t source (columnOf columns (now (set .entry)) block) block
+    until: usize,
+) -> Ended
+    requires { ⌜ ColumnsReady (now plan) n t source until block (now work) ⌝ }
+    ensures { λ r. ⌜ ColumnsPassed (now (plan .entry)) n t source until (columnOf columns (now (set .entry)) block) block
         (now (work .entry)) (now (work .exit)) r ⌝ }
 {
     begin(work, n, block, source);
@@ -311,14 +344,80 @@ fn pass_columns(
             continue;
         }
         if settle(work, n, block, source, columns, set) {
-            return true;
+            return Ended::AppearanceTooMany;
+        }
+        if reached(work, n, until) {
+            return Ended::Settled(u);
         }
         u += 1;
     }
-    any_overflows(work, n)
+    end_pass(work, n, t, until)
 }
 
-// The pass for a block of stations: column j of a row is about station low + j.
+// The pass for a block of stations, to the slot in which the station until is reached: column j of a row is about station
+// low + j. With n for until it waits for no station and goes through every slot.
+pub fn pass_until(
+    work: &mut [u64],
+    plan: &[u8],
+    n: usize,
+    t: usize,
+    source: usize,
+    low: usize,
+    block: usize,
+    until: usize,
+) -> Ended
+    requires { ⌜ ColumnsReady (now plan) n t source until block (now work) ⌝ }
+    ensures { λ r. ⌜ ColumnsPassed (now (plan .entry)) n t source until (blockColumn low block) block
+        (now (work .entry)) (now (work .exit)) r ⌝ }
+{
+    pass_columns(
+        work,
+        plan,
+        n,
+        t,
+        source,
+        Columns::From(low),
+        &plan[0..0],
+        block,
+        until,
+    )
+}
+
+// Whether a pass met a count over 2^64 - 1.
+fn over(ended: Ended) -> bool
+    ensures { λ r. ⌜ r ≡ overOf ended ⌝ }
+{
+    match ended {
+        Ended::Settled(_) => {
+            return false;
+        }
+        Ended::StationTooMany => {
+            return true;
+        }
+        Ended::AppearanceTooMany => {
+            return true;
+        }
+    }
+}
+
+// The slot in which a pass ended settled; 0 where it met a count over 2^64 - 1.
+pub fn settled_slot(ended: Ended) -> usize
+    ensures { λ r. ⌜ r ≡ slotOf ended ⌝ }
+{
+    match ended {
+        Ended::Settled(slot) => {
+            return slot;
+        }
+        Ended::StationTooMany => {
+            return 0;
+        }
+        Ended::AppearanceTooMany => {
+            return 0;
+        }
+    }
+}
+
+// The pass for a block of stations through every slot. True where an appearance or a station has a count over 2^64 - 1.
 pub fn pass(
     work: &mut [u64],
     plan: &[u8],
@@ -331,16 +430,8 @@ pub fn pass(
     requires { ⌜ PassReady (now plan) n t source low block (now work) ⌝ }
     ensures { λ r. ⌜ Passed (now (plan .entry)) n t source low block (now (work .entry)) (now (work .exit)) r ⌝ }
 {
-    pass_columns(
-        work,
-        plan,
-        n,
-        t,
-        source,
-        Columns::From(low),
-        &plan[0..0],
-        block,
-    )
+    let ended = pass_until(work, plan, n, t, source, low, block, n);
+    over(ended)
 }
 
 // The pass for a set of stations, one column for all members; the destination is never inside.
@@ -356,7 +447,7 @@ pub fn set_pass(
     requires { ⌜ SetReady (now plan) n t source destination (now work) ⌝ }
     ensures { λ r. ⌜ SetPassed (now (plan .entry)) n t source destination (now (set .entry)) (now (work .entry)) (now (work .exit)) r ⌝ }
 {
-    pass_columns(
+    let ended = pass_columns(
         work,
         plan,
         n,
@@ -365,5 +456,7 @@ pub fn set_pass(
         Columns::Members(destination),
         set,
         1,
-    )
+        n,
+    );
+    over(ended)
 }

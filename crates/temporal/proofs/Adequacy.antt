@@ -8,6 +8,7 @@ use mathlib.Core.Bool.{Bool, true, cond}
 use mathlib.Core.List.{List, [], map, List·Memᴰ}
 use mathlib.Core.Logic.{_⊎_, inl, inr, ⊎-elim, _↔_, _≢_}
 use mathlib.Core.Option.{some}
+use borrow.Author.Tests.{eqb-true}
 use lib.Dec.{eqb}
 use lib.ListN.{length, getElem?}
 use Rattle.temporal.specs.Lists.{sum, below, Rising}
@@ -85,7 +86,8 @@ module _ (bs : List ℕ) (n t : ℕ) (ok : planFault bs n t ≡ 0) where
   unfolding shortestPaths
   shortest-walks-are-paths s z =
       shortest-agree (bounded-ends p (slots-within bs n t ok) s (isAt z)) (path-is-walk p s z)
-      (λ w e. ⊎-elim inl (λ h. inr (h .walk, h .ends, h .fewer)) (walk-or-shorter p z s w e))
+      (λ w e. ⊎-elim inl (λ h. inr (h .walk, h .ends, h .fewer))
+      (walk-or-shorter p (isAt z) (λ x x′ same earlier q. ap (λ v. eqb v z) same ∙ q) z (λ x q. eqb-true (x .station) z q) s w e))
     where
       p : Plan
       p = planOf bs n t

@@ -8,10 +8,10 @@ use mathlib.Core.Bool.{Bool, true, false, not}
 use mathlib.Core.Logic.{by-cases}
 use borrow.Author.Tests.{lt-ltb, le-ltb}
 use lib.Dec.{ltb}
-use Rattle.temporal.specs.Lists.{from, below, any, firstWhere}
+use Rattle.temporal.specs.Lists.{below, any}
 use Rattle.temporal.specs.Plan.{Plan}
 use Rattle.temporal.specs.Load.{load, isLargest, busiestOf, Busiest}
-use Rattle.temporal.proofs.ListLaws.{any-true, any-false, mem-below}
+use Rattle.temporal.proofs.ListLaws.{any-true, any-false, mem-below, first-where}
 
 -- the lowest of the places below n at which f is largest
 record Top (f : ℕ → ℕ) (n : ℕ) : Type 0 where
@@ -53,17 +53,6 @@ top f (suc n) = next (top f n)
           lowest = x .lowest;
         })
 
--- the first number from i on that passes a test is the one that passes where none before it does
-first-where :
-    (t : ℕ → Bool) (i k v : ℕ) → i ≤ v → v < i + k → t v ≡ true → ((u : ℕ) → u < v → t u ≡ false) →
-    firstWhere t (from i k) ≡ v
-unfolding firstWhere from
-first-where t i zero v low high e none = absurd (omega arith)
-first-where t i (suc k) v low high e none =
-    by-cases (ℕ-discrete i v)
-    (λ same. rw (same, e))
-    (λ other. rw (none i (omega arith)) (first-where t (suc i) k v (omega arith) (omega arith) e none))
-
 module _ (p : Plan) where
   -- a station whose load no other exceeds passes the test
   largest-passes : (v : ℕ) → ((u : ℕ) → u < p .stations → load p u ≤ load p v) → isLargest p v ≡ true
@@ -86,7 +75,7 @@ module _ (p : Plan) where
   unfolding busiestOf below
   busiest-unique v b =
       let inside = b .station in
-      first-where (isLargest p) 0 (p .stations) v (omega arith) (omega arith) (largest-passes v (b .largest))
+      first-where 0 (isLargest p) 0 (p .stations) v (omega arith) (omega arith) (largest-passes v (b .largest))
       (λ u h. smaller-fails u v (b .station) (b .lowest u h))
 
   -- Document 01's promise, and that no lower-numbered station has as large a load, hold of the one that is defined; so there

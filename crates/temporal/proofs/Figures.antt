@@ -1,15 +1,19 @@
--- Figures of plan A by computation from the definitions: a load in which rounding each share and rounding the sum differ, a
--- set of two stations on one path, a set of the destination; and which of 9 and 11 is told. Assumes nothing.
+-- Figures of plan A and of a small plan by computation from the definitions: a load in which rounding each share and rounding the
+-- sum differ, a set of two stations on one path, a set of the destination, shortest foremost paths; and which of 9 and 11 is told.
+-- Assumes nothing.
 use Prim.Native.Nat.{ℕ}
 use mathlib.Core.Path.{_≡_, refl}
 use mathlib.Core.Bool.{true, _||_}
 use mathlib.Core.List.{List, [], _∷_, flatMap}
 use mathlib.Core.Option.{bind}
 use lib.Dec.{eqb}
-use Rattle.temporal.specs.Lists.{from, below, sum, product, select, any, member, distinct, tuples}
+use Rattle.temporal.specs.Lists.{from, below, sum, product, select, any, firstWhere, member, distinct, tuples}
 use Rattle.temporal.specs.Plan.{Contact, Plan, leadsTo, mayFollow}
-use Rattle.temporal.specs.Walk.{along, step, run, lastOr, holds, isPath, isInterior}
-use Rattle.temporal.specs.Shortest.{orElse, firstNonempty, ofHops, shortest, shortestPaths, through}
+use Rattle.temporal.specs.Walk.{along, step, run, lastOr, holds, endsIn, isWalk, isPath, isInterior}
+use Rattle.temporal.specs.Shortest.{orElse, firstNonempty, ofHops, shortest, shortestWalks, shortestPaths}
+use Rattle.temporal.specs.Shortest.{hops, count, through}
+use Rattle.temporal.specs.Foremost.{arrival, foremostPaths}
+use Rattle.temporal.specs.OutcomeForemost.{foremostThrough}
 use Rattle.temporal.specs.Set.{touches, touched}
 use Rattle.temporal.specs.Load.{allEnds, pairsOf, share, load}
 use Rattle.temporal.specs.Bytes.{planOf}
@@ -29,6 +33,10 @@ planA =
           record { slot = 2; a = 2; b = 3 } ∷ record { slot = 3; a = 2; b = 3 } ∷ record { slot = 4; a = 3; b = 4 } ∷ [];
     }
 
+-- slot, hops and count of the shortest foremost paths of a pair
+foremostTold : Plan → ℕ → ℕ → List ℕ
+foremostTold p s z = arrival p s z ∷ hops (foremostPaths p s z) ∷ count (foremostPaths p s z) ∷ []
+
 -- Station 2 has two pairs, 2 of 3 paths of each: twice the whole part of 2^33 / 3 (P9).
 load-of-two-pairs : load planA 2 ≡ 5726623060
 unfolding planA from below sum product select any member distinct tuples leadsTo mayFollow along step run lastOr holds isPath isInterior orElse firstNonempty ofHops shortest shortestPaths through allEnds pairsOf share load flatMap bind
@@ -43,6 +51,38 @@ set-of-two = refl
 set-of-destination : touched planA 0 4 (λ v. eqb v 4) ≡ 0
 unfolding planA from below sum select any member distinct tuples leadsTo mayFollow along step run lastOr holds isPath isInterior orElse firstNonempty ofHops shortest shortestPaths touches touched flatMap bind
 set-of-destination = refl
+
+-- ---- shortest foremost paths
+
+-- Document 02's plan A, 0 to 3 (C-14): slot 2, 2 hops, count 2. In slot 3 there is one more path with as many hops.
+foremost-of-plan-a : foremostTold planA 0 3 ≡ 2 ∷ 2 ∷ 2 ∷ []
+unfolding foremostTold planA from below firstWhere select any member distinct tuples leadsTo mayFollow along step run lastOr holds endsIn isWalk isPath orElse firstNonempty ofHops shortest shortestWalks shortestPaths hops arrival foremostPaths flatMap bind
+foremost-of-plan-a = refl
+
+-- Both end at station 3, and neither has it inside; station 1 is inside one of them.
+foremost-inside : foremostThrough planA 0 3 3 ∷ foremostThrough planA 0 3 1 ∷ [] ≡ 0 ∷ 1 ∷ []
+unfolding planA from below firstWhere select any member distinct tuples leadsTo mayFollow along step run lastOr holds endsIn isWalk isInterior orElse firstNonempty ofHops shortest shortestWalks arrival foremostPaths foremostThrough flatMap bind
+foremost-inside = refl
+
+-- Station 2 is reached in slot 2 over two hops, and over one hop only in slot 3; station 3 is reached in slot 4 over two hops and
+-- over three.
+detours : Plan
+detours =
+    record {
+      stations = 4;
+      slots = 4;
+      contacts =
+          record { slot = 1; a = 0; b = 1 } ∷ record { slot = 2; a = 1; b = 2 } ∷ record { slot = 3; a = 0; b = 2 } ∷
+          record { slot = 4; a = 1; b = 3 } ∷ record { slot = 4; a = 2; b = 3 } ∷ [];
+    }
+
+foremost-not-shortest : foremostTold detours 0 2 ≡ 2 ∷ 2 ∷ 1 ∷ []
+unfolding foremostTold detours from below firstWhere select any member distinct tuples leadsTo mayFollow along step run lastOr holds endsIn isWalk isPath orElse firstNonempty ofHops shortest shortestWalks shortestPaths hops arrival foremostPaths flatMap bind
+foremost-not-shortest = refl
+
+foremost-fewest-hops : foremostTold detours 0 3 ≡ 4 ∷ 2 ∷ 2 ∷ []
+unfolding foremostTold detours from below firstWhere select any member distinct tuples leadsTo mayFollow along step run lastOr holds endsIn isWalk isPath orElse firstNonempty ofHops shortest shortestWalks shortestPaths hops arrival foremostPaths flatMap bind
+foremost-fewest-hops = refl
 
 -- Where 1 to 8 do not hold, and both 9 and 11 do, 11 is told (document 02, C-12).
 pub eleven-before-nine :

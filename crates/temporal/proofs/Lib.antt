@@ -6,6 +6,8 @@ pub mod Figures
 pub mod BusiestLaws
 -- a set of stations
 pub mod SetLaws
+-- shortest foremost paths
+pub mod ForemostLaws
 -- the causes of refusal, what an accepted plan keeps, and what a check of a plan rests on
 pub mod CauseLaws
 pub mod NumberLaws

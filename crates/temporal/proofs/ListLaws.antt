@@ -12,7 +12,8 @@ use native.Mathlib.Decide.{ℕ-discrete}
 use lib.Dec.{eqb}
 use lib.ListN.{length, getD}
 use borrow.Author.Tests.{eqb-false, eqb-true, eq-eqb, ne-eqb, not-true}
-use Rattle.temporal.specs.Lists.{from, below, sum, select, any, member, distinct, tuples, Before, Rising, NoneTwice}
+use Rattle.temporal.specs.Lists.{from, below, sum, select, any, firstWhere, member, distinct, tuples}
+use Rattle.temporal.specs.Lists.{Before, Rising, NoneTwice}
 
 -- a test is true or false
 pub true-or-false : (b : Bool) → (b ≡ true) ⊎ (b ≡ false)
@@ -425,3 +426,52 @@ pub any-ext : {A : Type 0} {f g : A → Bool} (l : List A) → ((x : A) → List
 unfolding any
 any-ext [] e = refl
 any-ext (x ∷ l) e = ap₂ _||_ (e x (List·Memᴰ·head refl)) (any-ext l (λ y m. e y (List·Memᴰ·tail m)))
+
+-- the first number from i on that passes a test is the one that passes where none before it does
+pub first-where : (none : ℕ) (t : ℕ → Bool) (i k v : ℕ) → i ≤ v → v < i + k → t v ≡ true
+    → ((u : ℕ) → u < v → t u ≡ false)
+    → firstWhere none t (from i k) ≡ v
+unfolding firstWhere from
+first-where none t i zero v low high e before = absurd (omega arith)
+first-where none t i (suc k) v low high e before =
+    by-cases (ℕ-discrete i v)
+    (λ same. rw (same, e))
+    (λ other. rw (before i (omega arith)) (first-where none t (suc i) k v (omega arith) (omega arith) e before))
+
+-- where none of them passes it is the number none
+pub first-nowhere : (none : ℕ) (t : ℕ → Bool) (i k : ℕ) → ((u : ℕ) → i ≤ u → u < i + k → t u ≡ false)
+    → firstWhere none t (from i k) ≡ none
+unfolding firstWhere from
+first-nowhere none t i zero h = refl
+first-nowhere none t i (suc k) h =
+    rw (h i (omega arith) (omega arith)) (first-nowhere none t (suc i) k (λ u low high. h u (omega arith) (omega arith)))
+
+-- Either no number below n passes a test, and the first is the number none, or there is one that passes where none before it
+-- does, and it is the first.
+pub data FirstBelow (none : ℕ) (t : ℕ → Bool) (n : ℕ) : Type 0 where
+  passes-nowhere : firstWhere none t (below n) ≡ none → ((u : ℕ) → u < n → t u ≡ false) → FirstBelow none t n
+  passes-first : (v : ℕ) → firstWhere none t (below n) ≡ v → v < n → t v ≡ true → ((u : ℕ) → u < v → t u ≡ false)
+      → FirstBelow none t n
+
+-- one of the two holds
+pub first-below : (none : ℕ) (t : ℕ → Bool) (n : ℕ) → FirstBelow none t n
+unfolding below
+first-below none t n = decide (upTo n (omega arith))
+  where
+    Lowest : Type 0
+    Lowest = (v : ℕ) × (v < n) × (t v ≡ true) × ((u : ℕ) → u < v → t u ≡ false)
+
+    further : (k : ℕ) → k < n → ((u : ℕ) → u < k → t u ≡ false) → (t k ≡ true) ⊎ (t k ≡ false)
+        → ((u : ℕ) → u < suc k → t u ≡ false) ⊎ Lowest
+    further k h before (inl e) = inr (k, h, e, before)
+    further k h before (inr e) =
+        inl (λ u q. by-cases (ℕ-discrete u k) (λ same. rw same e) (λ other. before u (omega arith)))
+
+    upTo : (k : ℕ) → k ≤ n → ((u : ℕ) → u < k → t u ≡ false) ⊎ Lowest
+    upTo zero h = inl (λ u q. absurd (omega arith))
+    upTo (suc k) h =
+        ⊎-elim (λ before. further k (omega arith) before (true-or-false (t k))) inr (upTo k (omega arith))
+
+    decide : ((u : ℕ) → u < n → t u ≡ false) ⊎ Lowest → FirstBelow none t n
+    decide (inl e) = passes-nowhere (first-nowhere none t 0 n (λ u low high. e u (omega arith))) e
+    decide (inr (v, h, e, before)) = passes-first v (first-where none t 0 n v (omega arith) (omega arith) e before) h e before

@@ -53,83 +53,84 @@ module _ (p : Plan) (s z : ℕ) where
       let r = path-inv w e in
       ends-intro p (start s) (isAt z) w (r .runs) (eq-eqb _ _ (r .ends))
 
--- a walk from x to z with fewer hops than w
-pub record Shorter (p : Plan) (x : Appearance) (z : ℕ) (w : List ℕ) : Type 0 where
+-- a walk from x that ends in the test t, with fewer hops than w
+pub record Shorter (p : Plan) (x : Appearance) (t : Appearance → Bool) (w : List ℕ) : Type 0 where
   pub walk : List ℕ
-  pub ends : endsIn p x (isAt z) walk ≡ true
+  pub ends : endsIn p x t walk ≡ true
   pub fewer : length walk < length w
 
-module _ (p : Plan) (z : ℕ) where
-  -- (kept) A walk to z from an appearance is one from each earlier appearance of its station.
+-- Walks that end in a test which an earlier appearance passes wherever a later one of its station does.
+module _ (p : Plan) (t : Appearance → Bool)
+    (sooner : (x x′ : Appearance) → x′ .station ≡ x .station → x′ .slot ≤ x .slot → t x ≡ true → t x′ ≡ true) where
+  -- (kept) Such a walk from an appearance is one from each earlier appearance of its station.
   pub ends-earlier :
       (x x′ : Appearance) (w : List ℕ) → x′ .station ≡ x .station → x′ .slot ≤ x .slot →
-      endsIn p x (isAt z) w ≡ true → endsIn p x′ (isAt z) w ≡ true
-  ends-earlier x x′ [] same earlier e =
-      ends-nil p x′ (isAt z) ∙ ap (λ v. eqb v z) same ∙ sym (ends-nil p x (isAt z)) ∙ e
+      endsIn p x t w ≡ true → endsIn p x′ t w ≡ true
+  ends-earlier x x′ [] same earlier e = ends-nil p x′ t ∙ sooner x x′ same earlier (sym (ends-nil p x t) ∙ e)
   ends-earlier x x′ (i ∷ w) same earlier e =
-      let (y, steps, rest) = ends-step p x (isAt z) i w e in
-      ends-after p x′ (isAt z) i w (step-earlier p x x′ i same earlier steps) rest
+      let (y, steps, rest) = ends-step p x t i w e in
+      ends-after p x′ t i w (step-earlier p x x′ i same earlier steps) rest
 
   -- (kept) Of a walk that visits the station of x in a later slot, what follows that visit may follow x.
   shortcut :
       (x y : Appearance) (w : List ℕ) {l : List Appearance} → x .slot ≤ y .slot → run p y w ≡ some l →
-      isAt z (lastOr y l) ≡ true → List·Memᴰ (x .station) (stationsOf l) → Shorter p x z w
+      t (lastOr y l) ≡ true → List·Memᴰ (x .station) (stationsOf l) → Shorter p x t w
   unfolding lastOr
   shortcut x y [] later e q m = absurd (List·Memᴰ·not-nil (rw (← run-nil p y e) at m))
   shortcut x y (i ∷ w) later e q m =
       let r = run-cons p y i w e in
       let after = step-later p y i (r .steps) in
-      let at-z : isAt z (lastOr (r .next) (r .others)) ≡ true = rw (← r .whole) at q in
+      let at-end : t (lastOr (r .next) (r .others)) ≡ true = rw (← r .whole) at q in
       let visited : List·Memᴰ (x .station) (stationsOf (r .next ∷ r .others)) = rw (← r .whole) at m in
-      let rest = ends-intro p (r .next) (isAt z) w (r .goes-on) at-z in
-      let further = shortcut x (r .next) w (omega arith) (r .goes-on) at-z in
+      let rest = ends-intro p (r .next) t w (r .goes-on) at-end in
+      let further = shortcut x (r .next) w (omega arith) (r .goes-on) at-end in
       ⊎-elim
       (λ same. shorter w (ends-earlier (r .next) x w same (omega arith) rest) (omega arith))
       (λ m′. let s = further m′ in shorter (s .walk) (s .ends) (omega arith))
       (List·Memᴰ·cases-cons visited)
     where
-      shorter : (u : List ℕ) → endsIn p x (isAt z) u ≡ true → length u < suc (length w) → Shorter p x z (i ∷ w)
+      shorter : (u : List ℕ) → endsIn p x t u ≡ true → length u < suc (length w) → Shorter p x t (i ∷ w)
       shorter u ends fewer = record { walk = u; ends = ends; fewer = fewer }
 
-  -- (kept) A walk from x to z visits no station twice, or there is a shorter one.
+  -- (kept) Such a walk from x visits no station twice, or there is a shorter one.
   apart-or-shorter :
-      (x : Appearance) (w : List ℕ) {l : List Appearance} → run p x w ≡ some l → isAt z (lastOr x l) ≡ true →
-      (distinct (x .station ∷ stationsOf l) ≡ true) ⊎ Shorter p x z w
+      (x : Appearance) (w : List ℕ) {l : List Appearance} → run p x w ≡ some l → t (lastOr x l) ≡ true →
+      (distinct (x .station ∷ stationsOf l) ≡ true) ⊎ Shorter p x t w
   unfolding lastOr distinct member any
   apart-or-shorter x [] e q = inl (rw (← run-nil p x e))
   apart-or-shorter x (i ∷ w) {l} e q =
       let r = run-cons p x i w e in
-      let at-z : isAt z (lastOr (r .next) (r .others)) ≡ true = rw (← r .whole) at q in
+      let at-end : t (lastOr (r .next) (r .others)) ≡ true = rw (← r .whole) at q in
       let whole = ap (λ m. distinct (stationsOf m)) (sym (r .whole)) in
       ⊎-elim
       (λ apart. visited-or-not (whole ∙ apart) (member (x .station) (stationsOf l)) refl)
       (λ s. inr (one-more (r .steps) s))
-      (apart-or-shorter (r .next) w (r .goes-on) at-z)
+      (apart-or-shorter (r .next) w (r .goes-on) at-end)
     where
       visited-or-not :
           distinct (stationsOf l) ≡ true → (b : Bool) → member (x .station) (stationsOf l) ≡ b →
-          (distinct (x .station ∷ stationsOf l) ≡ true) ⊎ Shorter p x z (i ∷ w)
+          (distinct (x .station ∷ stationsOf l) ≡ true) ⊎ Shorter p x t (i ∷ w)
       visited-or-not apart true m =
           inr (shortcut x x (i ∷ w) (omega arith) e q (member-true (x .station) (stationsOf l) .0 m))
       visited-or-not apart false m = inl (rw m apart)
 
-      one-more : {y : Appearance} → step p x i ≡ some y → Shorter p y z w → Shorter p x z (i ∷ w)
+      one-more : {y : Appearance} → step p x i ≡ some y → Shorter p y t w → Shorter p x t (i ∷ w)
       one-more steps s =
           record {
             walk = i ∷ s .walk;
-            ends = ends-after p x (isAt z) i (s .walk) steps (s .ends);
+            ends = ends-after p x t i (s .walk) steps (s .ends);
             fewer = omega arith;
           }
 
-  -- (kept) A walk from s to z is a path, or there is one with fewer hops. What lies between two visits of a station is
-  -- left out, and what follows the later visit may follow the earlier one.
+  -- (kept) Where the test is passed at z alone, such a walk from s is a path, or there is one with fewer hops. What lies between
+  -- two visits of a station is left out, and what follows the later visit may follow the earlier one.
   pub walk-or-shorter :
-      (s : ℕ) (w : List ℕ) → endsIn p (start s) (isAt z) w ≡ true →
-      (isPath p s z w ≡ true) ⊎ Shorter p (start s) z w
-  walk-or-shorter s w e =
-      let r = ends-inv p (start s) (isAt z) w e in
+      (z : ℕ) → ((x : Appearance) → t x ≡ true → x .station ≡ z) → (s : ℕ) (w : List ℕ) →
+      endsIn p (start s) t w ≡ true → (isPath p s z w ≡ true) ⊎ Shorter p (start s) t w
+  walk-or-shorter z at-z s w e =
+      let r = ends-inv p (start s) t w e in
       ⊎-elim
-      (λ apart. inl (path-intro p s z w (r .runs) (eqb-true _ _ (r .passes)) apart))
+      (λ apart. inl (path-intro p s z w (r .runs) (at-z _ (r .passes)) apart))
       inr
       (apart-or-shorter (start s) w (r .runs) (r .passes))
 

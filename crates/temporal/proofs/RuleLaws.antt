@@ -7,8 +7,8 @@ use mathlib.Core.Option.{Option, none, some}
 use mathlib.Core.Path.{_≡_, refl, sym, ap, _∙_}
 use native.Mathlib.Decide.{ℕ-discrete}
 use native.Mathlib.Omega.{arith}
-use borrow.Author.Tests.{ltb-true, ltb-false, lt-ltb, le-ltb, eqb-true, eqb-false, ne-eqb}
-use lib.Dec.{ltb, eqb}
+use borrow.Author.Tests.{ltb-true, ltb-false, lt-ltb, le-ltb, leb-true, leb-false, eqb-true, eqb-false, ne-eqb}
+use lib.Dec.{ltb, leb, eqb}
 use Rattle.temporal.specs.Plan.{Contact, Plan, leadsTo, mayFollow}
 
 -- (both ways) The station from which a contact leads to w, or none where it leads to w from none: the other end. A
@@ -94,6 +94,15 @@ follows-settled p t u = go (ltb t u) refl (eqb t u) refl
 pub follows-after : (p : Plan) (t u : ℕ) → t ≤ u → mayFollow p t (suc u) ≡ true
 unfolding mayFollow
 follows-after p t u h = lt-ltb t (suc u) (omega arith)
+
+-- (turnaround) What the slot past e may follow is what is heard by slot e.
+pub follows-by : (p : Plan) (t e : ℕ) → mayFollow p t (suc e) ≡ leb t e
+unfolding mayFollow
+follows-by p t e = go (leb t e) refl
+  where
+    go : (b : Bool) → leb t e ≡ b → ltb t (suc e) ≡ b
+    go true q = let by = leb-true t e q in lt-ltb t (suc e) (omega arith)
+    go false q = let past = leb-false t e q in le-ltb t (suc e) (omega arith)
 
 -- a contact leads to one of its two stations
 pub leads-below :

@@ -14,8 +14,8 @@ use lib.ListN.{length}
 use Rattle.temporal.specs.Lists.{below, sum, select, any, distinct}
 use Rattle.temporal.specs.Plan.{Plan, Appearance, start}
 use Rattle.temporal.specs.Walk.{run, lastOr, stationsOf, isPath, isInterior}
-use Rattle.temporal.specs.Shortest.{shortestPaths, hops, count, through}
-use Rattle.temporal.specs.Set.{touches, touched}
+use Rattle.temporal.specs.Shortest.{shortestPaths, hops, count, throughIn, through}
+use Rattle.temporal.specs.Set.{touches, touchedIn, touched}
 use Rattle.temporal.specs.Bytes.{planOf}
 use Rattle.temporal.specs.Cause.{planFault}
 use Rattle.temporal.proofs.ListLaws.{
@@ -160,10 +160,10 @@ module _ (p : Plan) (s z : ℕ) where
       column l v true = sym (length-select (isInterior p s z v) l)
       column l v false = sum-zero l (λ w m. refl)
 
-  -- For a set of one station it is the station's through count.
-  pub touched-one : (v : ℕ) → v < p .stations → touched p s z (eqb v) ≡ through p s z v
-  unfolding touched through touches
-  touched-one v h = ap length (select-ext (shortestPaths p s z) (λ w there. same w))
+  -- For a set of one station it is the station's through count, in any list of paths.
+  pub touched-one-in : (l : List (List ℕ)) (v : ℕ) → v < p .stations → touchedIn p s z l (eqb v) ≡ throughIn p s z l v
+  unfolding touches
+  touched-one-in l v h = ap length (select-ext l (λ w there. same w))
     where
       same : (w : List ℕ) → any (λ u. eqb v u && isInterior p s z u w) (below (p .stations)) ≡ isInterior p s z v w
       same w =
@@ -177,6 +177,11 @@ module _ (p : Plan) (s z : ℕ) where
           by-cases (ℕ-discrete v u) (λ q. rw (eq-eqb v u q) (subst (λ x. isInterior p s z x w ≡ false) q e))
           (λ ne. rw (ne-eqb v u ne))) ∙ sym e)
           (true-or-false (isInterior p s z v w))
+
+  -- so it is for the shortest paths
+  pub touched-one : (v : ℕ) → v < p .stations → touched p s z (eqb v) ≡ through p s z v
+  unfolding touched through
+  touched-one v h = touched-one-in (shortestPaths p s z) v h
 
 -- ---- all stations
 

@@ -221,6 +221,11 @@ module _ (p : Plan) (x : Appearance) (t : Appearance → Bool) where
   unfolding endsIn holds
   ends-intro w runs passes = rw runs passes
 
+  -- where a walk that ends in a test leads passes it
+  pub ends-at : (w : List ℕ) {l : List Appearance} → endsIn p x t w ≡ true → run p x w ≡ some l → t (lastOr x l) ≡ true
+  unfolding endsIn holds
+  ends-at w e runs = rw runs at e
+
   -- the empty walk ends where it begins
   pub ends-nil : endsIn p x t [] ≡ t x
   unfolding endsIn holds run lastOr

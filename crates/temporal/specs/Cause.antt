@@ -72,12 +72,18 @@ pairCauses n s z short = cause 6 (leb n s || leb n z) ∷ cause 7 (eqb s z) ∷ 
 unfoldable pub stationCauses : ℕ → ℕ → Bool → List ℕ
 stationCauses n v short = cause 6 (leb n v) ∷ cause 8 short ∷ []
 
--- 9: an appearance, or a station, has over 2^64 - 1 shortest walks from s; those of a station are its shortest paths
--- (Adequacy). Every appearance and every station of the plan is looked at.
+-- an appearance has over 2^64 - 1 shortest walks from s; every appearance of the plan is looked at
+abbrev pub appearanceTooMany : Plan → ℕ → Bool
+appearanceTooMany p s =
+    any (λ v. any (λ t. ltb (2 ^ 64 - 1) (count (shortestWalks p s v t))) (below (p .slots + 1))) (below (p .stations))
+
+-- a station has over 2^64 - 1 shortest walks from s; these are its shortest paths (Adequacy); every station is looked at
+abbrev pub stationTooMany : Plan → ℕ → Bool
+stationTooMany p s = any (λ v. ltb (2 ^ 64 - 1) (count (shortestPaths p s v))) (below (p .stations))
+
+-- 9: an appearance, or a station, has over 2^64 - 1 shortest walks from s
 unfoldable pub tooMany : Plan → ℕ → Bool
-tooMany p s =
-    any (λ v. any (λ t. ltb (2 ^ 64 - 1) (count (shortestWalks p s v t))) (below (p .slots + 1))) (below (p .stations)) ||
-    any (λ v. ltb (2 ^ 64 - 1) (count (shortestPaths p s v))) (below (p .stations))
+tooMany p s = appearanceTooMany p s || stationTooMany p s
 
 -- 9 of an operation that works on every source
 unfoldable pub tooManyAnywhere : Plan → Bool

@@ -5,12 +5,14 @@ pub mod Walk
 pub mod Definition3
 pub mod Shortest
 pub mod Set
+pub mod Foremost
 pub mod Load
 pub mod Bytes
 pub mod Cause
 pub mod Outcome
 pub mod OutcomePair
 pub mod OutcomeSet
+pub mod OutcomeForemost
 pub mod Cursor
 pub mod FirstNext
 pub mod Trace

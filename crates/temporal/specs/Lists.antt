@@ -38,10 +38,10 @@ module _ {A : Type 0} where
   any t [] = false
   any t (x ∷ l) = t x || any t l
 
--- the first number of a list that passes a test; 0 where none does
-unfoldable pub firstWhere : (ℕ → Bool) → List ℕ → ℕ
-firstWhere t [] = 0
-firstWhere t (x ∷ l) = let r = firstWhere t l in cond (t x) x r
+-- the first number of a list that passes a test; the number none where none does
+unfoldable pub firstWhere : ℕ → (ℕ → Bool) → List ℕ → ℕ
+firstWhere none t [] = none
+firstWhere none t (x ∷ l) = let r = firstWhere none t l in cond (t x) x r
 
 -- whether a number stands in a list
 unfoldable pub member : ℕ → List ℕ → Bool

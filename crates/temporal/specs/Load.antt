@@ -69,7 +69,7 @@ isLargest p v = not (any (λ u. ltb (load p v) (load p u)) (below (p .stations))
 -- Document 02's busiest (C-11), document 01's made definite: the lowest-numbered station whose load no other exceeds, the first
 -- of 0, 1, .. of which this holds. (There always is one: proofs/BusiestLaws.)
 unfoldable pub busiestOf : Plan → ℕ
-busiestOf p = firstWhere (isLargest p) (below (p .stations))
+busiestOf p = firstWhere 0 (isLargest p) (below (p .stations))
 
 -- What is to hold of it: it is one of the stations, no other's load exceeds its load, and every lower-numbered one's is smaller.
 pub record Busiest (p : Plan) (v : ℕ) : Type 0 where

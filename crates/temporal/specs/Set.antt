@@ -14,7 +14,11 @@ use Rattle.temporal.specs.Shortest.{shortestPaths}
 unfoldable pub touches : Plan → ℕ → ℕ → (ℕ → Bool) → List ℕ → Bool
 touches p s z m w = any (λ v. m v && isInterior p s z v w) (below (p .stations))
 
--- How many shortest paths from s to z have some member inside: document 02's answer for a pair and a set (C-12). A path
--- through two members counts once. For the set of one station it is document 01's through count.
+-- How many members of a list of paths from s to z have some member of the set inside. A path through two members counts once.
+abbrev pub touchedIn : Plan → ℕ → ℕ → List (List ℕ) → (ℕ → Bool) → ℕ
+touchedIn p s z l m = length (select (touches p s z m) l)
+
+-- How many shortest paths from s to z have some member inside: document 02's answer for a pair and a set (C-12). For the set
+-- of one station it is document 01's through count.
 unfoldable pub touched : Plan → ℕ → ℕ → (ℕ → Bool) → ℕ
-touched p s z m = length (select (touches p s z m) (shortestPaths p s z))
+touched p s z m = touchedIn p s z (shortestPaths p s z) m

@@ -45,7 +45,11 @@ hops (w ∷ l) = length w
 abbrev pub count : List (List ℕ) → ℕ
 count l = length l
 
+-- How many members of a list of paths from s to z have v inside.
+abbrev pub throughIn : Plan → ℕ → ℕ → List (List ℕ) → ℕ → ℕ
+throughIn p s z l v = length (select (isInterior p s z v) l)
+
 -- How many shortest paths from s to z have v inside: document 01's through count, document 002's sigma_sz(v).
 -- 0 at v = s and at v = z.
 unfoldable pub through : Plan → ℕ → ℕ → ℕ → ℕ
-through p s z v = length (select (isInterior p s z v) (shortestPaths p s z))
+through p s z v = throughIn p s z (shortestPaths p s z) v

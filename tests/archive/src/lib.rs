@@ -109,6 +109,21 @@ extern "C" {
         work: *mut u64,
         work_length: usize,
     ) -> u32;
+    fn joftaki_foremost(
+        plan: *const u8,
+        plan_length: usize,
+        n: usize,
+        t: usize,
+        s: usize,
+        z: usize,
+        arrival: *mut usize,
+        hops: *mut usize,
+        count: *mut u64,
+        through: *mut u64,
+        through_length: usize,
+        work: *mut u64,
+        work_length: usize,
+    ) -> u32;
     way_function!(joftaki_first_way);
     way_function!(joftaki_next_way);
 }
@@ -238,6 +253,29 @@ pub fn through_set(
         count,
         set.as_ptr(),
         set.len(),
+        work.as_mut_ptr(),
+        work.len()
+    )
+}
+
+/// Document 02's operation on a pair's shortest foremost paths; the values are slot, hops and count.
+pub fn foremost(
+    input: PlanInput,
+    (source, destination): Ends,
+    [arrival, hops, count]: [&mut u64; 3],
+    through: &mut [u64],
+    work: &mut [u64],
+) -> u32 {
+    on_plan!(
+        joftaki_foremost,
+        input,
+        source,
+        destination,
+        size(arrival),
+        size(hops),
+        count,
+        through.as_mut_ptr(),
+        through.len(),
         work.as_mut_ptr(),
         work.len()
     )

@@ -19,6 +19,7 @@ pub fn function(operation: Operation) -> &'static str {
         Operation::FirstWay => "joftaki_first_way",
         Operation::NextWay => "joftaki_next_way",
         Operation::ThroughSet => "joftaki_through_set",
+        Operation::Foremost => "joftaki_foremost",
     }
 }
 

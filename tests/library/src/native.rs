@@ -144,6 +144,10 @@ fn answer(call: &Call, input: PlanInput, (narrow, wide, sets): Tables, values: &
         (Operation::ThroughSet, [], [work], [count]) => {
             archive::through_set(input, (s, z), count, sets[0].lent(), work.lent())
         }
+        (Operation::Foremost, [], [through, work], [arrival, hops, count]) => {
+            let values = [arrival, hops, count];
+            archive::foremost(input, (s, z), values, through.lent(), work.lent())
+        }
         (operation, ..) => panic!("{operation:?} lends other tables"),
     }
 }

@@ -49,6 +49,12 @@ fn changed(random: &mut Random, owned: Owned) -> Owned {
     }
 }
 
+/// The operations whose calls name so many stations.
+fn naming(stations: usize) -> impl Iterator<Item = Operation> {
+    let operations = OPERATIONS.into_iter();
+    operations.filter(move |operation| operation.stations() == stations)
+}
+
 /// A small plan: every pair if the plan is accepted, and traces.
 fn small_plan(
     comparison: &mut Comparison,
@@ -64,18 +70,13 @@ fn small_plan(
         return Ok(());
     }
     for (source, destination) in pairs(owned.stations) {
-        for operation in [
-            Operation::Pair,
-            Operation::FirstWay,
-            Operation::NextWay,
-            Operation::ThroughSet,
-        ] {
+        for operation in naming(2) {
             let stations = [source, destination];
             one_call(comparison, random, owned, operation, stations, LISTED)?;
         }
     }
     for source in 0..owned.stations {
-        for operation in [Operation::Reach, Operation::Row, Operation::RowNumber] {
+        for operation in naming(1) {
             one_call(comparison, random, owned, operation, [source, 0], LISTED)?;
         }
     }

@@ -1,7 +1,8 @@
-//! All plans of tiny sizes and plans with equal loads, in all calls; every number of through set
-//! against every other.
+//! All plans of tiny sizes, plans with equal loads and plans in which the earliest slot decides, in all
+//! calls; every number of through set and of foremost against every other.
 
 use lister::cases::{plan_bytes, Record, PLAN_A};
+use lister::foremost_cases::ARRIVALS;
 use lister::means::{COUNTED, LISTED};
 use lister::operation::{Operation, OPERATIONS};
 use lister::pair_cases::TIED_PLANS;
@@ -12,6 +13,7 @@ use lister::reach_cases::ladder;
 use lister::set_cases::all_sets;
 use lister::sets::set_of;
 
+use crate::call::Call;
 use crate::compare::{Comparison, Difference};
 use crate::lend::{self, Lengths};
 
@@ -29,6 +31,9 @@ pub fn compare(comparison: &mut Comparison, seed: u64) -> Result<(), Difference>
     }
     for tied in TIED_PLANS {
         every_call(comparison, random, &tied.owned())?;
+    }
+    for arrival in ARRIVALS {
+        every_call(comparison, random, &arrival.owned())?;
     }
     for owned in all_plans(4, 2).iter().step_by(5) {
         every_set(comparison, random, owned)?;
@@ -211,8 +216,9 @@ fn every_set_byte(comparison: &mut Comparison, random: &mut Random) -> Result<()
     Ok(())
 }
 
-/// Through set with each set of causes of which one is of the plan, and any of the call: 6 and 7 by the
-/// stations, 8 by the set or the work area, 11, and 9 by a ladder of 65 layers.
+/// Through set and foremost with each set of causes of which one is of the plan, and any of the call: 6
+/// and 7 by the stations, 8 by the set or the table and the work area, 11, and 9 by a ladder of 65
+/// layers.
 fn every_two_causes(comparison: &mut Comparison, random: &mut Random) -> Result<(), Difference> {
     let ladder = Owned::built(&ladder(65, 2));
     let (stations, slots) = (ladder.stations, ladder.slots);
@@ -238,33 +244,59 @@ fn every_two_causes(comparison: &mut Comparison, random: &mut Random) -> Result<
             slots: *slots,
         };
         for ends in ends {
-            for (set, work, wrong) in all_changes() {
-                let operation = Operation::ThroughSet;
-                let mut call = lend::call(random, operation, input, ends, Lengths::Named);
-                call.lent.sets[0] = vec![1; ladder.stations + 1 - set];
-                call.lent.wide[0] = lend::wide(random, ladder.scratch_length() + 1 - work);
-                if let Some((place, byte)) = wrong {
-                    let last = call.lent.sets[0].len() - 1;
-                    call.lent.sets[0][place.min(last)] = byte;
+            for change in all_changes() {
+                for operation in [Operation::ThroughSet, Operation::Foremost] {
+                    let mut call = lend::call(random, operation, input, ends, Lengths::Named);
+                    if change.made(random, &ladder, &mut call) {
+                        comparison.compare(&call, COUNTED)?;
+                    }
                 }
-                comparison.compare(&call, COUNTED)?;
             }
         }
     }
     Ok(())
 }
 
-/// How many entries fewer than one more than the named ones the set and the work area have, and a wrong
-/// byte with its place.
-type Change = (usize, usize, Option<(usize, u8)>);
+/// How many entries fewer than one more than the named ones the first lent part and the work area have,
+/// and a wrong byte of a set with its place.
+struct Change {
+    first: usize,
+    work: usize,
+    wrong: Option<(usize, u8)>,
+}
+
+impl Change {
+    /// Makes the change in what a call lends for a plan; false where it asks for a set, and the call has
+    /// none.
+    fn made(&self, random: &mut Random, owned: &Owned, Call { lent, .. }: &mut Call) -> bool {
+        let first = owned.stations + 1 - self.first;
+        let work = lend::wide(random, owned.scratch_length() + 1 - self.work);
+        match (&mut lent.sets[..], &mut lent.wide[..], self.wrong) {
+            ([set], [area], wrong) => {
+                *set = vec![1; first];
+                *area = work;
+                if let Some((place, byte)) = wrong {
+                    set[place.min(first - 1)] = byte;
+                }
+                true
+            }
+            ([], [table, area], None) => {
+                *table = lend::wide(random, first);
+                *area = work;
+                true
+            }
+            _ => false,
+        }
+    }
+}
 
 /// Lengths around the named ones, with and without a wrong byte at the first and the last place.
 fn all_changes() -> Vec<Change> {
     let mut changes = Vec::new();
-    for set in 0..3 {
+    for first in 0..3 {
         for work in 0..3 {
             for wrong in [None, Some((0, 2)), Some((130, 255))] {
-                changes.push((set, work, wrong));
+                changes.push(Change { first, work, wrong });
             }
         }
     }

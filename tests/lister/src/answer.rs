@@ -24,7 +24,7 @@ pub enum CallFault {
     SameStation,
     /// 8: a lent table or buffer is too short.
     TooShort,
-    /// 9: an appearance or station has too many shortest walks.
+    /// 9: an appearance or station has too many shortest walks; for foremost, an appearance.
     TooMany,
     /// 10: the offered positions are no shortest path of the pair.
     NotShortest,

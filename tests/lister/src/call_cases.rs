@@ -1,4 +1,4 @@
-//! Cases of one call on lent tables, for programs that run several operations.
+//! Cases of one call on lent tables, for programs that run several operations and for programs of one.
 
 use crate::files::case_bytes;
 use crate::means::Counting;
@@ -6,8 +6,8 @@ use crate::plan::PlanInput;
 
 /// What a case runs.
 pub trait Called: Copy {
-    /// Its kind in the program.
-    fn kind(self) -> u16;
+    /// Its kind in a program that runs several operations; none where the program runs it alone.
+    fn kind(self) -> Option<u16>;
 
     /// The stations in the head of a case, 0 for one that the operation does not name.
     fn stations(self) -> Vec<u16>;
@@ -76,13 +76,26 @@ impl<O: Called, const TABLES: usize> CallCase<O, TABLES> {
         }
     }
 
+    /// The lengths of the operation's tables.
+    fn lent_lengths(&self) -> Vec<usize> {
+        let tables = self.operation.tables().into_iter();
+        tables.map(|table| self.lengths[table]).collect()
+    }
+
     /// The bytes on standard input: the kind, n, T, the stations, the length of the plan, the length of
-    /// the label and the mark; the lengths; the label; the plan.
+    /// the label and the mark; the lengths; the label; the plan. Where there is no kind, only the
+    /// operation's tables have a length.
     pub fn stdin_bytes(&self) -> Vec<u8> {
-        let mut words = vec![self.operation.kind(), self.stations, self.slots];
+        let kind = self.operation.kind();
+        let mut words = Vec::from_iter(kind);
+        words.extend([self.stations, self.slots]);
         words.extend(self.operation.stations());
         words.extend([self.bytes.len(), self.label.len()].map(|length| length as u16));
         words.push(self.mark);
-        case_bytes(&words, &self.lengths, &self.label, &self.bytes)
+        let lengths = match kind {
+            Some(_) => self.lengths.to_vec(),
+            None => self.lent_lengths(),
+        };
+        case_bytes(&words, &lengths, &self.label, &self.bytes)
     }
 }

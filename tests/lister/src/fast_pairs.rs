@@ -1,4 +1,4 @@
-//! Pairs by numbers of walks. This is no plain lister: it lists no walk.
+//! Pairs and foremost by numbers of walks. This is no plain lister: it lists no walk.
 //!
 //! From a source it adds up how many walks of each number of hops, shortest or not, end at each
 //! appearance; back from a destination, in how many ways such a walk is completed. A shortest walk
@@ -7,10 +7,13 @@
 //! walks to be listed; the tests compare it with the plain lister on small plans.
 
 use std::collections::BTreeSet;
+use std::ops::Range;
 
+use crate::answer::Answer;
+use crate::foremost::Foremost;
 use crate::numbers::{Appearances, Walks};
 use crate::pair::{PairValues, Paired, PairsFrom};
-use crate::plan::Plan;
+use crate::plan::{Ends, Plan};
 use crate::shortest::NO_WALK;
 
 /// An appearance, and in how many ways a walk that ends there is completed.
@@ -44,19 +47,19 @@ impl Walks<'_> {
         earlier
     }
 
-    /// Hops, count and through counts of the pair with a destination; cause 9 does not hold.
-    /// `leaving` is 0 for each appearance, before and after.
-    fn pair(&self, destination: usize, leaving: &mut [u128]) -> Paired {
+    /// Hops, count and through counts of the shortest walks that end in a part of the appearances of
+    /// a destination. They are paths, and not too many. `leaving` is 0 for each appearance, before and
+    /// after.
+    fn paired(&self, part: Range<usize>, leaving: &mut [u128]) -> Paired {
         let mut through = vec![0; self.appearances.of_station.len()];
-        let Some((hops, count)) = self.to_station(destination) else {
+        let Some((hops, count)) = self.shortest(part.clone()) else {
             let values = PairValues {
                 hops: NO_WALK,
                 count: 0,
             };
             return Paired { values, through };
         };
-        let ends = self.appearances.of_station[destination].clone();
-        let ends = ends.filter(|at| self.of_hops[hops][*at] > 0);
+        let ends = part.filter(|at| self.of_hops[hops][*at] > 0);
         let mut completions: Vec<Completions> = ends.map(|at| (at, 1)).collect();
         for hops in (1..hops).rev() {
             completions = self.completions(hops, &completions, leaving);
@@ -81,9 +84,24 @@ pub fn pairs_from(limit: u64, plan: &Plan) -> PairsFrom<'_> {
     Box::new(move |source, destinations| {
         let walks = Walks::from_source(&appearances, source);
         walks.few_enough(limit)?;
-        let paired = destinations
-            .iter()
-            .map(|destination| walks.pair(*destination, &mut leaving));
+        let paired = destinations.iter().map(|destination| {
+            let part = appearances.of_station[*destination].clone();
+            walks.paired(part, &mut leaving)
+        });
         Ok(paired.collect())
     })
+}
+
+/// The values of foremost by numbers of walks, or cause 9: of a destination's appearances, which rise
+/// by slot, the first that a walk reaches is the earliest.
+pub fn foremost(limit: u64, plan: &Plan, (source, destination): Ends) -> Answer<Foremost> {
+    let appearances = Appearances::new(plan);
+    let walks = Walks::from_source(&appearances, source);
+    walks.few_to_appearances(limit)?;
+    let mut part = appearances.of_station[destination].clone();
+    let earliest = part.find(|at| walks.to_appearance(*at).is_some());
+    let slot = earliest.map_or(NO_WALK, |at| appearances.all[at].slot as u16);
+    let part = earliest.map_or(0..0, |at| at..at + 1);
+    let paired = walks.paired(part, &mut vec![0; appearances.all.len()]);
+    Ok(Foremost::new(slot, paired))
 }

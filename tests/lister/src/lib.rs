@@ -34,6 +34,8 @@ pub mod fast_pairs;
 pub mod fast_sets;
 pub mod fast_ways;
 pub mod files;
+pub mod foremost;
+pub mod foremost_cases;
 pub mod lent;
 pub mod load_cases;
 pub mod load_program;

@@ -8,8 +8,10 @@ use lister::files::{stdin_bytes, stdout_text, Filed};
 use lister::load_program::load_text;
 use lister::means::LISTED;
 use lister::plan::PlanInput;
-use lister::show::{loads_text, pair_text, reach_text, set_text, text_of};
-use lister::{cases, load_cases, pair_cases, program, reach_cases, set_cases, way_cases};
+use lister::show::{foremost_text, loads_text, pair_text, reach_text, set_text, text_of};
+use lister::{
+    cases, foremost_cases, load_cases, pair_cases, program, reach_cases, set_cases, way_cases,
+};
 
 const USAGE: &str = "usage:
   lister check-cases DIR         write DIR/stdin and DIR/stdout, cases of check
@@ -19,7 +21,9 @@ const USAGE: &str = "usage:
   lister pair-cases DIR          write DIR/stdin and DIR/stdout, cases of pair, loads and busiest
   lister way-cases DIR           write DIR/stdin and DIR/stdout, cases of first way and next way
   lister set-cases DIR           write DIR/stdin and DIR/stdout, cases of through set
+  lister foremost-cases DIR      write DIR/stdin and DIR/stdout, cases of foremost
   lister show n T s z < plan     hops, count, through counts and shortest paths of s, z
+  lister foremost n T s z < plan slot, hops, count, through counts and shortest foremost paths of s, z
   lister reach n T s < plan      hops and count of each station from s, and the stations' rows
   lister loads n T < plan        pairs and load of each station
   lister set n T s z V.. < plan  how many shortest paths of s, z have one of the stations V interior";
@@ -40,12 +44,14 @@ fn run(words: &[&str]) -> Result<(), String> {
         ["pair-cases", directory] => write_files(directory, &pair_cases::all_cases()),
         ["way-cases", directory] => write_files(directory, &way_cases::all_cases()),
         ["set-cases", directory] => write_files(directory, &set_cases::all_cases()),
-        ["show", stations, slots, source, destination] => {
-            let source = decimal(source)?;
-            let destination = decimal(destination)?;
-            print_for_plan(stations, slots, |input| {
-                text_of(pair_text(input, source, destination))
-            })
+        ["foremost-cases", directory] => write_files(directory, &foremost_cases::all_cases()),
+        [word @ ("show" | "foremost"), stations, slots, source, destination] => {
+            let ends = (decimal(source)?, decimal(destination)?);
+            let text = match *word {
+                "show" => pair_text,
+                _ => foremost_text,
+            };
+            print_for_plan(stations, slots, |input| text_of(text(input, ends)))
         }
         ["loads", stations, slots] => {
             print_for_plan(stations, slots, |input| text_of(loads_text(LISTED, input)))

@@ -212,7 +212,7 @@ impl Walks<'_> {
     }
 
     /// The hops and the number of the shortest walks that end in a part of the appearances.
-    fn shortest(&self, part: Range<usize>) -> Option<(usize, u128)> {
+    pub fn shortest(&self, part: Range<usize>) -> Option<(usize, u128)> {
         let add = |sum: u128, count: &u128| sum.saturating_add(*count);
         let counts = self.of_hops.iter().enumerate();
         let mut counts =
@@ -230,12 +230,18 @@ impl Walks<'_> {
         self.shortest(self.appearances.of_station[station].clone())
     }
 
+    /// Foremost's cause 9: no appearance has more than `limit` shortest walks.
+    pub fn few_to_appearances(&self, limit: u64) -> Answer<()> {
+        let appearances = 0..self.appearances.all.len();
+        let shortest = appearances.filter_map(|at| self.to_appearance(at));
+        few_enough(limit, shortest.map(|(_, count)| count))
+    }
+
     /// Cause 9: no appearance and no station has more than `limit` shortest walks.
     pub fn few_enough(&self, limit: u64) -> Answer<()> {
-        let appearances = (0..self.appearances.all.len()).map(|at| self.to_appearance(at));
+        self.few_to_appearances(limit)?;
         let stations = 0..self.appearances.of_station.len();
-        let stations = stations.map(|station| self.to_station(station));
-        let shortest = appearances.chain(stations).flatten();
+        let shortest = stations.filter_map(|station| self.to_station(station));
         few_enough(limit, shortest.map(|(_, count)| count))
     }
 }

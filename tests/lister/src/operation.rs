@@ -1,6 +1,7 @@
 //! The operations as calls on lists of tables: what each lends, names and answers.
 
 use crate::answer::{beside, number, Answer};
+use crate::foremost::ForemostValues;
 use crate::lent::{appearances, scratch_length};
 use crate::means::Means;
 use crate::pair::PairValues;
@@ -22,13 +23,14 @@ pub enum Operation {
     FirstWay,
     NextWay,
     ThroughSet,
+    Foremost,
 }
 
 use Operation::*;
 
 /// All operations.
-pub const OPERATIONS: [Operation; 10] = [
-    Check, Reach, Row, RowNumber, Pair, Loads, Busiest, FirstWay, NextWay, ThroughSet,
+pub const OPERATIONS: [Operation; 11] = [
+    Check, Reach, Row, RowNumber, Pair, Loads, Busiest, FirstWay, NextWay, ThroughSet, Foremost,
 ];
 
 /// The C interface's number of first way's answer "none".
@@ -43,7 +45,7 @@ impl Operation {
             Check => &[1, 2, 3, 4, 5],
             Reach => &[1, 2, 3, 4, 5, 6, 8, 9],
             Row | RowNumber => &[1, 6, 8],
-            Pair | FirstWay => &[1, 2, 3, 4, 5, 6, 7, 8, 9],
+            Pair | FirstWay | Foremost => &[1, 2, 3, 4, 5, 6, 7, 8, 9],
             Loads | Busiest => &[1, 2, 3, 4, 5, 8, 9],
             NextWay => &[1, 2, 3, 4, 5, 6, 7, 8, 9, 10],
             ThroughSet => &[1, 2, 3, 4, 5, 6, 7, 8, 11, 9],
@@ -66,7 +68,7 @@ impl Operation {
         match self {
             Check | Loads | Busiest => 0,
             Reach | Row | RowNumber => 1,
-            Pair | FirstWay | NextWay | ThroughSet => 2,
+            Pair | FirstWay | NextWay | ThroughSet | Foremost => 2,
         }
     }
 
@@ -87,7 +89,7 @@ impl Operation {
             Check => Vec::new(),
             Reach => vec![table, stations],
             Row | RowNumber => vec![table],
-            Pair => vec![stations, scratch],
+            Pair | Foremost => vec![stations, scratch],
             Loads => vec![stations, stations, scratch],
             Busiest | FirstWay | NextWay | ThroughSet => vec![scratch],
         }
@@ -115,6 +117,7 @@ impl Operation {
             Busiest => &["station"],
             FirstWay | NextWay => &["hops"],
             ThroughSet => &["count"],
+            Foremost => &["slot", "hops", "count"],
         }
     }
 }
@@ -218,6 +221,11 @@ impl Means {
             (ThroughSet, [], [scratch]) => {
                 let answer = self.through_set(input, ends, &lent.sets[0], scratch);
                 Answered::new(&answer, &[beside(&answer)])
+            }
+            (Foremost, [], [through, scratch]) => {
+                let answer = self.foremost(input, ends, through, scratch);
+                let ForemostValues { slot, hops, count } = beside(&answer);
+                Answered::new(&answer, &[slot.into(), hops.into(), count])
             }
             (operation, _, _) => panic!("{operation:?} lends other tables"),
         }

@@ -30,7 +30,7 @@ fn through_count(paths: &[&Walk], station: usize) -> u64 {
 }
 
 /// The values of the listed paths of a pair.
-fn paired(plan: &Plan, paths: &[&Walk]) -> Paired {
+pub fn paired(plan: &Plan, paths: &[&Walk]) -> Paired {
     let through = (0..plan.stations).map(|station| through_count(paths, station));
     Paired {
         values: PairValues {
@@ -55,6 +55,20 @@ fn listed_pairs(limit: u64, plan: &Plan) -> PairsFrom<'_> {
     })
 }
 
+/// The plan of a call on a pair without a cause up to 8; the named parts of what is lent are then 0.
+pub fn cleared(
+    input: PlanInput,
+    ends: Ends,
+    through: &mut [u64],
+    scratch: &mut [u64],
+) -> Answer<Plan> {
+    let plan = read(input)?;
+    known_pair(plan.stations, ends)?;
+    let named = scratch_length(plan.stations, plan.slots);
+    clear(&mut [(through, plan.stations), (scratch, named)])?;
+    Ok(plan)
+}
+
 impl Means {
     /// The values of the pairs of an accepted plan.
     pub fn pairs_from(self, plan: &Plan) -> PairsFrom<'_> {
@@ -72,10 +86,7 @@ impl Means {
         through: &mut [u64],
         scratch: &mut [u64],
     ) -> Answer<PairValues> {
-        let plan = read(input)?;
-        known_pair(plan.stations, ends)?;
-        let named = scratch_length(plan.stations, plan.slots);
-        clear(&mut [(&mut *through, plan.stations), (scratch, named)])?;
+        let plan = cleared(input, ends, through, scratch)?;
         let found = self.pairs_from(&plan)(ends.0, &[ends.1])?;
         through[..plan.stations].copy_from_slice(&found[0].through);
         Ok(found[0].values)

@@ -11,7 +11,11 @@
 //! hops and count follow, for busiest the station, zeros beside a refusal. Then come the lent tables
 //! after the call and the scratch, each behind " |", in runs as in `reach_cases`; the value 0 is left
 //! out.
+//!
+//! `foremost_cases` has cases of the same kind for foremost, most of them on the plans and the memory
+//! of pair's.
 
+mod exact;
 mod examples;
 mod ladders;
 mod limits;
@@ -26,14 +30,17 @@ use crate::answer::{beside, number};
 use crate::call_cases::{CallCase, Called};
 use crate::cases::{plan_bytes, Record};
 use crate::files::Filed;
+use crate::foremost::ForemostValues;
 use crate::lent::scratch_length;
 use crate::means::Counting;
 use crate::plans::pairs;
 use crate::reach_cases::{counts_text, Builder};
 
-pub use limits::{dense, BLOCKS};
-pub use shares::{mixed_ladders, MixedLadder};
-pub use small::{checked_plans, small_plans};
+pub use ladders::cases as ladder_cases;
+pub use limits::{cases as limit_cases, dense, BLOCKS};
+pub use refusals::cases as refusal_cases;
+pub use shares::{cases as share_cases, mixed_ladders, MixedLadder};
+pub use small::{cases as small_cases, checked_plans, small_plans};
 pub use ties::{TiedPlan, TIED_PLANS};
 
 /// The longest label, in bytes.
@@ -41,19 +48,23 @@ pub const LONGEST_LABEL: usize = 64;
 /// The most entries that the program lends, of each table and of the scratch.
 pub const LONGEST_TABLES: [usize; 3] = [320, 320, 262_200];
 
-/// The operation that a case runs; pair has source and destination.
+/// The operation that a case runs; pair and foremost have source and destination. Foremost has a
+/// program of its own.
 #[derive(Clone, Copy, Debug, PartialEq, Eq)]
 pub enum Operation {
     Pair(u16, u16),
     Loads,
     Busiest,
+    Foremost(u16, u16),
 }
 
 impl Operation {
     /// The end of a label.
     fn text(self) -> String {
         match self {
-            Operation::Pair(source, destination) => format!("{source} to {destination}"),
+            Operation::Pair(source, destination) | Operation::Foremost(source, destination) => {
+                format!("{source} to {destination}")
+            }
             Operation::Loads => "loads".to_string(),
             Operation::Busiest => "busiest".to_string(),
         }
@@ -64,7 +75,7 @@ impl Operation {
         let (stations, slots) = (stations.into(), slots.into());
         let scratch = scratch_length(stations, slots);
         match self {
-            Operation::Pair(..) => [stations, 0, scratch],
+            Operation::Pair(..) | Operation::Foremost(..) => [stations, 0, scratch],
             Operation::Loads => [stations, stations, scratch],
             Operation::Busiest => [0, 0, scratch],
         }
@@ -72,17 +83,20 @@ impl Operation {
 }
 
 impl Called for Operation {
-    fn kind(self) -> u16 {
+    fn kind(self) -> Option<u16> {
         match self {
-            Operation::Pair(..) => 0,
-            Operation::Loads => 1,
-            Operation::Busiest => 2,
+            Operation::Pair(..) => Some(0),
+            Operation::Loads => Some(1),
+            Operation::Busiest => Some(2),
+            Operation::Foremost(..) => None,
         }
     }
 
     fn stations(self) -> Vec<u16> {
         match self {
-            Operation::Pair(source, destination) => vec![source, destination],
+            Operation::Pair(source, destination) | Operation::Foremost(source, destination) => {
+                vec![source, destination]
+            }
             Operation::Loads | Operation::Busiest => vec![0, 0],
         }
     }
@@ -90,14 +104,15 @@ impl Called for Operation {
     /// The scratch is the last.
     fn tables(self) -> Vec<usize> {
         match self {
-            Operation::Pair(..) => vec![0, 2],
+            Operation::Pair(..) | Operation::Foremost(..) => vec![0, 2],
             Operation::Loads => vec![0, 1, 2],
             Operation::Busiest => vec![2],
         }
     }
 }
 
-/// One call of pair, of loads or of busiest; the lengths are of the two tables and of the scratch.
+/// One call of pair, of loads, of busiest or of foremost; the lengths are of the two tables and of the
+/// scratch.
 pub type Case = CallCase<Operation, 3>;
 
 /// What a call answers and leaves: the number, the values beside it, the lent tables and the scratch.
@@ -128,6 +143,12 @@ impl Case {
             Operation::Busiest => {
                 let answer = means.busiest(input, &mut scratch);
                 (number(&answer), vec![beside(&answer) as u64])
+            }
+            Operation::Foremost(source, destination) => {
+                let ends = (source.into(), destination.into());
+                let answer = means.foremost(input, ends, &mut first, &mut scratch);
+                let ForemostValues { slot, hops, count } = beside(&answer);
+                (number(&answer), vec![slot.into(), hops.into(), count])
             }
         };
         let mut lent = [first, second, scratch];
@@ -202,7 +223,7 @@ impl LabelledPlan {
     }
 
     /// A case of an operation, on memory of exactly the named lengths.
-    fn case(&self, operation: Operation) -> Case {
+    pub fn case(&self, operation: Operation) -> Case {
         let (stations, slots) = self.sizes;
         Case {
             label: format!("{}, {}", self.label, operation.text()),
@@ -219,6 +240,10 @@ impl LabelledPlan {
 
     fn pair(&self, source: u16, destination: u16) -> Case {
         self.case(Operation::Pair(source, destination))
+    }
+
+    pub fn foremost(&self, source: u16, destination: u16) -> Case {
+        self.case(Operation::Foremost(source, destination))
     }
 
     fn loads(&self) -> Case {
@@ -252,6 +277,7 @@ pub fn all_cases() -> Vec<Case> {
         refusals::cases(),
         limits::cases(),
         ladders::cases(),
+        exact::cases(),
         shares::cases(),
         small::cases(),
     ]

@@ -120,10 +120,15 @@ impl Entries {
         over(&self.stations, limit).collect()
     }
 
+    /// Foremost's cause 9: no appearance has more than `limit` shortest walks.
+    pub fn appearances_within(&self, limit: u64) -> Answer<()> {
+        few_enough(limit, self.appearances.iter().map(|entry| entry.count))
+    }
+
     /// Cause 9: no appearance and no station has more than `limit` shortest walks.
     pub fn within(&self, limit: u64) -> Answer<()> {
-        let entries = self.appearances.iter().chain(&self.stations);
-        few_enough(limit, entries.map(|entry| entry.count))
+        self.appearances_within(limit)?;
+        few_enough(limit, self.stations.iter().map(|entry| entry.count))
     }
 }
 

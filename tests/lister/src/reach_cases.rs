@@ -48,10 +48,10 @@ pub enum Operation {
 }
 
 impl Called for Operation {
-    fn kind(self) -> u16 {
+    fn kind(self) -> Option<u16> {
         match self {
-            Operation::Reach(_) => 0,
-            Operation::Row(_) => 1,
+            Operation::Reach(_) => Some(0),
+            Operation::Row(_) => Some(1),
         }
     }
 

@@ -5,7 +5,7 @@ use crate::plan::{Appearance, Plan};
 use crate::reach::{Entries, Entry};
 use crate::walk::{walks_from, Walk};
 
-/// The hops of an appearance or a station that no walk reaches.
+/// The hops of an appearance or a station that no walk reaches, and foremost's slot without a path.
 pub const NO_WALK: u16 = 65535;
 
 /// The walks with the fewest hops.
@@ -34,6 +34,23 @@ pub fn shortest_paths(walks: &[Walk], destination: usize) -> Vec<&Walk> {
     let mut paths = shortest(walks.iter().filter(reaches));
     paths.sort_by(|one, other| one.positions.cmp(&other.positions));
     paths
+}
+
+/// The shortest foremost walks to a station: of those that reach it in the earliest slot in which any
+/// does, the shortest, ordered by their positions.
+pub fn foremost_walks(walks: &[Walk], destination: usize) -> Vec<&Walk> {
+    let reaches = walks.iter().filter(|walk| walk.end() == destination);
+    let Some(earliest) = reaches.map(|walk| walk.slot).min() else {
+        return Vec::new();
+    };
+    let mut walks = walks_to_appearance(walks, destination, earliest);
+    walks.sort_by(|one, other| one.positions.cmp(&other.positions));
+    walks
+}
+
+/// The positions of each walk of a list.
+pub fn positions_of(walks: &[&Walk]) -> Vec<Vec<u16>> {
+    walks.iter().map(|walk| walk.positions.clone()).collect()
 }
 
 /// The hops that the walks of a list have in common; 65535 for the empty list.

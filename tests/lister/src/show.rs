@@ -1,12 +1,16 @@
-//! The texts of the subcommands show, loads, reach and set.
+//! The texts of the subcommands show, foremost, loads, reach and set.
 
 use crate::answer::Answer;
+use crate::foremost::ForemostValues;
 use crate::lent::scratch_length;
 use crate::means::{Means, COUNT_LIMIT, LISTED};
+use crate::pair::PairValues;
 use crate::plan::{read, Ends, PlanInput};
 use crate::reach::{reach_named, Tables};
 use crate::row::row;
 use crate::sets::set_of;
+use crate::shortest::{foremost_walks, positions_of};
+use crate::walk::walks_from;
 use crate::ways::{paths_of_call, PathCall};
 
 /// The text of an answer; a refusal is one line.
@@ -23,27 +27,40 @@ fn spaced<N: ToString>(numbers: &[N]) -> String {
     words.join(" ")
 }
 
+/// A line of through counts, then paths by their positions, one a line.
+fn through_text(through: &[u64], paths: &[Vec<u16>]) -> String {
+    let lines = paths.iter().map(|path| format!("path {}\n", spaced(path)));
+    format!("through {}\n{}", spaced(through), lines.collect::<String>())
+}
+
 /// Hops, count and through counts of a pair, then its shortest paths, one a line.
-pub fn pair_text(input: PlanInput, source: usize, destination: usize) -> Answer<String> {
+pub fn pair_text(input: PlanInput, ends: Ends) -> Answer<String> {
     let plan = read(input)?;
     let mut through = vec![0; plan.stations];
     let mut scratch = vec![0; scratch_length(plan.stations, plan.slots)];
-    let ends = (source, destination);
-    let values = LISTED.pair(input, ends, &mut through, &mut scratch)?;
+    let PairValues { hops, count } = LISTED.pair(input, ends, &mut through, &mut scratch)?;
     let call = PathCall {
         input,
-        source,
-        destination,
+        source: ends.0,
+        destination: ends.1,
         buffer_length: plan.slots,
         scratch_length: scratch.len(),
     };
-    let list = paths_of_call(COUNT_LIMIT, &call)?;
-    let mut text = format!("hops {}\ncount {}\n", values.hops, values.count);
-    text += &format!("through {}\n", spaced(&through));
-    for positions in list {
-        text += &format!("path {}\n", spaced(&positions));
-    }
-    Ok(text)
+    let paths = through_text(&through, &paths_of_call(COUNT_LIMIT, &call)?);
+    Ok(format!("hops {hops}\ncount {count}\n{paths}"))
+}
+
+/// Slot, hops, count and through counts of a pair's shortest foremost paths, then these, one a line.
+pub fn foremost_text(input: PlanInput, ends: Ends) -> Answer<String> {
+    let plan = read(input)?;
+    let mut through = vec![0; plan.stations];
+    let mut scratch = vec![0; scratch_length(plan.stations, plan.slots)];
+    let ForemostValues { slot, hops, count } =
+        LISTED.foremost(input, ends, &mut through, &mut scratch)?;
+    let walks = walks_from(&plan, ends.0);
+    let paths = positions_of(&foremost_walks(&walks, ends.1));
+    let paths = through_text(&through, &paths);
+    Ok(format!("slot {slot}\nhops {hops}\ncount {count}\n{paths}"))
 }
 
 /// The members of a set, and how many shortest paths of a pair have one of them interior.

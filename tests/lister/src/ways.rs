@@ -6,7 +6,7 @@ use crate::fast_ways;
 use crate::lent;
 use crate::means::{Counting, Means};
 use crate::plan::{read, Ends, Plan, PlanInput};
-use crate::shortest::{shortest_paths, walks_within};
+use crate::shortest::{positions_of, shortest_paths, walks_within};
 
 /// The operation of a call.
 #[derive(Clone, Copy, Debug, PartialEq, Eq)]
@@ -69,8 +69,7 @@ pub fn accepted_plan(call: &PathCall) -> Answer<Plan> {
 /// The positions of the pair's shortest paths in order, or cause 9.
 fn path_positions(limit: u64, plan: &Plan, ends: Ends) -> Answer<Vec<Vec<u16>>> {
     let walks = walks_within(limit, plan, ends.0)?;
-    let paths = shortest_paths(&walks, ends.1);
-    Ok(paths.iter().map(|path| path.positions.clone()).collect())
+    Ok(positions_of(&shortest_paths(&walks, ends.1)))
 }
 
 /// The positions of the pair's shortest paths in order, or the first of causes 1 to 9.

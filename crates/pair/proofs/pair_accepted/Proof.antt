@@ -2,7 +2,8 @@
 -- Assumes nothing.
 use mathlib.Core.Path.{sym, _∙_}
 use Rattle.temporal.proofs.Accepted.{accepted}
-use Rattle.pair.proofs.PairLaws.{pair-call, pair-free, pair-works}
+use Rattle.pair.proofs.BeginLaws.{call-free}
+use Rattle.pair.proofs.PairLaws.{pair-call, pair-works}
 use borrow.Author.Needs.{needs}
 use Rattle.pair.proofs.pair_accepted.Statement.{statement}
 use Rattle.pair.proofs.pair_accepted.Tie as tie
@@ -17,7 +18,7 @@ enum-told : tie.Need-enum-told
 enum-told c = search needs
 
 pair-work-requires : tie.Need-pair-work-requires
-pair-work-requires c κs = pair-free _ _ _ _ _ _ _ (c .before .before .before .before .before .before .before .before .pre) _ (c .before .before .before .before .pair-call .ensures) (c .before .before .enum-told .given .1)
+pair-work-requires c κs = call-free _ _ _ _ _ _ _ (c .before .before .before .before .before .before .before .before .pre) _ (c .before .before .before .before .pair-call .ensures) (c .before .before .enum-told .given .1)
 
 same-length : tie.Need-same-length
 same-length c = search needs

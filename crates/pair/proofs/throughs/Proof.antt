@@ -1,84 +1,66 @@
 -- `pair::throughs` meets its contract. The loop's invariant: the stations below low are stored. The measure is the number
 -- of stations left, which falls since no block is empty.
 -- Assumes nothing.
-use Prim.Native.Nat.{_-_}
-use native.Mathlib.Omega.{arith}
-use borrow.Author.Needs.{needs}
-use mathlib.Core.Path.{sym, _∙_}
+use Rattle.pair.proofs.BlockLaws.{blocks-refused, blocks-more, block-progress, blocks-end}
+use Rattle.pair.proofs.BlockLaws.{Blocks, blocks-none, block-within, next-ready}
 use Rattle.temporal.proofs.Accepted.{accepted}
-use Rattle.pair.proofs.BlockLaws.{
-  Blocks,
-  blocks-none,
-  block-within,
-  pass-ready,
-  blocks-refused,
-  store-ready,
-  blocks-more,
-  block-progress,
-  blocks-end,
-}
+use mathlib.Core.Path.{sym, _∙_}
+use native.Mathlib.Omega.{arith}
+use Prim.Native.Nat.{_-_}
+use borrow.Author.Needs.{needs}
 use Rattle.pair.proofs.throughs.Statement.{statement}
 use Rattle.pair.proofs.throughs.Tie as tie
 
 abbrev Inv-loop : tie.InvT-loop
-Inv-loop through₀ work₀ plan n t s z most low₀ through work low = Blocks plan n t s z through₀ work₀ low through work
+Inv-loop through₀ work₀ plan n t s z until most low₀ slot₀ through work low slot =
+    Blocks plan n t s z until through₀ work₀ low through work slot
 
 abbrev μ-loop : tie.MeasureT-loop
-μ-loop through₀ work₀ plan n t s z most low₀ through work low = n - low
+μ-loop through₀ work₀ plan n t s z until most low₀ slot₀ through work low slot = n - low
 
-mul-least : tie.Need-mul-least Inv-loop μ-loop
-mul-least c = omega (arith, accepted _ _ _ (c .before .before .before .pre .accepted) .slots)
+mul-smaller : tie.Need-mul-smaller Inv-loop μ-loop
+mul-smaller c = omega (arith, accepted _ _ _ (c .before .before .before .pre .ready .accepted) .slots)
 
-least-requires : tie.Need-least-requires Inv-loop μ-loop
-least-requires c κs = search needs
+smaller-requires : tie.Need-smaller-requires Inv-loop μ-loop
+smaller-requires c κs = search needs
 
 loop-holds : tie.Need-loop-holds Inv-loop μ-loop
-loop-holds c = blocks-none _ _ _ _ _ _ _ (c .before .before .before .before .pre)
+loop-holds c = blocks-none _ _ _ _ _ _ _ _ _ (c .before .before .before .before .pre)
 
-sub-least : tie.Need-sub-least Inv-loop μ-loop
-sub-least c = omega arith
+sub-smaller : tie.Need-sub-smaller Inv-loop μ-loop
+sub-smaller c = omega arith
 
-least-requires-2 : tie.Need-least-requires-2 Inv-loop μ-loop
-least-requires-2 c κs = search needs
+smaller-requires-2 : tie.Need-smaller-requires-2 Inv-loop μ-loop
+smaller-requires-2 c κs = search needs
 
-pass-requires : tie.Need-pass-requires Inv-loop μ-loop
-pass-requires c κs =
-    pass-ready _ _ _ _ _ _ _ _ _ _ (c .before .before .before .loop .inv) (c .before .before .loop-test .taken) _ _ (c .before .before .before .before .least .ensures) (c .before .least2 .ensures)
+block-throughs-requires : tie.Need-block-throughs-requires Inv-loop μ-loop
+block-throughs-requires c κs = next-ready _ _ _ _ _ _ _ _ _ _ _ _ (c .before .before .before .before .loop .inv) (c .before .before .before .loop-test .taken) _ _ (c .before .before .before .before .before .smaller .ensures) (c .before .before .smaller2 .ensures)
 
 same-length : tie.Need-same-length Inv-loop μ-loop
-same-length c = c .before .before .before .before .before .before .before .loop .inv .table-length
+same-length c = c .before .before .before .before .before .block-throughs .ensures .table-length ∙ c .before .before .before .before .before .before .before .before .before .before .loop .inv .table-length
 
 same-length-2 : tie.Need-same-length-2 Inv-loop μ-loop
-same-length-2 c = c .before .before .before .pass .ensures .same-length ∙ c .before .before .before .before .before .before .before .loop .inv .area-length
+same-length-2 c = c .before .before .before .before .before .block-throughs .ensures .area-length ∙ c .before .before .before .before .before .before .before .before .before .before .loop .inv .area-length
 
 returns : tie.Need-returns Inv-loop μ-loop
 returns c =
-    blocks-refused _ _ _ _ _ _ _ _ _ _ (c .before .before .before .before .before .before .before .loop .inv) (c .before .before .before .before .before .before .loop-test .taken) _ _ (c .before .before .before .before .before .before .before .before .least .ensures)
-    (c .before .before .before .before .before .least2 .ensures) _ _ (c .before .before .before .pass .ensures) (c .if1 .taken)
-
-store-requires : tie.Need-store-requires Inv-loop μ-loop
-store-requires c κs =
-    store-ready _ _ _ _ _ _ _ _ _ _ (c .before .before .before .before .before .before .before .before .before .loop .inv) (c .before .before .before .before .before .before .before .before .loop-test .taken) _ _ (c .before .before .before .before .before .before .before .before .before .before .least .ensures)
-    (c .before .before .before .before .before .before .before .least2 .ensures) _ _ (c .before .before .before .before .before .pass .ensures) (c .before .before .if1 .left)
+    blocks-refused _ _ _ _ _ _ _ _ _ _ _ _ (c .before .before .before .before .before .before .before .before .before .before .loop .inv) (c .before .before .before .before .before .before .before .before .before .loop-test .taken) _ _ (c .before .before .before .before .before .before .before .before .before .before .before .smaller .ensures) (c .before .before .before .before .before .before .before .before .smaller2 .ensures)
+    _ _ _ (c .before .before .before .before .before .block-throughs .ensures) (omega arith)
 
 add-low : tie.Need-add-low Inv-loop μ-loop
 add-low c =
-    omega (
-      arith,
-      block-within _ _ _ _ _ _ _ _ _ _ (c .before .before .before .before .before .before .before .before .before .before .before .before .loop .inv) (c .before .before .before .before .before .before .before .before .before .before .before .loop-test .taken) _ _ (c .before .before .before .before .before .before .before .before .before .before .before .before .before .least .ensures)
-          (c .before .before .before .before .before .before .before .before .before .before .least2 .ensures),
-      accepted _ _ _ (c .before .before .before .before .before .before .before .before .before .before .before .before .before .before .before .before .before .pre .accepted) .stations,
-    )
+    let inside = block-within _ _ _ _ _ _ _ _ _ _ _ _ (c .before .before .before .before .before .before .before .before .before .before .loop .inv) (c .before .before .before .before .before .before .before .before .before .loop-test .taken) _ _ (c .before .before .before .before .before .before .before .before .before .before .before .smaller .ensures) (c .before .before .before .before .before .before .before .before .smaller2 .ensures) in
+    omega (arith, accepted _ _ _ (c .before .before .before .before .before .before .before .before .before .before .before .before .before .before .before .pre .ready .accepted) .stations)
 
 loop-less : tie.Need-loop-less Inv-loop μ-loop
 loop-less c =
-    block-progress _ _ _ _ _ _ _ _ _ _ (c .before .before .before .before .before .before .before .before .before .before .before .before .loop .inv) (c .before .before .before .before .before .before .before .before .before .before .before .loop-test .taken) _ _ (c .before .before .before .before .before .before .before .before .before .before .before .before .before .least .ensures)
-    (c .before .before .before .before .before .before .before .before .before .before .least2 .ensures) _ _ (c .before .before .before .before .before .before .before .before .pass .ensures) (c .before .before .before .before .before .if1 .left)
+    block-progress _ _ _ _ _ _ _ _ _ _ _ _ (c .before .before .before .before .before .before .before .before .before .before .loop .inv) (c .before .before .before .before .before .before .before .before .before .loop-test .taken) _ _ (c .before .before .before .before .before .before .before .before .before .before .before .smaller .ensures) (c .before .before .before .before .before .before .before .before .smaller2 .ensures)
+    _ _ _ (c .before .before .before .before .before .block-throughs .ensures) (λ q. omega arith)
 
 loop-again : tie.Need-loop-again Inv-loop μ-loop
 loop-again c =
-    blocks-more _ _ _ _ _ _ _ _ _ _ (c .before .before .before .before .before .before .before .before .before .before .before .before .loop .inv) (c .before .before .before .before .before .before .before .before .before .before .before .loop-test .taken) _ _ (c .before .before .before .before .before .before .before .before .before .before .before .before .before .least .ensures)
-    (c .before .before .before .before .before .before .before .before .before .before .least2 .ensures) _ _ (c .before .before .before .before .before .before .before .before .pass .ensures) (c .before .before .before .before .before .if1 .left) _ (c .before .before .store .ensures)
+    blocks-more _ _ _ _ _ _ _ _ _ _ _ _ (c .before .before .before .before .before .before .before .before .before .before .loop .inv) (c .before .before .before .before .before .before .before .before .before .loop-test .taken) _ _ (c .before .before .before .before .before .before .before .before .before .before .before .smaller .ensures) (c .before .before .before .before .before .before .before .before .smaller2 .ensures)
+    _ _ _ (c .before .before .before .before .before .block-throughs .ensures) (λ q. omega arith)
 
 same-length-3 : tie.Need-same-length-3 Inv-loop μ-loop
 same-length-3 c = c .before .loop .inv .table-length
@@ -87,7 +69,7 @@ same-length-4 : tie.Need-same-length-4 Inv-loop μ-loop
 same-length-4 c = c .before .loop .inv .area-length
 
 returns-2 : tie.Need-returns-2 Inv-loop μ-loop
-returns-2 c = blocks-end _ _ _ _ _ _ _ _ _ _ (omega arith) (c .before .loop .inv)
+returns-2 c = blocks-end _ _ _ _ _ _ _ _ _ _ _ _ (omega arith) (c .before .loop .inv)
 
 pub throughs-spec : {M : Type 1} → statement M
 throughs-spec =
@@ -95,16 +77,15 @@ throughs-spec =
     (tie.spec
     Inv-loop
     μ-loop
-    mul-least
-    least-requires
+    mul-smaller
+    smaller-requires
     loop-holds
-    sub-least
-    least-requires-2
-    pass-requires
+    sub-smaller
+    smaller-requires-2
+    block-throughs-requires
     same-length
     same-length-2
     returns
-    store-requires
     add-low
     loop-less
     loop-again

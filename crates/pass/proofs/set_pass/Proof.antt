@@ -1,18 +1,21 @@
 -- `pass::set_pass` meets its contract: the pass with one column for the members of the set.
 -- Assumes nothing.
+use Rattle.pass.proofs.UseLaws.{set-passed, set-ready}
 use borrow.Author.Needs.{needs}
-use Rattle.pass.proofs.UseLaws.{set-passed}
 use Rattle.pass.proofs.set_pass.Statement.{statement}
 use Rattle.pass.proofs.set_pass.Tie as tie
 
 pass-columns-requires : tie.Need-pass-columns-requires
-pass-columns-requires c κs = search needs
+pass-columns-requires c κs = set-ready _ _ _ _ _ _ (c .before .before .before .before .pre)
+
+over-requires : tie.Need-over-requires
+over-requires c κs = search needs
 
 same-length : tie.Need-same-length
 same-length c = search needs
 
 returns : tie.Need-returns
-returns c = set-passed _ _ _ _ _ _ _ _ _ (c .before .before .before .before .before .before .before .pre) (c .before .before .pass-columns .ensures)
+returns c = set-passed _ _ _ _ _ _ _ _ _ _ (c .before .before .before .before .before .before .before .before .pre) (c .before .before .before .pass-columns .ensures) (c .over .ensures)
 
 pub set-pass-spec : {M : Type 1} → statement M
-set-pass-spec = tie.close (tie.spec pass-columns-requires same-length returns)
+set-pass-spec = tie.close (tie.spec pass-columns-requires over-requires same-length returns)

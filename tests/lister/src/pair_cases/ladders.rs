@@ -1,7 +1,7 @@
-//! Ladders, and plans around 2^64 walks from one source.
+//! Ladders.
 
 use super::{Case, LabelledPlan};
-use crate::reach_cases::{exact_plans, ladder, Exact};
+use crate::reach_cases::ladder;
 
 pub fn cases() -> Vec<Case> {
     [
@@ -9,7 +9,6 @@ pub fn cases() -> Vec<Case> {
         too_many(),
         other_sources(),
         other_widths(),
-        exact(),
     ]
     .concat()
 }
@@ -82,27 +81,6 @@ fn other_widths() -> Vec<Case> {
         let plan = LabelledPlan::built(&label, &ladder(layers, width));
         cases.push(plan.pair(0, (width * layers) as u16).stating(number));
         cases.push(plan.loads().stating(number));
-    }
-    cases
-}
-
-/// The plans around 2^64 of reach-cases: pair from their source, and loads of the refused ones and of
-/// the largest count.
-fn exact() -> Vec<Case> {
-    let mut cases = Vec::new();
-    for Exact {
-        label,
-        builder,
-        number,
-    } in exact_plans(64)
-    {
-        let plan = LabelledPlan::built(&label, &builder);
-        let end = builder.sizes().0 - 1;
-        let pair = plan.pair(0, end).stating(number);
-        cases.push(pair.longer([3, 0, 2]));
-        if number == 9 || label == "2^64-1 in one slot" {
-            cases.push(plan.loads().stating(number));
-        }
     }
     cases
 }

@@ -8,12 +8,14 @@ use super::Case;
 use crate::means::COUNT_LIMIT;
 use crate::reach::Entry;
 
-/// A plan, and the number of reach from its source.
+/// A plan, the number of reach from its source, and the number where appearances alone count.
 #[derive(Clone, Debug)]
 pub struct Exact {
     pub label: String,
     pub builder: Builder,
     pub number: u8,
+    /// The number of foremost, which looks for cause 9 at no station.
+    pub of_appearances: u8,
 }
 
 impl Exact {
@@ -22,13 +24,22 @@ impl Exact {
             label,
             builder: builder.clone(),
             number: 0,
+            of_appearances: 0,
+        }
+    }
+
+    /// A station has too many walks, and no appearance.
+    fn refused_for_a_station(label: String, builder: &Builder) -> Exact {
+        Exact {
+            number: 9,
+            ..Exact::accepted(label, builder)
         }
     }
 
     fn refused(label: String, builder: &Builder) -> Exact {
         Exact {
-            number: 9,
-            ..Exact::accepted(label, builder)
+            of_appearances: 9,
+            ..Exact::refused_for_a_station(label, builder)
         }
     }
 
@@ -180,7 +191,7 @@ impl Scale {
         assert_appearance(&builder, (end, bits + 2), bits + 1, self.half());
         assert_station(&builder, end, bits + 1, self.top());
         let label = format!("2^{bits} at a station, half in each of two slots");
-        let halves = Exact::refused(label, &builder);
+        let halves = Exact::refused_for_a_station(label, &builder);
 
         let (mut builder, pair, single) = self.odd(1);
         let end = builder.station();
@@ -195,7 +206,7 @@ impl Scale {
         self.assert_over(&builder, &[], &[end]);
         assert_station(&builder, end, bits, self.top());
         let label = format!("2^{bits} at a station, over four slots");
-        let top = Exact::refused(label, &builder);
+        let top = Exact::refused_for_a_station(label, &builder);
 
         let (mut builder, pair, single) = self.odd(1);
         let end = builder.station();
@@ -205,7 +216,7 @@ impl Scale {
         assert_appearance(&builder, (end, bits), bits, self.top() - 1);
         assert_station(&builder, end, bits, self.top());
         let label = format!("2^{bits} at a station, all but 1 in one slot");
-        let one_more = Exact::refused(label, &builder);
+        let one_more = Exact::refused_for_a_station(label, &builder);
         vec![halves, below, top, one_more]
     }
 
@@ -224,7 +235,7 @@ impl Scale {
         self.assert_over(&builder, &[], &[last]);
         assert_station(&builder, last, bits, self.top());
         let label = format!("2^{bits} at a station, two slots a hop");
-        vec![half, Exact::refused(label, &builder)]
+        vec![half, Exact::refused_for_a_station(label, &builder)]
     }
 
     /// The first records of a slot bring 2^bits walks; another record of the slot brings fewer hops.
@@ -378,7 +389,7 @@ impl Scale {
         self.assert_over(&builder, &[], &[255]);
         assert_station(&builder, 255, bits + 1, self.top());
         let label = format!("n 256, T 255, 2^{bits} at the last station");
-        let station = Exact::refused(label, &builder);
+        let station = Exact::refused_for_a_station(label, &builder);
 
         let (mut builder, pair, single) = self.odd(1);
         builder.grow(256, 255);

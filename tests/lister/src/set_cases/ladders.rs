@@ -3,7 +3,7 @@
 use super::Case;
 use crate::pair_cases::{mixed_ladders, LabelledPlan};
 use crate::random::Random;
-use crate::reach_cases::{exact_plans, ladder, Exact};
+use crate::reach_cases::{exact_plans, ladder};
 
 pub fn cases() -> Vec<Case> {
     [
@@ -105,18 +105,13 @@ fn other_widths() -> Vec<Case> {
 /// The plans around 2^64 of reach-cases, with all stations and with one.
 fn exact() -> Vec<Case> {
     let mut cases = Vec::new();
-    for Exact {
-        label,
-        builder,
-        number,
-    } in exact_plans(64)
-    {
-        let plan = LabelledPlan::built(&label, &builder);
-        let stations = usize::from(builder.sizes().0);
+    for exact in exact_plans(64) {
+        let plan = LabelledPlan::built(&exact.label, &exact.builder);
+        let stations = usize::from(exact.builder.sizes().0);
         let ends = (0, stations as u16 - 1);
         let all: Vec<usize> = (0..stations).collect();
         for members in [&all[..], &all[1..2]] {
-            let case = plan.through(ends, members).stating(number);
+            let case = plan.through(ends, members).stating(exact.number);
             cases.push(case.marked(7, 2));
         }
     }

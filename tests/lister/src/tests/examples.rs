@@ -166,10 +166,10 @@ fn p10_one_slot() {
 fn shown_pair() {
     let owned = Owned::plan_a();
     let shown = "hops 3\ncount 3\nthrough 0 1 2 3 0\npath 0 2 5\npath 1 3 5\npath 1 4 5\n";
-    assert_eq!(text_of(pair_text(owned.input(), 0, 4)), shown);
-    assert_eq!(text_of(pair_text(owned.input(), 0, 5)), "refused 6\n");
+    assert_eq!(text_of(pair_text(owned.input(), (0, 4))), shown);
+    assert_eq!(text_of(pair_text(owned.input(), (0, 5))), "refused 6\n");
     let none = "hops 65535\ncount 0\nthrough 0 0 0 0 0\n";
-    assert_eq!(text_of(pair_text(owned.input(), 2, 1)), none);
+    assert_eq!(text_of(pair_text(owned.input(), (2, 1))), none);
 }
 
 #[test]

@@ -1,10 +1,14 @@
-//! Pair, loads and busiest by numbers of walks, compared with the plain lister and closed forms.
+//! Pair, foremost, loads and busiest by numbers of walks, compared with the plain lister and closed
+//! forms.
+
+use std::fmt::Debug;
 
 use super::support::{
     lowest_of_the_largest, pairs, random_plan, small_exact_plans, tiny_plans, Owned,
 };
 use crate::answer::{number, Answer};
 use crate::cases::plan_bytes;
+use crate::foremost::ForemostValues;
 use crate::loads::Load;
 use crate::means::{Means, COUNTED, COUNT_LIMIT, LISTED};
 use crate::pair::PairValues;
@@ -25,29 +29,42 @@ fn lend(owned: &Owned, change: Lengths) -> [Vec<u64>; 3] {
     [0, 1, 2].map(lent)
 }
 
-/// The answer of a pair, and its memory after the call.
-fn paired(
-    means: Means,
-    owned: &Owned,
-    ends: Ends,
-    change: Lengths,
-) -> (Answer<PairValues>, [Vec<u64>; 3]) {
+/// An answer, and the memory after the call.
+type Asked<V> = (Answer<V>, [Vec<u64>; 3]);
+
+/// Pair of two ends.
+fn paired(means: Means, owned: &Owned, ends: Ends, change: Lengths) -> Asked<PairValues> {
     let mut lent = lend(owned, change);
     let [through, _, scratch] = &mut lent;
     let answer = means.pair(owned.input(), ends, through, scratch);
     (answer, lent)
 }
 
-/// Asserts that both pairs answer alike, and gives the number.
-fn assert_pair(limit: u64, owned: &Owned, ends: Ends, change: Lengths) -> u8 {
-    let listed = paired(LISTED.within(limit), owned, ends, change);
-    let counted = paired(COUNTED.within(limit), owned, ends, change);
+/// Foremost of two ends.
+fn foremost(means: Means, owned: &Owned, ends: Ends, change: Lengths) -> Asked<ForemostValues> {
+    let mut lent = lend(owned, change);
+    let [through, _, scratch] = &mut lent;
+    let answer = means.foremost(owned.input(), ends, through, scratch);
+    (answer, lent)
+}
+
+/// Asserts that an operation on a pair is counted as listed, and gives the number.
+fn assert_same<V: Debug + PartialEq>(
+    operation: fn(Means, &Owned, Ends, Lengths) -> Asked<V>,
+    limit: u64,
+    owned: &Owned,
+    ends: Ends,
+    change: Lengths,
+) -> u8 {
+    let asked = |means: Means| operation(means.within(limit), owned, ends, change);
+    let listed = asked(LISTED);
+    let counted = asked(COUNTED);
     assert_eq!(listed, counted, "limit {limit}, {ends:?}, {owned:?}");
     number(&listed.0)
 }
 
-/// The answer of loads, and its memory after the call.
-fn loaded(means: Means, owned: &Owned, change: Lengths) -> (Answer<()>, [Vec<u64>; 3]) {
+/// Loads.
+fn loaded(means: Means, owned: &Owned, change: Lengths) -> Asked<()> {
     let mut lent = lend(owned, change);
     let [pairs, sums, scratch] = &mut lent;
     let answer = means.loads(owned.input(), pairs, sums, scratch);
@@ -69,18 +86,20 @@ fn assert_loads(limit: u64, owned: &Owned, change: Lengths) -> u8 {
     number(&listed.0)
 }
 
-/// Asserts agreement on every pair and of the loads; adds up the numbers 9.
-fn assert_alike(limit: u64, owned: &Owned, refused: &mut [usize; 2]) {
+/// Asserts agreement on every pair and of the loads; adds up the numbers 9 of pair, loads and foremost.
+fn assert_alike(limit: u64, owned: &Owned, refused: &mut [usize; 3]) {
     for ends in pairs(owned.stations) {
-        let number = assert_pair(limit, owned, ends, LONGER);
-        refused[0] += usize::from(number == 9);
+        let pair = assert_same(paired, limit, owned, ends, LONGER);
+        let foremost = assert_same(foremost, limit, owned, ends, LONGER);
+        refused[0] += usize::from(pair == 9);
+        refused[2] += usize::from(foremost == 9);
     }
     refused[1] += usize::from(assert_loads(limit, owned, LONGER) == 9);
 }
 
 #[test]
 fn tiny_plans_are_counted_as_listed() {
-    let mut refused = [0; 2];
+    let mut refused = [0; 3];
     for owned in tiny_plans() {
         for limit in [1, 2, COUNT_LIMIT] {
             assert_alike(limit, &owned, &mut refused);
@@ -92,13 +111,13 @@ fn tiny_plans_are_counted_as_listed() {
 #[test]
 fn random_plans_are_counted_as_listed() {
     let mut random = Random::new(10);
-    let mut refused = [0; 2];
+    let mut refused = [0; 3];
     for _ in 0..1000 {
         let owned = random_plan(&mut random);
         let limit = [1, 2, 3, 5, 9, COUNT_LIMIT][random.below(6)];
         assert_alike(limit, &owned, &mut refused);
     }
-    assert!(refused[0] > 2000, "{refused:?}");
+    assert!(refused[0] > 2000 && refused[2] > 1000, "{refused:?}");
     assert!((150..500).contains(&refused[1]), "{refused:?}");
 }
 
@@ -108,8 +127,11 @@ fn exact_plans_of_few_bits_are_counted_as_listed() {
         let limit = (1 << bits) - 1;
         for (exact, owned) in small_exact_plans(bits) {
             for destination in 1..owned.stations {
-                let number = assert_pair(limit, &owned, (0, destination), LONGER);
+                let ends = (0, destination);
+                let number = assert_same(paired, limit, &owned, ends, LONGER);
                 assert_eq!(number, exact.number, "{}", exact.label);
+                let number = assert_same(foremost, limit, &owned, ends, LONGER);
+                assert_eq!(number, exact.of_appearances, "{}", exact.label);
             }
             assert_loads(limit, &owned, LONGER);
         }
@@ -119,7 +141,12 @@ fn exact_plans_of_few_bits_are_counted_as_listed() {
 #[test]
 fn refused_calls_are_answered_alike() {
     let owned = Owned::plan_a();
-    let pair = |owned: &Owned, ends, change| assert_pair(COUNT_LIMIT, owned, ends, change);
+    let pair = |owned: &Owned, ends, change| {
+        let number = assert_same(paired, COUNT_LIMIT, owned, ends, change);
+        let foremost = assert_same(foremost, COUNT_LIMIT, owned, ends, change);
+        assert_eq!(foremost, number);
+        number
+    };
     let loads = |owned: &Owned, change| assert_loads(COUNT_LIMIT, owned, change);
     assert_eq!(pair(&owned, (5, 5), [-1; 3]), 6);
     assert_eq!(pair(&owned, (0, 5), LONGER), 6);

@@ -1,5 +1,6 @@
 //! Tests of the lister.
 
+mod call_files;
 mod cases;
 mod checks;
 mod counts;
@@ -8,6 +9,8 @@ mod fast;
 mod fast_pairs;
 mod fast_sets;
 mod fast_ways;
+mod foremost;
+mod foremost_cases;
 mod load_cases;
 mod load_program;
 mod pair_cases;

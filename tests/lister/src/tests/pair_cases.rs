@@ -3,9 +3,9 @@
 use std::collections::BTreeMap;
 use std::sync::OnceLock;
 
-use super::read_back::{assert_labels, entries_of, take, take_number};
+use super::call_files::{self, Made};
+use super::read_back::assert_labels;
 use crate::call_cases::Called;
-use crate::files::{stdin_bytes, stdout_text};
 use crate::means::Counting;
 use crate::pair_cases::{
     all_cases, mixed_ladders, Case, Operation, Outcome, BLOCKS, LONGEST_LABEL, LONGEST_TABLES,
@@ -14,26 +14,19 @@ use crate::pair_cases::{
 use crate::reach_cases::LONGEST_PLAN;
 
 /// All cases with their outcomes, made once.
-fn cases() -> &'static [(Case, Outcome)] {
-    static CASES: OnceLock<Vec<(Case, Outcome)>> = OnceLock::new();
-    CASES.get_or_init(|| {
-        let with_outcome = |case: Case| {
-            let outcome = case.outcome();
-            (case, outcome)
-        };
-        all_cases().into_iter().map(with_outcome).collect()
-    })
+fn cases() -> &'static Made {
+    static CASES: OnceLock<Made> = OnceLock::new();
+    CASES.get_or_init(|| call_files::made(all_cases()))
 }
 
 /// The case with a label, and its outcome.
 fn labelled(label: &str) -> &'static (Case, Outcome) {
-    let found = cases().iter().find(|(case, _)| case.label == label);
-    found.unwrap_or_else(|| panic!("no case {label}"))
+    call_files::labelled(cases(), label)
 }
 
 /// The place of an operation in the kinds of the program.
 fn kind(operation: Operation) -> usize {
-    operation.kind().into()
+    operation.kind().expect("a kind").into()
 }
 
 #[test]
@@ -58,11 +51,7 @@ fn stated_numbers_are_those_of_the_lister() {
 
 #[test]
 fn hand_made_cases_state_their_numbers() {
-    let generated = ["small ", "generated ", "mixed ladder"];
-    for (case, _) in cases() {
-        let is_generated = generated.iter().any(|word| case.label.starts_with(word));
-        assert_eq!(case.stated.is_none(), is_generated, "{}", case.label);
-    }
+    call_files::assert_hand_made_are_stated(cases());
 }
 
 #[test]
@@ -73,7 +62,7 @@ fn labels_are_short_printable_and_distinct() {
 
 #[test]
 fn lines_by_hand() {
-    for (label, rest) in [
+    let lines = [
         ("P5 plan A, 0 to 4", "0 3 3 | 1: 1 2: 2 3: 3 |"),
         (
             "P5 plan A, longer, 0 to 4",
@@ -130,81 +119,24 @@ fn lines_by_hand() {
             "ladder of 65 layers, 1 to 130",
             "0 64 9223372036854775808 | 3 .. 128: 4611686018427387904 |",
         ),
-    ] {
-        let (case, outcome) = labelled(label);
-        assert_eq!(case.line(outcome), format!("{label}: {rest}"));
-    }
-}
-
-/// Asserts that the next case of standard input is a given one.
-fn assert_read(stdin: &mut &[u8], case: &Case) {
-    let head = [2; 8].map(|length| take_number(stdin, length));
-    let lengths = [4; 3].map(|length| take_number(stdin, length));
-    let (source, destination) = match case.operation {
-        Operation::Pair(source, destination) => (source.into(), destination.into()),
-        Operation::Loads | Operation::Busiest => (0, 0),
-    };
-    let call = [
-        kind(case.operation),
-        case.stations.into(),
-        case.slots.into(),
-        source,
-        destination,
-        case.bytes.len(),
-        case.label.len(),
-        case.mark.into(),
     ];
-    assert_eq!(head, call, "{}", case.label);
-    assert_eq!(lengths, case.lengths, "{}", case.label);
-    assert_eq!(take(stdin, case.label.len()), case.label.as_bytes());
-    assert_eq!(take(stdin, case.bytes.len()), case.bytes);
+    call_files::assert_lines(cases(), &lines);
 }
 
 #[test]
 fn stdin_read_back_gives_the_cases() {
-    let all: Vec<Case> = cases().iter().map(|(case, _)| case.clone()).collect();
-    let stdin = stdin_bytes(&all);
-    assert!(stdin.len() < 1_000_000, "{}", stdin.len());
-    let mut rest = stdin.as_slice();
-    for case in &all {
-        assert_read(&mut rest, case);
-    }
-    assert!(rest.is_empty());
+    call_files::assert_stdin(cases(), |case| case.lengths.to_vec());
 }
 
 #[test]
 fn lines_read_back_give_the_outcomes() {
-    let mut length = 0;
-    for (case, outcome) in cases() {
-        let line = case.line(outcome);
-        length += line.len() + 1;
-        let rest = line.strip_prefix(&case.label).unwrap();
-        let mut parts = rest.strip_prefix(": ").unwrap().split(" |");
-        let numbers: Vec<u64> = parts
-            .next()
-            .unwrap()
-            .split(' ')
-            .map(|word| word.parse().unwrap())
-            .collect();
-        assert_eq!(numbers[0], u64::from(outcome.number), "{line}");
-        assert_eq!(numbers[1..], outcome.values, "{line}");
-        let lengths = outcome.buffers.iter().map(Vec::len);
-        let buffers: Vec<Vec<u64>> = parts
-            .zip(lengths)
-            .map(|(runs, length)| entries_of(runs, length, 0))
-            .collect();
-        assert_eq!(buffers, outcome.buffers, "{line}");
-    }
+    let length = call_files::assert_read_back(cases());
     assert!(length < 500_000, "{length}");
 }
 
 #[test]
 fn stdout_has_a_line_a_case() {
-    let (all, lines): (Vec<Case>, Vec<String>) = cases()[..40]
-        .iter()
-        .map(|(case, outcome)| (case.clone(), case.line(outcome)))
-        .unzip();
-    assert_eq!(stdout_text(&all), lines.join("\n") + "\n");
+    call_files::assert_stdout(cases());
 }
 
 #[test]
@@ -215,6 +147,7 @@ fn lent_memory_is_what_the_operation_has() {
             Operation::Pair(..) => vec![first, scratch],
             Operation::Loads => vec![first, second, scratch],
             Operation::Busiest => vec![scratch],
+            Operation::Foremost(..) => panic!("{}", case.label),
         };
         let left: Vec<usize> = outcome.buffers.iter().map(Vec::len).collect();
         assert_eq!(left, lent, "{}", case.label);
@@ -266,15 +199,7 @@ fn walks_are_listed_but_for_large_plans() {
 
 #[test]
 fn listed_cases_are_counted_alike() {
-    for (case, outcome) in cases() {
-        let counted = Case {
-            counting: Counting::Fast,
-            ..case.clone()
-        };
-        if case.counting == Counting::Listed {
-            assert_eq!(counted.outcome(), *outcome, "{}", case.label);
-        }
-    }
+    call_files::assert_counted_alike(cases());
 }
 
 #[test]
@@ -417,6 +342,5 @@ fn blocks_are_uneven_and_used() {
 
 #[test]
 fn files_are_the_same_each_time() {
-    let all: Vec<Case> = cases().iter().map(|(case, _)| case.clone()).collect();
-    assert_eq!(all_cases(), all);
+    call_files::assert_same_each_time(cases(), all_cases());
 }

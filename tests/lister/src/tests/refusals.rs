@@ -37,6 +37,7 @@ fn named_lengths_of_plan_a() {
         (Operation::FirstWay, vec![4], vec![100], vec![]),
         (Operation::NextWay, vec![4], vec![100], vec![]),
         (Operation::ThroughSet, vec![], vec![100], vec![5]),
+        (Operation::Foremost, vec![], vec![5, 100], vec![]),
     ] {
         assert_eq!(operation.named(), [narrow, wide, sets], "{operation:?}");
     }
@@ -252,6 +253,7 @@ fn exact_lengths_are_accepted() {
     assert!(owned.loads(u64::MAX).is_ok());
     assert!(owned.busiest(u64::MAX).is_ok());
     assert!(owned.through_set(u64::MAX, (0, 4), &[1; 5]).is_ok());
+    assert!(owned.foremost(u64::MAX, (0, 4)).is_ok());
     let (mut buffer, mut scratch) = ([9; 4], [9; 100]);
     assert!(first(&owned, (0, 4), &mut buffer, &mut scratch).is_ok());
     assert!(next(&owned, (0, 4), &mut buffer, &mut scratch).is_ok());
@@ -302,6 +304,7 @@ fn stations_far_out_are_6() {
         six(number(&owned.pair(u64::MAX, far, far)));
         for ends in [(far, 0), (0, far), (far, far)] {
             six(number(&owned.through_set(u64::MAX, ends, &[1; 5])));
+            six(number(&owned.foremost(u64::MAX, ends)));
         }
     }
 }

@@ -2,6 +2,7 @@
 
 use crate::answer::Answer;
 use crate::cases::PLAN_A;
+use crate::foremost::Foremost;
 use crate::loads::Load;
 use crate::means::{COUNT_LIMIT, LISTED};
 use crate::pair::Paired;
@@ -38,6 +39,16 @@ impl Owned {
         let values = listed.pair(self.input(), ends, &mut through, &mut scratch)?;
         assert!(scratch.iter().all(|entry| *entry == 0));
         Ok(Paired { values, through })
+    }
+
+    /// Foremost on tables of exactly the named lengths.
+    pub fn foremost(&self, limit: u64, ends: Ends) -> Answer<Foremost> {
+        let mut through = vec![7; self.stations];
+        let mut scratch = vec![7; self.scratch_length()];
+        let listed = LISTED.within(limit);
+        let values = listed.foremost(self.input(), ends, &mut through, &mut scratch)?;
+        assert!(scratch.iter().all(|entry| *entry == 0));
+        Ok(Foremost { values, through })
     }
 
     /// Through set on a scratch of exactly the named length.

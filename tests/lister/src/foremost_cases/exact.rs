@@ -1,0 +1,67 @@
+//! Cause 9 looks at appearances alone, at every one of them: the plans around 2^64 walks of
+//! reach-cases, and plans in which the earliest slot and later ones differ.
+
+use crate::pair_cases::{Case, LabelledPlan};
+use crate::reach_cases::{exact_plans, ladder, Builder};
+
+pub fn cases() -> Vec<Case> {
+    let mut cases = known_plans();
+    cases.extend(arrivals());
+    let longer = |case: Case| case.longer([3, 0, 2]);
+    cases.into_iter().map(longer).collect()
+}
+
+/// From the source of each to its last station, and to the first one.
+fn known_plans() -> Vec<Case> {
+    let mut cases = Vec::new();
+    for exact in exact_plans(64) {
+        let plan = LabelledPlan::built(&exact.label, &exact.builder);
+        for end in [exact.builder.sizes().0 - 1, 1] {
+            cases.push(plan.foremost(0, end).stating(exact.of_appearances));
+        }
+    }
+    cases
+}
+
+/// The layers of a ladder whose last two stations have 2^63 walks each, in the slot of its number.
+const LAYERS: usize = 64;
+
+/// A ladder, a station behind it, and the contacts of that station with the last layer and the source:
+/// the slots in which it meets them. Which number foremost answers.
+type Behind = (&'static str, [&'static [usize]; 3], u8);
+
+/// The plans: slots of contacts with the first of the last two stations, with the second, and with the
+/// source.
+const BEHIND: [Behind; 8] = [
+    ("2^63 then, 2^63 later", [&[65], &[66], &[]], 0),
+    ("2^63 then, one hop later", [&[65], &[], &[66]], 0),
+    ("2^63 then and later, sent back", [&[65, 67], &[66], &[]], 9),
+    ("2^64 then", [&[65], &[65], &[]], 9),
+    ("2^64 then, one hop later", [&[65], &[65], &[66]], 9),
+    ("2^64 and one hop then", [&[65], &[65], &[65]], 0),
+    ("2^63 then, 2^64 later", [&[65, 66], &[66], &[]], 9),
+    ("one hop then, 2^64 later", [&[66], &[66], &[65]], 9),
+];
+
+fn arrivals() -> Vec<Case> {
+    let mut cases = Vec::new();
+    for (label, meetings, number) in BEHIND {
+        let mut builder = ladder(LAYERS, 2);
+        let end = builder.station();
+        let others = [end - 2, end - 1, 0];
+        for (other, slots) in others.into_iter().zip(meetings) {
+            for slot in slots {
+                builder.meet(*slot, end, other);
+            }
+        }
+        cases.extend(to_two(label, &builder, number));
+    }
+    cases
+}
+
+/// From the source to the last station, and to the first, which is reached in slot 1.
+fn to_two(label: &str, builder: &Builder, number: u8) -> [Case; 2] {
+    let plan = LabelledPlan::built(&format!("arrival, {label}"), builder);
+    let end = builder.sizes().0 - 1;
+    [end, 1].map(|end| plan.foremost(0, end).stating(number))
+}

@@ -1,0 +1,49 @@
+//! Plan A, plans without contacts, and the row of stations at the limits.
+
+use crate::cases::{Record, PLAN_A};
+use crate::pair_cases::{Case, LabelledPlan};
+use crate::plans::pairs;
+
+impl LabelledPlan {
+    /// Foremost of every pair of two different stations.
+    fn every_foremost(&self) -> Vec<Case> {
+        let foremost = |(source, destination): (usize, usize)| {
+            self.foremost(source as u16, destination as u16)
+        };
+        pairs(self.sizes.0.into()).map(foremost).collect()
+    }
+}
+
+pub fn cases() -> Vec<Case> {
+    let plan_a = |label: &str| LabelledPlan::of_records(label, (5, 4), &PLAN_A);
+    let ten = LabelledPlan::of_records(
+        "P10 two contacts in slot 1",
+        (3, 1),
+        &[(1, 0, 1), (1, 1, 2)],
+    );
+    let longer = plan_a("plan A, longer");
+    let mut cases = plan_a("plan A").every_foremost();
+    cases.extend([
+        longer.foremost(0, 3).longer([2, 0, 3]),
+        longer.foremost(2, 1).longer([2, 0, 3]),
+    ]);
+    cases.extend(ten.every_foremost());
+    for n in 2..=3 {
+        let label = format!("empty plan, n {n}, T 1");
+        cases.extend(LabelledPlan::of_records(&label, (n, 1), &[]).every_foremost());
+    }
+    cases.extend(rows());
+    cases.into_iter().map(|case| case.stating(0)).collect()
+}
+
+/// Each station meets the next in a slot of its own, and the first one the last in the slot after: the
+/// earliest path has the most hops, the shortest one.
+fn rows() -> Vec<Case> {
+    let row = |stations: u16| {
+        let mut records: Vec<Record> = (1..stations).map(|slot| (slot, slot - 1, slot)).collect();
+        records.push((stations, 0, stations - 1));
+        let label = format!("row of {stations} and a contact of its ends");
+        LabelledPlan::of_records(&label, (256, 255), &records).foremost(0, stations - 1)
+    };
+    [3, 64, 254, 255].map(row).to_vec()
+}

@@ -1,0 +1,128 @@
+//! What holds of each file of cases of one call on lent tables: pair-cases and foremost-cases.
+
+use super::read_back::{entries_of, take, take_number};
+use crate::call_cases::Called;
+use crate::files::{stdin_bytes, stdout_text};
+use crate::means::Counting;
+use crate::pair_cases::{Case, Outcome};
+
+/// Cases with their outcomes.
+pub type Made = Vec<(Case, Outcome)>;
+
+/// The cases with their outcomes.
+pub fn made(cases: Vec<Case>) -> Made {
+    let with_outcome = |case: Case| {
+        let outcome = case.outcome();
+        (case, outcome)
+    };
+    cases.into_iter().map(with_outcome).collect()
+}
+
+/// The cases without their outcomes.
+fn all(made: &Made) -> Vec<Case> {
+    made.iter().map(|(case, _)| case.clone()).collect()
+}
+
+/// The case with a label, and its outcome.
+pub fn labelled<'a>(made: &'a Made, label: &str) -> &'a (Case, Outcome) {
+    let found = made.iter().find(|(case, _)| case.label == label);
+    found.unwrap_or_else(|| panic!("no case {label}"))
+}
+
+/// Asserts that a case has no number stated exactly if it is generated.
+pub fn assert_hand_made_are_stated(made: &Made) {
+    let generated = ["small ", "generated ", "mixed ladder", "drawn "];
+    for (case, _) in made {
+        let is_generated = generated.iter().any(|word| case.label.starts_with(word));
+        assert_eq!(case.stated.is_none(), is_generated, "{}", case.label);
+    }
+}
+
+/// Asserts the lines of some labels.
+pub fn assert_lines(made: &Made, lines: &[(&str, &str)]) {
+    for (label, rest) in lines {
+        let (case, outcome) = labelled(made, label);
+        assert_eq!(case.line(outcome), format!("{label}: {rest}"));
+    }
+}
+
+/// Asserts that standard input, read back, has the cases; the numbers of a head are its kind, if the
+/// program has kinds, and so many lengths.
+pub fn assert_stdin(made: &Made, lengths: fn(&Case) -> Vec<usize>) {
+    let stdin = stdin_bytes(&all(made));
+    assert!(stdin.len() < 1_000_000, "{}", stdin.len());
+    let mut rest = stdin.as_slice();
+    for (case, _) in made {
+        let kind = case.operation.kind().map(usize::from);
+        let stations = case.operation.stations().into_iter().map(usize::from);
+        let mut head = Vec::from_iter(kind);
+        head.extend([case.stations, case.slots].map(usize::from));
+        head.extend(stations);
+        head.extend([case.bytes.len(), case.label.len(), case.mark.into()]);
+        let lengths = lengths(case);
+        for (number, bytes) in [(head, 2), (lengths, 4)] {
+            for number in number {
+                assert_eq!(take_number(&mut rest, bytes), number, "{}", case.label);
+            }
+        }
+        assert_eq!(take(&mut rest, case.label.len()), case.label.as_bytes());
+        assert_eq!(take(&mut rest, case.bytes.len()), case.bytes);
+    }
+    assert!(rest.is_empty());
+}
+
+/// Asserts that the lines, read back, give the outcomes; gives the length of all.
+pub fn assert_read_back(made: &Made) -> usize {
+    let mut length = 0;
+    for (case, outcome) in made {
+        let line = case.line(outcome);
+        length += line.len() + 1;
+        let rest = line.strip_prefix(&case.label).unwrap();
+        let mut parts = rest.strip_prefix(": ").unwrap().split(" |");
+        let numbers: Vec<u64> = parts
+            .next()
+            .unwrap()
+            .split(' ')
+            .map(|word| word.parse().unwrap())
+            .collect();
+        assert_eq!(numbers[0], u64::from(outcome.number), "{line}");
+        assert_eq!(numbers[1..], outcome.values, "{line}");
+        let lengths = outcome.buffers.iter().map(Vec::len);
+        let buffers: Vec<Vec<u64>> = parts
+            .zip(lengths)
+            .map(|(runs, length)| entries_of(runs, length, 0))
+            .collect();
+        assert_eq!(buffers, outcome.buffers, "{line}");
+    }
+    length
+}
+
+/// Asserts that the expected output has a line for each of the first cases.
+pub fn assert_stdout(made: &Made) {
+    let first = made[..40].to_vec();
+    let lines = first
+        .iter()
+        .map(|(case, outcome)| case.line(outcome) + "\n");
+    assert_eq!(stdout_text(&all(&first)), lines.collect::<String>());
+}
+
+/// Asserts that the listed cases are answered alike by numbers of walks; gives how many there are.
+pub fn assert_counted_alike(made: &Made) -> usize {
+    let listed = made.iter();
+    let listed = listed.filter(|(case, _)| case.counting == Counting::Listed);
+    let mut compared = 0;
+    for (case, outcome) in listed {
+        let counted = Case {
+            counting: Counting::Fast,
+            ..case.clone()
+        };
+        assert_eq!(counted.outcome(), *outcome, "{}", case.label);
+        compared += 1;
+    }
+    compared
+}
+
+/// Asserts that making the cases again gives the same.
+pub fn assert_same_each_time(made: &Made, again: Vec<Case>) {
+    assert_eq!(all(made), again);
+}
