@@ -11,27 +11,27 @@ pub fn cases() -> Vec<Case> {
     cases.into_iter().map(longer).collect()
 }
 
-/// From the source of each to its last station, and to the first one.
-fn known_plans() -> Vec<Case> {
-    let mut cases = Vec::new();
-    for exact in exact_plans(64) {
-        let plan = LabelledPlan::built(&exact.label, &exact.builder);
-        for end in [exact.builder.sizes().0 - 1, 1] {
-            cases.push(plan.foremost(0, end).stating(exact.of_appearances));
-        }
-    }
-    cases
+/// From the source of a plan to its last station, and to station 1, which is reached in slot 1.
+fn to_two(label: &str, builder: &Builder, number: u8) -> [Case; 2] {
+    let plan = LabelledPlan::built(label, builder);
+    let end = builder.sizes().0 - 1;
+    [end, 1].map(|end| plan.foremost(0, end).stating(number))
 }
 
-/// The layers of a ladder whose last two stations have 2^63 walks each, in the slot of its number.
+fn known_plans() -> Vec<Case> {
+    let plans = exact_plans(64).into_iter();
+    let two = plans.flat_map(|plan| to_two(&plan.label, &plan.builder, plan.of_appearances));
+    two.collect()
+}
+
+/// The layers of a ladder whose last two stations have 2^63 walks each, in slot 64.
 const LAYERS: usize = 64;
 
-/// A ladder, a station behind it, and the contacts of that station with the last layer and the source:
-/// the slots in which it meets them. Which number foremost answers.
+/// A label; the slots in which a station behind the ladder meets the first of these two, the second,
+/// and the source; the number of foremost.
 type Behind = (&'static str, [&'static [usize]; 3], u8);
 
-/// The plans: slots of contacts with the first of the last two stations, with the second, and with the
-/// source.
+/// The plans. In a label "then" is in the slot in which the station behind the ladder is reached.
 const BEHIND: [Behind; 8] = [
     ("2^63 then, 2^63 later", [&[65], &[66], &[]], 0),
     ("2^63 then, one hop later", [&[65], &[], &[66]], 0),
@@ -54,14 +54,7 @@ fn arrivals() -> Vec<Case> {
                 builder.meet(*slot, end, other);
             }
         }
-        cases.extend(to_two(label, &builder, number));
+        cases.extend(to_two(&format!("arrival, {label}"), &builder, number));
     }
     cases
-}
-
-/// From the source to the last station, and to the first, which is reached in slot 1.
-fn to_two(label: &str, builder: &Builder, number: u8) -> [Case; 2] {
-    let plan = LabelledPlan::built(&format!("arrival, {label}"), builder);
-    let end = builder.sizes().0 - 1;
-    [end, 1].map(|end| plan.foremost(0, end).stating(number))
 }

@@ -46,8 +46,7 @@ pub fn assert_lines(made: &Made, lines: &[(&str, &str)]) {
     }
 }
 
-/// Asserts that standard input, read back, has the cases; the numbers of a head are its kind, if the
-/// program has kinds, and so many lengths.
+/// Asserts that standard input, read back, has the cases; `lengths` are those in the head of a case.
 pub fn assert_stdin(made: &Made, lengths: fn(&Case) -> Vec<usize>) {
     let stdin = stdin_bytes(&all(made));
     assert!(stdin.len() < 1_000_000, "{}", stdin.len());
@@ -60,8 +59,8 @@ pub fn assert_stdin(made: &Made, lengths: fn(&Case) -> Vec<usize>) {
         head.extend(stations);
         head.extend([case.bytes.len(), case.label.len(), case.mark.into()]);
         let lengths = lengths(case);
-        for (number, bytes) in [(head, 2), (lengths, 4)] {
-            for number in number {
+        for (numbers, bytes) in [(head, 2), (lengths, 4)] {
+            for number in numbers {
                 assert_eq!(take_number(&mut rest, bytes), number, "{}", case.label);
             }
         }
