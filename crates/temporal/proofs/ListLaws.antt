@@ -1,6 +1,6 @@
 -- Laws of the words of specs/Lists.antt: membership, selection, tuples, order and sums. They know nothing of plans.
 -- Assumes nothing.
-use Prim.Native.Nat.{ℕ, zero, suc, _+_, _≤_, _<_}
+use Prim.Native.Nat.{ℕ, zero, suc, _+_, _*_, _≤_, _<_}
 use mathlib.Core.Path.{_≡_, refl, sym, ap, ap₂, _∙_, subst, subst₂}
 use mathlib.Core.Bool.{Bool, true, false, not, cond, _&&_, _||_, and-eq-true-iff, or-true}
 use mathlib.Core.List.{List, [], _∷_, _++_, map, flatMap, List·Memᴰ, List·Memᴰ·head, List·Memᴰ·tail}
@@ -224,6 +224,39 @@ distinct-cons x l = (
   λ h. and-eq-true-iff (not (member x l)) (distinct l) .1 (ap not (member-false x l .1 (h .0)), h .1),
 )
 
+-- a selection from different numbers has different numbers
+pub distinct-select : (t : ℕ → Bool) (l : List ℕ) → distinct l ≡ true → distinct (select t l) ≡ true
+unfolding select
+distinct-select t [] d = d
+distinct-select t (x ∷ l) d =
+    let h = distinct-cons x l .0 d in
+    step (t x) (h .0) (distinct-select t l (h .1))
+  where
+    step : (c : Bool) → (List·Memᴰ x l → ⊥) → distinct (select t l) ≡ true
+        → distinct (cond c (x ∷ select t l) (select t l)) ≡ true
+    step true new others = distinct-cons x (select t l) .1 (λ m. new (mem-select t l .0 m .0), others)
+    step false new others = others
+
+-- a number that stands among different numbers stands there once: without it they are one fewer
+pub length-without : (z : ℕ) (l : List ℕ) → distinct l ≡ true
+    → length (select (λ v. not (eqb z v)) l) + cond (member z l) 1 0 ≡ length l
+unfolding select member any
+length-without z [] d = refl
+length-without z (x ∷ l) d =
+    let h = distinct-cons x l .0 d in
+    step (eqb z x) refl (h .0) (length-without z l (h .1))
+  where
+    r : List ℕ
+    r = select (λ v. not (eqb z v)) l
+
+    step : (c : Bool) → eqb z x ≡ c → (List·Memᴰ x l → ⊥) → length r + cond (member z l) 1 0 ≡ length l
+        → length (cond (not c) (x ∷ r) r) + cond (c || any (eqb z) l) 1 0 ≡ suc (length l)
+    step true q new others =
+        let once : member z l ≡ false = member-false z l .1 (λ m. new (Memᴰ·cast (sym (eqb-true z x q)) m)) in
+        let all : length r + cond {A = ℕ} false 1 0 ≡ length l = subst (λ c. length r + cond c 1 0 ≡ length l) once others in
+        omega arith
+    step false q new others = omega arith
+
 -- a list stands among tuples m (k + 1) where its first number is below m and its rest stands among tuples m k
 pub mem-tuples-cons : (m k : ℕ) {w : List ℕ}
     → List·Memᴰ w (tuples m (suc k)) ↔ ((i : ℕ) × (u : List ℕ) × (w ≡ i ∷ u) × (i < m) × List·Memᴰ u (tuples m k))
@@ -365,6 +398,12 @@ module _ {A : Type 0} where
   sum-map-add f g [] = refl
   sum-map-add f g (x ∷ l) = omega (arith, sum-map-add f g l)
 
+  -- a sum of one number for each member is the length times that number
+  pub sum-same : {f : A → ℕ} (c : ℕ) (l : List A) → ((x : A) → List·Memᴰ x l → f x ≡ c) → sum (map f l) ≡ length l * c
+  unfolding sum
+  sum-same c [] h = omega arith
+  sum-same c (x ∷ l) h = omega (arith, h x (List·Memᴰ·head refl), sum-same c l (λ y m. h y (List·Memᴰ·tail m)))
+
   -- a selection is as long as the sum of 1 for each member that passes
   pub length-select : (t : A → Bool) (l : List A) → length (select t l) ≡ sum (map (λ x. cond (t x) 1 0) l)
   unfolding select sum
@@ -420,6 +459,30 @@ sum-of-guarded true b n h = sum-ext (below n) (λ i m. ap (λ c. cond c 1 0) (eq
         go : (c : Bool) → eqb a b ≡ c → c ≡ eqb b a
         go true q = sym (eq-eqb b a (sym (eqb-true a b q)))
         go false q = sym (ne-eqb b a (λ e. eqb-false a b q (sym e)))
+
+-- as many numbers below n stand in a list as it has members, where they are different and below n
+pub length-select-member : (n : ℕ) (l : List ℕ) → distinct l ≡ true → ((v : ℕ) → List·Memᴰ v l → v < n)
+    → length (select (λ v. member v l) (below n)) ≡ length l
+unfolding member any
+length-select-member n l d b = length-select (λ v. member v l) (below n) ∙ go l d b
+  where
+    either : (x : ℕ) (l : List ℕ) → (List·Memᴰ x l → ⊥) → (v : ℕ)
+        → cond {A = ℕ} (member v (x ∷ l)) 1 0 ≡ cond (eqb v x) 1 0 + cond (member v l) 1 0
+    either x l new v = step (eqb v x) refl
+      where
+        step : (c : Bool) → eqb v x ≡ c → cond {A = ℕ} (c || member v l) 1 0 ≡ cond c 1 0 + cond (member v l) 1 0
+        step true q = rw (member-false v l .1 (λ m. new (Memᴰ·cast (sym (eqb-true v x q)) m)))
+        step false q = omega arith
+
+    go : (l : List ℕ) → distinct l ≡ true → ((v : ℕ) → List·Memᴰ v l → v < n)
+        → sum (map (λ v. cond (member v l) 1 0) (below n)) ≡ length l
+    go [] d b = sum-zero (below n) (λ v m. refl)
+    go (x ∷ l) d b =
+        let h = distinct-cons x l .0 d in
+        sum-ext (below n) (λ v m. either x l (h .0) v)
+        ∙ sum-map-add (λ v. cond (eqb v x) 1 0) (λ v. cond (member v l) 1 0) (below n)
+        ∙ ap₂ _+_ (sum-point (λ v. 1) n x (b x (List·Memᴰ·head refl))) (go l (h .1) (λ v m. b v (List·Memᴰ·tail m)))
+        ∙ omega arith
 
 -- tests that agree on a list's members hold of some member alike
 pub any-ext : {A : Type 0} {f g : A → Bool} (l : List A) → ((x : A) → List·Memᴰ x l → f x ≡ g x) → any f l ≡ any g l
