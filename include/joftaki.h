@@ -144,7 +144,8 @@ uint32_t joftaki_row_number(const uint64_t *table, size_t table_length, size_t n
  *
  * Lend: through n entries, work JOFTAKI_WORK_LENGTH(n, t) entries.
  * Gives 0, or the first of 1, 2, 3, 4, 5, 6, 7, 8, 9. 9 sets the named parts of through and work to 0.
- * Proved: the number, both slots, and every entry of through and work at exit.
+ * Proved: the number, both slots, and every entry of through and work at exit. That the n entries of through add up to
+ * count times (hops - 1) is a theorem (crates/demands/specs/Account.antt); the sum can be above 2^64 - 1.
  * Not covered: each pointer is valid for its length, aligned and not null, also where its length is 0; hops and count are
  * valid, aligned and not null; the two slots, through, work and the plan do not overlap.
  */
@@ -164,7 +165,7 @@ uint32_t joftaki_pair(const uint8_t *plan, size_t plan_length, size_t n, size_t 
  * Gives 0, or the first of 1, 2, 3, 4, 5, 6, 7, 8, 9. 9 looks at appearances alone, at every one of them, also in slots after
  * the arrival; what a station has over several slots is no cause. 9 sets the named parts of through and work to 0.
  * Proved: the number, the three slots, and every entry of through and work at exit. That the chains counted are ways, and that
- * no chain arrives earlier, are theorems (crates/demands/specs/Foremost.antt).
+ * no chain arrives earlier, are theorems (crates/demands/specs/Foremost.antt). The entries of through add up as pair's do.
  * Not covered: each pointer is valid for its length, aligned and not null, also where its length is 0; arrival, hops and count
  * are valid, aligned and not null; the three slots, through, work and the plan do not overlap.
  */

@@ -133,7 +133,7 @@ module _ (bs : List ℕ) (n t s z : ℕ) (ok : planFault bs n t ≡ 0) (old b : 
       between-is-interior (planOf bs n t) s z v w (in-complete-list bs n t ok s z w .0 m .0)))
 
   -- what is answered and stored where 9 is no cause either
-  stored :
+  pub stored :
       (x ≡ record {
         hops = hops (shortestPaths (planOf bs n t) s z);
         count = count (shortestPaths (planOf bs n t) s z);

@@ -99,7 +99,7 @@ module _ (bs : List ℕ) (n t s z : ℕ) (ok : planFault bs n t ≡ 0) where
         between-is-interior (planOf bs n t) s z v w (foremost-walks-are-paths bs n t ok s z w m)))
 
     -- what is answered and stored where 9 is no cause either
-    stored :
+    pub stored :
         (x ≡ record {
           slot = arrival (planOf bs n t) s z;
           hops = hops (foremostPaths (planOf bs n t) s z);

@@ -21,3 +21,5 @@ pub mod PlanAText
 pub mod Sets
 -- C-14: shortest foremost paths
 pub mod Foremost
+-- C-15: every leg accounted
+pub mod Account

@@ -23,7 +23,7 @@ use Rattle.temporal.specs.OutcomeSet.{wrongSet, setCauses, setCounted, t
 use Rattle.temporal.proofs.CauseLaws.{first-append-none}
 
 -- plan A of document 01
-planA : Plan
+unfoldable pub planA : Plan
 planA =
     record {
       stations = 5;

@@ -8,6 +8,10 @@ pub mod BusiestLaws
 pub mod SetLaws
 -- shortest foremost paths
 pub mod ForemostLaws
+-- every hop accounted: what the through counts of a pair add up to; the figures stand first by their name, and so do those that
+-- they cite
+pub mod AccountFigures
+pub mod AccountLaws
 -- the causes of refusal, what an accepted plan keeps, and what a check of a plan rests on
 pub mod CauseLaws
 pub mod NumberLaws

@@ -1,11 +1,12 @@
 -- Walks and paths. A walk is written down as the list of its contacts' positions. Definitions only.
 -- Assumes nothing.
 use Prim.Native.Nat.{ℕ}
-use mathlib.Core.Bool.{Bool, false, not, cond, _&&_}
+use mathlib.Core.Path.{_≡_}
+use mathlib.Core.Bool.{Bool, true, false, not, cond, _&&_}
 use mathlib.Core.List.{List, [], _∷_, map}
 use mathlib.Core.Option.{Option, none, some, Option·map, bind}
 use lib.Dec.{eqb}
-use lib.ListN.{getElem?}
+use lib.ListN.{length, getElem?}
 use Rattle.temporal.specs.Lists.{member, distinct}
 use Rattle.temporal.specs.Plan.{Contact, Plan, Appearance, start, leadsTo, mayFollow}
 
@@ -70,3 +71,10 @@ isPath p s z w = holds (run p (start s) w) (λ l. isAt z (lastOr (start s) l) &&
 -- 002's Int(P) (section 2). An end is never inside.
 unfoldable pub isInterior : Plan → ℕ → ℕ → ℕ → List ℕ → Bool
 isInterior p s z v w = not (eqb v s) && (not (eqb v z) && holds (run p (start s) w) (λ l. member v (stationsOf l)))
+
+-- The path w from s to z has exactly k stations inside, all different: those of a list.
+pub record HasInside (p : Plan) (s z : ℕ) (w : List ℕ) (k : ℕ) : Type 0 where
+  pub stations : List ℕ
+  pub exactly : (v : ℕ) → isInterior p s z v w ≡ member v stations
+  pub different : distinct stations ≡ true
+  pub number : length stations ≡ k

@@ -5,6 +5,7 @@ use std::fmt::{Debug, Write};
 
 use lister::means::Means;
 use lister::operation::{Answered, Operation, LAST, NONE, OPERATIONS};
+use lister::shortest::NO_WALK;
 
 use crate::call::{function, Call};
 use crate::native::{self, Seen};
@@ -12,10 +13,12 @@ use crate::native::{self, Seen};
 /// The text of a difference.
 pub type Difference = String;
 
-/// The comparisons so far: how often each operation answered each number.
+/// The comparisons so far: how often each operation answered each number, and how often its through
+/// counts were added up.
 #[derive(Clone, Debug, Default)]
 pub struct Comparison {
     answers: BTreeMap<(Operation, u32), u64>,
+    added_up: BTreeMap<Operation, u64>,
 }
 
 impl Comparison {
@@ -27,6 +30,9 @@ impl Comparison {
         told += &tables_text("16-bit", &lent.narrow, &seen.lent.narrow);
         told += &tables_text("64-bit", &lent.wide, &seen.lent.wide);
         told += &tables_text("8-bit", &lent.sets, &seen.lent.sets);
+        if told.is_empty() {
+            told += &self.every_hop_accounted(call, &seen);
+        }
         if !told.is_empty() {
             let given = answer_text(call.operation, seen.number, &seen.values);
             let asked = answer_text(call.operation, expected.number, &expected.values);
@@ -36,6 +42,29 @@ impl Comparison {
         let answer = (call.operation, seen.number);
         *self.answers.entry(answer).or_default() += 1;
         Ok(seen)
+    }
+
+    /// The text of a sum of the through counts that is not count × (hops − 1), document 02's C-15: for
+    /// each pair or foremost call accepted with a path, paths of one hop too.
+    fn every_hop_accounted(&mut self, call: &Call, seen: &Seen) -> String {
+        let (hops, count) = match (call.operation, seen.number, &seen.values[..]) {
+            (Operation::Pair, 0, [hops, count]) => (*hops, *count),
+            (Operation::Foremost, 0, [_, hops, count]) => (*hops, *count),
+            _ => return String::new(),
+        };
+        if hops == NO_WALK.into() {
+            return String::new();
+        }
+        *self.added_up.entry(call.operation).or_default() += 1;
+        let through = seen.lent.wide[0][..call.input.stations].iter();
+        let sum: u128 = through.map(|count| u128::from(*count)).sum();
+        let stated = u128::from(count) * u128::from(hops - 1);
+        match sum == stated {
+            true => String::new(),
+            false => {
+                format!("through counts add up to {sum}, and count × (hops − 1) is {stated}\n")
+            }
+        }
     }
 
     /// How often an operation answered a number.
@@ -70,6 +99,10 @@ impl Comparison {
             text.push('\n');
         }
         let _ = writeln!(text, "comparisons {total}");
+        for (operation, times) in &self.added_up {
+            let name = function(*operation);
+            let _ = writeln!(text, "through counts added up after {name}: {times}");
+        }
         text
     }
 }
