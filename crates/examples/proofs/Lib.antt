@@ -1,2 +1,3 @@
 -- P1 to P10 of document 01 hold
 pub mod Examples
+mod Computed

@@ -23,6 +23,8 @@ pub mod ListLaws
 pub mod OptionLaws
 pub mod BufferLaws
 pub mod ShortestLaws
+pub mod GrownLaws
+pub mod FewLaws
 pub mod RuleLaws
 pub mod WalkLaws
 pub mod PathLaws
