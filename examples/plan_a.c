@@ -1,7 +1,7 @@
 /*
- * Plan A of document 01 through the C interface: check, reach from 0, the row of station 3, the pairs 0 to 4 and 0 to 3 with
- * their ways one by one, how many ways of 0 to 4 stations 2 and 3 touch together, the earliest ways of 0 to 3, the loads and
- * the busiest station. The callers lend all memory; the example stops at a refusal.
+ * Plan A of document 01, doubled, through the C interface: check, reach from 0, the row of station 3, the pairs 0 to 4 and 0
+ * to 3 with their ways one by one, how many ways of 0 to 4 stations 2 and 3 touch together, the earliest ways of 0 to 3, the
+ * loads and the busiest station. The callers lend all memory; the example stops at a refusal.
  */
 #include <inttypes.h>
 #include <stdio.h>
@@ -11,17 +11,24 @@
 
 #define STATIONS 5
 #define SLOTS 4
-#define CONTACTS 6
+#define CONTACTS 12
 #define SOURCE 0
 #define STATION_OF_ROW 3
 
+/* Each contact of plan A is two records, one in each direction. The first number of a comment is the record's position. */
 static const uint8_t plan[CONTACTS * JOFTAKI_RECORD_BYTES] = {
-    0, 1, 0, 0, 0, 1, /* slot 1: 0 and 1 hear each other */
-    0, 1, 0, 0, 0, 2, /* slot 1: 0 and 2 */
-    0, 2, 0, 1, 0, 3, /* slot 2: 1 and 3 */
-    0, 2, 0, 2, 0, 3, /* slot 2: 2 and 3 */
-    0, 3, 0, 2, 0, 3, /* slot 3: 2 and 3 */
-    0, 4, 0, 3, 0, 4, /* slot 4: 3 and 4 */
+    0, 1, 0, 0, 0, 1, /* 0: slot 1, 0 sends, 1 hears */
+    0, 1, 0, 0, 0, 2, /* 1: slot 1, 0 sends, 2 hears */
+    0, 1, 0, 1, 0, 0, /* 2: slot 1, 1 sends, 0 hears */
+    0, 1, 0, 2, 0, 0, /* 3: slot 1, 2 sends, 0 hears */
+    0, 2, 0, 1, 0, 3, /* 4: slot 2, 1 sends, 3 hears */
+    0, 2, 0, 2, 0, 3, /* 5: slot 2, 2 sends, 3 hears */
+    0, 2, 0, 3, 0, 1, /* 6: slot 2, 3 sends, 1 hears */
+    0, 2, 0, 3, 0, 2, /* 7: slot 2, 3 sends, 2 hears */
+    0, 3, 0, 2, 0, 3, /* 8: slot 3, 2 sends, 3 hears */
+    0, 3, 0, 3, 0, 2, /* 9: slot 3, 3 sends, 2 hears */
+    0, 4, 0, 3, 0, 4, /* 10: slot 4, 3 sends, 4 hears */
+    0, 4, 0, 4, 0, 3, /* 11: slot 4, 4 sends, 3 hears */
 };
 
 /* Prints a refusal and ends the program; an accepted call goes on. */

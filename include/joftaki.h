@@ -2,12 +2,17 @@
  * Joftaki: least ways through a slot plan. The operations of document 01 and of document 02's changes for C99 and C++.
  *
  * Words. The comments have document 01's words; in names a walk is a chain, hops are legs, a path is a way, and shortest is
- * least, with the fewest legs. An appearance (v, u) is station v reached by a chain whose last contact is in slot u.
+ * least, with the fewest legs. A contact leads from its sender to its hearer, and from no other station. A chain from s is a
+ * run of contacts: s sends the first, the hearer of each sends the next, and slots rise strictly. An appearance (v, u) is
+ * station v reached by a chain whose last contact is in slot u.
  *
- * Arguments. plan: records of 6 bytes, no header: slot, a, b, each 16 bits, high byte first; in each record a < b, and
- * records rise strictly by (slot, a, b). A record's place, counted from 0, is its position. n: the number of stations, 1 to
- * 256; they are numbered from 0. t: the number of slots, 1 to 255; they are numbered from 1. s, z, v: stations. Every
- * function but row and row_number reads the plan anew and trusts no earlier table.
+ * Arguments. plan: 0 to 8,192 records of 6 bytes, so up to 49,152 bytes, no header: slot, a, b, each 16 bits, high byte first.
+ * A record is a contact: in this slot a sends and b hears (document 02, C-16; document 002's directed edge (a, b, slot),
+ * Definition 2.1). a and b are different, and either may be the larger. Two stations that hear each other in a slot have two
+ * records there, (slot, a, b) and (slot, b, a). Records rise strictly by (slot, a, b). A record's place, counted from 0, is
+ * its position, at most 8,191. n: the number of stations, 1 to 256; they are numbered from 0. t: the number of slots, 1 to
+ * 255; they are numbered from 1. s, z, v: stations. Every function but row and row_number reads the plan anew and trusts no
+ * earlier table.
  *
  * Answers. Every function gives a number: 0 where the call is accepted, else the number of the papers' first cause that
  * holds, in their order: 1, 2, then 3, 4, 5 record by record, then 6, 7, 8, 11, 9, 10. First way and next way have two more
@@ -55,9 +60,9 @@ extern "C" {
 #define JOFTAKI_ACCEPTED 0u
 /* A fault of the plan. */
 #define JOFTAKI_LIMITS 1u /* n or t outside its limits */
-#define JOFTAKI_LENGTH 2u /* plan not a multiple of 6 bytes, or over 4,096 records */
+#define JOFTAKI_LENGTH 2u /* plan not a multiple of 6 bytes, or over 8,192 records */
 #define JOFTAKI_SLOT 3u   /* a slot is 0 or above t */
-#define JOFTAKI_ENDS 4u   /* a >= b, or b >= n */
+#define JOFTAKI_ENDS 4u   /* a equals b, or either is >= n */
 #define JOFTAKI_ORDER 5u  /* a record is not above the one before it */
 /* A fault of the call. */
 #define JOFTAKI_STATION 6u           /* a named station is >= n */
@@ -74,7 +79,7 @@ extern "C" {
 /* The limits of n, of t and of the records of a plan. */
 #define JOFTAKI_MOST_STATIONS 256
 #define JOFTAKI_MOST_SLOTS 255
-#define JOFTAKI_MOST_RECORDS 4096
+#define JOFTAKI_MOST_RECORDS 8192
 #define JOFTAKI_RECORD_BYTES 6
 
 /* The legs where there is no chain, in a table or in the hops slot of pair or foremost; and foremost's arrival then. */

@@ -20,7 +20,7 @@ fn run_case(head: &mut [u8], label: &mut [u8], plan: &mut [u8]) -> bool {
 fn main() {
     let mut head = [0u8; 8];
     let mut label = [0u8; 64];
-    let mut plan = [0u8; 24600];
+    let mut plan = [0u8; 49200];
     let mut left = cases::MOST;
     while 0 < left && run_case(&mut head, &mut label, &mut plan) {
         left -= 1;

@@ -3,7 +3,7 @@
 
 // Writes the text of an input.
 fn write_text(input: &[u8]) {
-    let mut out = [0u8; 696];
+    let mut out = [0u8; 697];
     let mut pairs = [0u64; 32];
     let mut sums = [0u64; 32];
     let mut work = [0u64; 8192];
@@ -26,7 +26,7 @@ fn run_case(head: &mut [u8], label: &mut [u8], input: &mut [u8]) -> bool {
 fn main() {
     let mut head = [0u8; 4];
     let mut label = [0u8; 64];
-    let mut input = [0u8; 3100];
+    let mut input = [0u8; 6200];
     let mut left = cases::MOST;
     while 0 < left && run_case(&mut head, &mut label, &mut input) {
         left -= 1;

@@ -134,7 +134,7 @@ fn run_case(
 fn main() {
     let mut head = [0u8; 28];
     let mut label = [0u8; 64];
-    let mut plan = [0u8; 24600];
+    let mut plan = [0u8; 49200];
     let mut first = [0u64; 320];
     let mut second = [0u64; 320];
     let mut work = [0u64; 262200];

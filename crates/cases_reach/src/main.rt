@@ -185,7 +185,7 @@ fn run_case(
 fn main() {
     let mut head = [0u8; 30];
     let mut label = [0u8; 64];
-    let mut plan = [0u8; 24600];
+    let mut plan = [0u8; 49200];
     let mut hops = [0u16; 65600];
     let mut counts = [0u64; 65600];
     let mut station_hops = [0u16; 320];

@@ -65,7 +65,7 @@ fn run_case(
 fn main() {
     let mut head = [0u8; 20];
     let mut label = [0u8; 80];
-    let mut plan = [0u8; 24600];
+    let mut plan = [0u8; 49200];
     let mut set = [0u8; 320];
     let mut work = [0u64; 262200];
     let mut left = cases::MOST;

@@ -162,7 +162,7 @@ fn run_case(
 fn main() {
     let mut head = [0u8; 10];
     let mut label = [0u8; 64];
-    let mut plans = [0u8; 24600];
+    let mut plans = [0u8; 49200];
     let mut entries = [0u8; 600];
     let mut step = [0u8; 20];
     let mut way = [0u16; 300];

@@ -18,7 +18,7 @@ use Rattle.temporal.specs.Plan.{Contact, Plan, Appearance, start, mayFollow}
 use Rattle.temporal.specs.Walk.{step, isAppearance, isAt}
 use Rattle.temporal.specs.Foremost.{arrivesBy}
 use Rattle.temporal.proofs.ListLaws.{not-both, not-true-false, mem-below, sum-ext, sum-zero}
-use Rattle.temporal.proofs.RuleLaws.{comesFrom, leads-comes, comes-to-a, comes-to-b, comes-none}
+use Rattle.temporal.proofs.RuleLaws.{comesFrom, leads-comes, comes-to-hearer, comes-none}
 use Rattle.temporal.proofs.RuleLaws.{follows-later, follows-settled, follows-after, follows-by}
 use Rattle.temporal.proofs.WalkLaws.{StepBy, step-inv, step-intro, step-later, SlotsWithin}
 use Rattle.counting.proofs.SumLaws.{sum-less, sum-below-suc}
@@ -142,25 +142,18 @@ module _ (p : Plan) (s : ℕ) (g : ℕ → Bool) where
   inflow-other-slot c w u zero n = refl
   inflow-other-slot c w u (suc k) n = rw (ne-eqb (c .slot) u n)
 
-  -- a contact brings nothing to a station that is not one of its two
-  pub inflow-other-station : (c : Contact) (w u k : ℕ) → w ≢ c .a → w ≢ c .b → inflow p s g c w u k ≡ 0
+  -- a contact brings nothing to a station that is not its hearer
+  pub inflow-other-station : (c : Contact) (w u k : ℕ) → w ≢ c .hearer → inflow p s g c w u k ≡ 0
   unfolding inflow delayed worth
-  inflow-other-station c w u zero n m = refl
-  inflow-other-station c w u (suc k) n m = rw (comes-none c w n m) (cond-zero (eqb (c .slot) u))
+  inflow-other-station c w u zero n = refl
+  inflow-other-station c w u (suc k) n = rw (comes-none c w n) (cond-zero (eqb (c .slot) u))
 
-  -- a contact brings to its b, one hop later, the walks to its a that it may follow
-  pub inflow-to-b : (c : Contact) (u k : ℕ) → c .slot ≡ u
-      → inflow p s g c (c .b) u k ≡ delayed (λ k. cond (g (c .a)) (total p g (start s) (before p (c .a) u) k) 0) k
+  -- a contact brings to its hearer, one hop later, the walks to its sender that it may follow
+  pub inflow-to-hearer : (c : Contact) (u k : ℕ) → c .slot ≡ u
+      → inflow p s g c (c .hearer) u k ≡ delayed (λ k. cond (g (c .sender)) (total p g (start s) (before p (c .sender) u) k) 0) k
   unfolding inflow delayed worth
-  inflow-to-b c u zero e = refl
-  inflow-to-b c u (suc k) e = rw (eq-eqb (c .slot) u e, comes-to-b c)
-
-  -- (both ways) a contact brings to its a, one hop later, the walks to its b that it may follow
-  pub inflow-to-a : (c : Contact) (u k : ℕ) → c .slot ≡ u
-      → inflow p s g c (c .a) u k ≡ delayed (λ k. cond (g (c .b)) (total p g (start s) (before p (c .b) u) k) 0) k
-  unfolding inflow delayed worth
-  inflow-to-a c u zero e = refl
-  inflow-to-a c u (suc k) e = rw (eq-eqb (c .slot) u e, comes-to-a c)
+  inflow-to-hearer c u zero e = refl
+  inflow-to-hearer c u (suc k) e = rw (eq-eqb (c .slot) u e, comes-to-hearer c)
 
   -- positions whose contacts are in other slots add nothing
   pub arrivals-same : (w u k j j′ : ℕ) → j ≤ j′

@@ -83,9 +83,8 @@ any-below n t l inside = go (any t l) refl
         let (q, there) = and-eq-true-iff (t v) (member v l) .0 both in
         not-both q (any-false t l .0 e v (member-true v l .0 there)))))
 
--- where the contacts are between stations of the plan
-module _ (p : Plan) (ends : (i : ℕ) (c : Contact) → getElem? (p .contacts) i ≡ some c → c .a < c .b)
-    (within : (i : ℕ) (c : Contact) → getElem? (p .contacts) i ≡ some c → c .b < p .stations) where
+-- where the contacts' hearers are stations of the plan
+module _ (p : Plan) (within : (i : ℕ) (c : Contact) → getElem? (p .contacts) i ≡ some c → c .hearer < p .stations) where
   -- a run visits stations of the plan
   visited-within : (x : Appearance) (w : List ℕ) {l : List Appearance} → run p x w ≡ some l
       → (v : ℕ) → List·Memᴰ v (stationsOf l) → v < p .stations
@@ -94,7 +93,7 @@ module _ (p : Plan) (ends : (i : ℕ) (c : Contact) → getElem? (p .contacts) i
       let r = run-cons p x i w e in
       let s = step-inv p x i (r .steps) in
       let here : r .next .station < p .stations =
-      leads-below (s .contact) (x .station) (r .next .station) (p .stations) (ends i (s .contact) (s .at-position))
+      leads-below (s .contact) (x .station) (r .next .station) (p .stations)
       (within i (s .contact) (s .at-position)) (s .leads) in
       by-member (rw (← r .whole) at m) (λ q. rw q here) (visited-within (r .next) w (r .goes-on) v)
 
@@ -203,8 +202,7 @@ module _ (bs : List ℕ) (n t : ℕ) (ok : planFault bs n t ≡ 0) where
       ≡ count (walksBy (planOf bs n t) s z e)
   unfolding planOf walksBy
   touched-avoiding s z e m =
-      touched-or-avoiding (planOf bs n t) (λ i c there. contact-within bs n t ok i c there .ends)
-      (λ i c there. contact-within bs n t ok i c there .station) s z (arrivesBy z e)
+      touched-or-avoiding (planOf bs n t) (λ i c there. contact-within bs n t ok i c there .hearer-station) s z (arrivesBy z e)
       (slots-within bs n t ok) (walks-by-are-paths (planOf bs n t) (slots-within bs n t ok) s z e) m
 
 -- ---- sets that touch the same paths

@@ -15,8 +15,8 @@ use Rattle.temporal.specs.Cause.{first, isAbove, recordCauses, planFault}
 use Rattle.temporal.proofs.CauseLaws.{first-append-none}
 use Rattle.temporal.proofs.CheckLaws.{
   above-slot,
-  above-a,
-  above-b,
+  above-sender,
+  above-hearer,
   record-first,
   record-above,
   faultFrom,
@@ -39,17 +39,17 @@ above-from c d e =
       ⊎-elim
           (λ a. inl (ltb-true _ _ a))
           (λ not-a.
-          let ends = and-eq-true-iff (eqb (c .a) (d .a)) _ .0 (rw not-a at (same .1)) in
+          let ends = and-eq-true-iff (eqb (c .sender) (d .sender)) _ .0 (rw not-a at (same .1)) in
           inr (eqb-true _ _ (ends .0), ltb-true _ _ (ends .1)))
-          (true-or-false (ltb (c .a) (d .a))),
+          (true-or-false (ltb (c .sender) (d .sender))),
     ))
     (true-or-false (ltb (c .slot) (d .slot)))
 
 above-to : (c d : Contact) → Above c d → isAbove c d ≡ true
 unfolding Above
 above-to c d (inl slot) = above-slot c d slot
-above-to c d (inr (same, inl a)) = above-a c d same a
-above-to c d (inr (same, inr (ends, b))) = above-b c d same ends ∙ lt-ltb (c .b) (d .b) b
+above-to c d (inr (same, inl a)) = above-sender c d same a
+above-to c d (inr (same, inr (ends, b))) = above-hearer c d same ends ∙ lt-ltb (c .hearer) (d .hearer) b
 
 -- where none of the records from i on has a cause, there is none
 none-from : (f : ℕ → List ℕ) (i k : ℕ) → ((j : ℕ) → i ≤ j → j < i + k → first (f j) ≡ 0) → first (flatMap f (from i k)) ≡ 0
@@ -68,7 +68,7 @@ module _ (bs : List ℕ) (n t : ℕ) where
         whole = let whole = a .whole in omega arith;
         few = a .few;
         slot = λ i h. (a .contact i h .from-one, a .contact i h .to-last);
-        ends = λ i h. (a .contact i h .ends, a .contact i h .station);
+        ends = λ i h. (a .contact i h .ends, (a .contact i h .sender-station, a .contact i h .hearer-station));
         order = λ i h. rw (add-one i) (above-from _ _ (a .rising i (omega arith)));
       }
 
@@ -76,10 +76,10 @@ module _ (bs : List ℕ) (n t : ℕ) where
     no-record-cause : (i : ℕ) → i < records bs → first (recordCauses bs n t i) ≡ 0
     no-record-cause zero h =
         record-first bs n t zero (contactAt bs zero) refl (w .slot zero h .0) (w .slot zero h .1)
-        (w .ends zero h .0) (w .ends zero h .1) refl
+        (w .ends zero h .0) (w .ends zero h .1 .0) (w .ends zero h .1 .1) refl
     no-record-cause (suc i) h =
         record-above bs n t (suc i) (contactAt bs (suc i)) refl (w .slot (suc i) h .0) (w .slot (suc i) h .1)
-        (w .ends (suc i) h .0) (w .ends (suc i) h .1) (contactAt bs i) (ap (contactAt bs) (omega arith))
+        (w .ends (suc i) h .0) (w .ends (suc i) h .1 .0) (w .ends (suc i) h .1 .1) (contactAt bs i) (ap (contactAt bs) (omega arith))
         (above-to _ _ (rw (add-one i) at (w .order i (omega arith))))
 
     no-cause-within : planFault bs n t ≡ 0

@@ -1,4 +1,4 @@
--- P9's text: the load program's text for plan A is document 01's six lines, by computation from the definition of the text, with
+-- P9's text: the load program's text for doubled plan A is the six lines, by computation from the definition of the text, with
 -- lists that are grown hop by hop (GrownLaws).
 -- Assumes nothing.
 use Prim.Native.Nat.{ℕ, _≤_}

@@ -1,4 +1,4 @@
--- P1 to P10 of document 01 hold of the definitions: every entry of the table is right. Each is computed
+-- P1 to P10 of document 01, for doubled plans, hold of the definitions: every entry of the table is right. Each is computed
 -- by itself, from lists that are grown hop by hop (Computed).
 -- Assumes nothing.
 use Prim.Native.Nat.{_≤_}
@@ -21,7 +21,7 @@ use Rattle.temporal.specs.FirstNext.{wayCauses}
 use Rattle.temporal.proofs.FewLaws.{mostLists}
 use Rattle.temporal.proofs.GrownLaws.{grown, grownShortest, onward, grownWalks, grownPaths, pairsBy, loadBy}
 use Rattle.temporal.specs.Cursor.{path, no-path, last-path, refused, first-way, next-way}
-use Rattle.examples.specs.Questions.{planA, emptyPlan, repeated, withItself, sameSlot, Example, checks, station, appearance}
+use Rattle.examples.specs.Questions.{planA, emptyPlan, repeated, withItself, sameSlot, single, Example, checks, station, appearance}
 use Rattle.examples.specs.Questions.{walks, complete, throughs, gives, loadsOf, sameLists, sameReply}
 use Rattle.examples.specs.Table.{right, allRight, table}
 use Rattle.examples.proofs.Computed.{station-right, appearance-right, throughs-right}
@@ -41,6 +41,10 @@ few-same : mostLists (planOf (sameSlot .bytes) (sameSlot .stations) (sameSlot .s
 unfolding mostLists from below sum tuples wordAt contactAt records planOf flatMap
 few-same = leb-true _ _ refl
 
+few-single : mostLists (planOf (single .bytes) (single .stations) (single .slots)) ≤ 18446744073709551615
+unfolding mostLists from below sum tuples wordAt contactAt records planOf flatMap
+few-single = leb-true _ _ refl
+
 -- ---- the entries, each by itself
 
 empty-source : right (station emptyPlan 0 0 0 1) ≡ true
@@ -59,7 +63,7 @@ back-home : right (appearance planA 0 2 3 3 2) ≡ true
 unfolding from below sum select any member distinct leadsTo mayFollow along step run lastOr holds endsIn isWalk isPath isInterior orElse firstNonempty hops allEnds wordAt contactAt records planOf cause first outside wrongLength wrongSlot wrongEnds isAbove wrongOrder recordCauses planCauses planFault pairCauses stationCauses unless over sameNumbers indexIn stay give goFirst goNext go move wayCauses sameLists sameReply flatMap bind grown grownShortest onward grownWalks grownPaths pairsBy loadBy
 back-home = appearance-right planA few-a 0 2 refl 3 3 2 refl
 
-its-walks : right (walks planA 0 2 3 ((0 ∷ 2 ∷ 4 ∷ []) ∷ (1 ∷ 3 ∷ 4 ∷ []) ∷ []) ((0 ∷ 2 ∷ 4 ∷ []) ∷ [])) ≡ true
+its-walks : right (walks planA 0 2 3 ((0 ∷ 4 ∷ 9 ∷ []) ∷ (1 ∷ 5 ∷ 9 ∷ []) ∷ []) ((0 ∷ 4 ∷ 9 ∷ []) ∷ [])) ≡ true
 unfolding from below sum select any member distinct leadsTo mayFollow along step run lastOr holds endsIn isWalk isPath isInterior orElse firstNonempty hops allEnds wordAt contactAt records planOf cause first outside wrongLength wrongSlot wrongEnds isAbove wrongOrder recordCauses planCauses planFault pairCauses stationCauses unless over sameNumbers indexIn stay give goFirst goNext go move wayCauses sameLists sameReply flatMap bind grown grownShortest onward grownWalks grownPaths pairsBy loadBy
 its-walks = walks-right planA 0 2 3 _ _ refl
 
@@ -67,21 +71,21 @@ station-two : right (station planA 0 2 1 1) ≡ true
 unfolding from below sum select any member distinct leadsTo mayFollow along step run lastOr holds endsIn isWalk isPath isInterior orElse firstNonempty hops allEnds wordAt contactAt records planOf cause first outside wrongLength wrongSlot wrongEnds isAbove wrongOrder recordCauses planCauses planFault pairCauses stationCauses unless over sameNumbers indexIn stay give goFirst goNext go move wayCauses sameLists sameReply flatMap bind grown grownShortest onward grownWalks grownPaths pairsBy loadBy
 station-two = station-right planA few-a 0 2 refl 1 1 refl
 
-complete-list : right (complete planA 0 4 ((0 ∷ 2 ∷ 5 ∷ []) ∷ (1 ∷ 3 ∷ 5 ∷ []) ∷ (1 ∷ 4 ∷ 5 ∷ []) ∷ [])) ≡ true
+complete-list : right (complete planA 0 4 ((0 ∷ 4 ∷ 10 ∷ []) ∷ (1 ∷ 5 ∷ 10 ∷ []) ∷ (1 ∷ 8 ∷ 10 ∷ []) ∷ [])) ≡ true
 unfolding from below sum select any member distinct leadsTo mayFollow along step run lastOr holds endsIn isWalk isPath isInterior orElse firstNonempty hops allEnds wordAt contactAt records planOf cause first outside wrongLength wrongSlot wrongEnds isAbove wrongOrder recordCauses planCauses planFault pairCauses stationCauses unless over sameNumbers indexIn stay give goFirst goNext go move wayCauses sameLists sameReply flatMap bind grown grownShortest onward grownWalks grownPaths pairsBy loadBy
 complete-list = complete-right planA 0 4 _ refl
 
-first-given : right (gives first-way planA 0 4 (9 ∷ 9 ∷ 9 ∷ 9 ∷ []) (path 3) (0 ∷ 2 ∷ 5 ∷ 9 ∷ [])) ≡ true
+first-given : right (gives first-way planA 0 4 (9 ∷ 9 ∷ 9 ∷ 9 ∷ []) (path 3) (0 ∷ 4 ∷ 10 ∷ 9 ∷ [])) ≡ true
 unfolding from below sum select any member distinct leadsTo mayFollow along step run lastOr holds endsIn isWalk isPath isInterior orElse firstNonempty hops allEnds wordAt contactAt records planOf cause first outside wrongLength wrongSlot wrongEnds isAbove wrongOrder recordCauses planCauses planFault pairCauses stationCauses unless over sameNumbers indexIn stay give goFirst goNext go move wayCauses sameLists sameReply flatMap bind grown grownShortest onward grownWalks grownPaths pairsBy loadBy
-first-given = gives-right planA few-a first-way 0 4 (9 ∷ 9 ∷ 9 ∷ 9 ∷ []) (path 3) (0 ∷ 2 ∷ 5 ∷ 9 ∷ []) refl refl
+first-given = gives-right planA few-a first-way 0 4 (9 ∷ 9 ∷ 9 ∷ 9 ∷ []) (path 3) (0 ∷ 4 ∷ 10 ∷ 9 ∷ []) refl refl
 
-second-given : right (gives next-way planA 0 4 (0 ∷ 2 ∷ 5 ∷ 9 ∷ []) (path 3) (1 ∷ 3 ∷ 5 ∷ 9 ∷ [])) ≡ true
+second-given : right (gives next-way planA 0 4 (0 ∷ 4 ∷ 10 ∷ 9 ∷ []) (path 3) (1 ∷ 5 ∷ 10 ∷ 9 ∷ [])) ≡ true
 unfolding from below sum select any member distinct leadsTo mayFollow along step run lastOr holds endsIn isWalk isPath isInterior orElse firstNonempty hops allEnds wordAt contactAt records planOf cause first outside wrongLength wrongSlot wrongEnds isAbove wrongOrder recordCauses planCauses planFault pairCauses stationCauses unless over sameNumbers indexIn stay give goFirst goNext go move wayCauses sameLists sameReply flatMap bind grown grownShortest onward grownWalks grownPaths pairsBy loadBy
-second-given = gives-right planA few-a next-way 0 4 (0 ∷ 2 ∷ 5 ∷ 9 ∷ []) (path 3) (1 ∷ 3 ∷ 5 ∷ 9 ∷ []) refl refl
+second-given = gives-right planA few-a next-way 0 4 (0 ∷ 4 ∷ 10 ∷ 9 ∷ []) (path 3) (1 ∷ 5 ∷ 10 ∷ 9 ∷ []) refl refl
 
-third-given : right (gives next-way planA 0 4 (1 ∷ 3 ∷ 5 ∷ 9 ∷ []) (path 3) (1 ∷ 4 ∷ 5 ∷ 9 ∷ [])) ≡ true
+third-given : right (gives next-way planA 0 4 (1 ∷ 5 ∷ 10 ∷ 9 ∷ []) (path 3) (1 ∷ 8 ∷ 10 ∷ 9 ∷ [])) ≡ true
 unfolding from below sum select any member distinct leadsTo mayFollow along step run lastOr holds endsIn isWalk isPath isInterior orElse firstNonempty hops allEnds wordAt contactAt records planOf cause first outside wrongLength wrongSlot wrongEnds isAbove wrongOrder recordCauses planCauses planFault pairCauses stationCauses unless over sameNumbers indexIn stay give goFirst goNext go move wayCauses sameLists sameReply flatMap bind grown grownShortest onward grownWalks grownPaths pairsBy loadBy
-third-given = gives-right planA few-a next-way 0 4 (1 ∷ 3 ∷ 5 ∷ 9 ∷ []) (path 3) (1 ∷ 4 ∷ 5 ∷ 9 ∷ []) refl refl
+third-given = gives-right planA few-a next-way 0 4 (1 ∷ 5 ∷ 10 ∷ 9 ∷ []) (path 3) (1 ∷ 8 ∷ 10 ∷ 9 ∷ []) refl refl
 
 through-table : right (throughs planA 0 4 (0 ∷ 1 ∷ 2 ∷ 3 ∷ 0 ∷ [])) ≡ true
 unfolding from below sum select any member distinct leadsTo mayFollow along step run lastOr holds endsIn isWalk isPath isInterior orElse firstNonempty hops allEnds wordAt contactAt records planOf cause first outside wrongLength wrongSlot wrongEnds isAbove wrongOrder recordCauses planCauses planFault pairCauses stationCauses unless over sameNumbers indexIn stay give goFirst goNext go move wayCauses sameLists sameReply flatMap bind grown grownShortest onward grownWalks grownPaths pairsBy loadBy
@@ -91,13 +95,13 @@ none-given : right (gives first-way planA 2 1 (9 ∷ 9 ∷ 9 ∷ 9 ∷ []) no-pa
 unfolding from below sum select any member distinct leadsTo mayFollow along step run lastOr holds endsIn isWalk isPath isInterior orElse firstNonempty hops allEnds wordAt contactAt records planOf cause first outside wrongLength wrongSlot wrongEnds isAbove wrongOrder recordCauses planCauses planFault pairCauses stationCauses unless over sameNumbers indexIn stay give goFirst goNext go move wayCauses sameLists sameReply flatMap bind grown grownShortest onward grownWalks grownPaths pairsBy loadBy
 none-given = gives-right planA few-a first-way 2 1 (9 ∷ 9 ∷ 9 ∷ 9 ∷ []) no-path (9 ∷ 9 ∷ 9 ∷ 9 ∷ []) refl refl
 
-last-told : right (gives next-way planA 0 4 (1 ∷ 4 ∷ 5 ∷ 9 ∷ []) last-path (1 ∷ 4 ∷ 5 ∷ 9 ∷ [])) ≡ true
+last-told : right (gives next-way planA 0 4 (1 ∷ 8 ∷ 10 ∷ 9 ∷ []) last-path (1 ∷ 8 ∷ 10 ∷ 9 ∷ [])) ≡ true
 unfolding from below sum select any member distinct leadsTo mayFollow along step run lastOr holds endsIn isWalk isPath isInterior orElse firstNonempty hops allEnds wordAt contactAt records planOf cause first outside wrongLength wrongSlot wrongEnds isAbove wrongOrder recordCauses planCauses planFault pairCauses stationCauses unless over sameNumbers indexIn stay give goFirst goNext go move wayCauses sameLists sameReply flatMap bind grown grownShortest onward grownWalks grownPaths pairsBy loadBy
-last-told = gives-right planA few-a next-way 0 4 (1 ∷ 4 ∷ 5 ∷ 9 ∷ []) last-path (1 ∷ 4 ∷ 5 ∷ 9 ∷ []) refl refl
+last-told = gives-right planA few-a next-way 0 4 (1 ∷ 8 ∷ 10 ∷ 9 ∷ []) last-path (1 ∷ 8 ∷ 10 ∷ 9 ∷ []) refl refl
 
-ten-told : right (gives next-way planA 0 4 (0 ∷ 3 ∷ 5 ∷ 9 ∷ []) (refused 10) (0 ∷ 3 ∷ 5 ∷ 9 ∷ [])) ≡ true
+ten-told : right (gives next-way planA 0 4 (0 ∷ 5 ∷ 10 ∷ 9 ∷ []) (refused 10) (0 ∷ 5 ∷ 10 ∷ 9 ∷ [])) ≡ true
 unfolding from below sum select any member distinct leadsTo mayFollow along step run lastOr holds endsIn isWalk isPath isInterior orElse firstNonempty hops allEnds wordAt contactAt records planOf cause first outside wrongLength wrongSlot wrongEnds isAbove wrongOrder recordCauses planCauses planFault pairCauses stationCauses unless over sameNumbers indexIn stay give goFirst goNext go move wayCauses sameLists sameReply flatMap bind grown grownShortest onward grownWalks grownPaths pairsBy loadBy
-ten-told = gives-right planA few-a next-way 0 4 (0 ∷ 3 ∷ 5 ∷ 9 ∷ []) (refused 10) (0 ∷ 3 ∷ 5 ∷ 9 ∷ []) refl refl
+ten-told = gives-right planA few-a next-way 0 4 (0 ∷ 5 ∷ 10 ∷ 9 ∷ []) (refused 10) (0 ∷ 5 ∷ 10 ∷ 9 ∷ []) refl refl
 
 accepted : right (checks planA 0) ≡ true
 unfolding from below sum select any member distinct leadsTo mayFollow along step run lastOr holds endsIn isWalk isPath isInterior orElse firstNonempty hops allEnds wordAt contactAt records planOf cause first outside wrongLength wrongSlot wrongEnds isAbove wrongOrder recordCauses planCauses planFault pairCauses stationCauses unless over sameNumbers indexIn stay give goFirst goNext go move wayCauses sameLists sameReply flatMap bind grown grownShortest onward grownWalks grownPaths pairsBy loadBy right
@@ -118,6 +122,14 @@ loads-of-a = loads-right planA few-a _ _ refl refl
 same-slot : right (gives first-way sameSlot 0 2 (9 ∷ 9 ∷ []) no-path (9 ∷ 9 ∷ [])) ≡ true
 unfolding from below sum select any member distinct leadsTo mayFollow along step run lastOr holds endsIn isWalk isPath isInterior orElse firstNonempty hops allEnds wordAt contactAt records planOf cause first outside wrongLength wrongSlot wrongEnds isAbove wrongOrder recordCauses planCauses planFault pairCauses stationCauses unless over sameNumbers indexIn stay give goFirst goNext go move wayCauses sameLists sameReply flatMap bind grown grownShortest onward grownWalks grownPaths pairsBy loadBy
 same-slot = gives-right sameSlot few-same first-way 0 2 (9 ∷ 9 ∷ []) no-path (9 ∷ 9 ∷ []) refl refl
+
+one-way : right (gives first-way single 0 1 (9 ∷ []) (path 1) (0 ∷ [])) ≡ true
+unfolding from below sum select any member distinct leadsTo mayFollow along step run lastOr holds endsIn isWalk isPath isInterior orElse firstNonempty hops allEnds wordAt contactAt records planOf cause first outside wrongLength wrongSlot wrongEnds isAbove wrongOrder recordCauses planCauses planFault pairCauses stationCauses unless over sameNumbers indexIn stay give goFirst goNext go move wayCauses sameLists sameReply flatMap bind grown grownShortest onward grownWalks grownPaths pairsBy loadBy
+one-way = gives-right single few-single first-way 0 1 (9 ∷ []) (path 1) (0 ∷ []) refl refl
+
+no-way-back : right (gives first-way single 1 0 (9 ∷ []) no-path (9 ∷ [])) ≡ true
+unfolding from below sum select any member distinct leadsTo mayFollow along step run lastOr holds endsIn isWalk isPath isInterior orElse firstNonempty hops allEnds wordAt contactAt records planOf cause first outside wrongLength wrongSlot wrongEnds isAbove wrongOrder recordCauses planCauses planFault pairCauses stationCauses unless over sameNumbers indexIn stay give goFirst goNext go move wayCauses sameLists sameReply flatMap bind grown grownShortest onward grownWalks grownPaths pairsBy loadBy
+no-way-back = gives-right single few-single first-way 1 0 (9 ∷ []) no-path (9 ∷ []) refl refl
 
 -- a right entry before right ones
 next-right : (e : Example) (l : List Example) → right e ≡ true → allRight l ≡ true → allRight (e ∷ l) ≡ true
@@ -148,4 +160,6 @@ examples =
     (next-right _ _ repeated-refused
     (next-right _ _ itself-refused
     (next-right _ _ loads-of-a
-    (next-right _ _ same-slot none-right))))))))))))))))))
+    (next-right _ _ same-slot
+    (next-right _ _ one-way
+    (next-right _ _ no-way-back none-right))))))))))))))))))))

@@ -1,5 +1,5 @@
--- P1 to P10 of document 01, as one table of questions to the operations with their answers. Definitions only; that every
--- entry holds is proofs/Examples.
+-- P1 to P10 of document 01, restated for doubled plans (document 02, C-16), as one table of questions to the operations with
+-- their answers. Definitions only; that every entry holds is proofs/Examples.
 -- Assumes nothing.
 use Prim.Native.Nat.{ℕ}
 use mathlib.Core.Bool.{Bool, true, false, _&&_}
@@ -16,14 +16,17 @@ pub record PlanBytes : Type 0 where
   pub stations : ℕ
   pub slots : ℕ
 
--- plan A of document 01, byte for byte
+-- plan A of document 01, doubled (document 02, C-16): each contact is a record for each direction, in the plan's order
 abbrev pub planA : PlanBytes
 planA =
     record {
       bytes =
           0x00 ∷ 0x01 ∷ 0x00 ∷ 0x00 ∷ 0x00 ∷ 0x01 ∷ 0x00 ∷ 0x01 ∷ 0x00 ∷ 0x00 ∷ 0x00 ∷ 0x02 ∷
+          0x00 ∷ 0x01 ∷ 0x00 ∷ 0x01 ∷ 0x00 ∷ 0x00 ∷ 0x00 ∷ 0x01 ∷ 0x00 ∷ 0x02 ∷ 0x00 ∷ 0x00 ∷
           0x00 ∷ 0x02 ∷ 0x00 ∷ 0x01 ∷ 0x00 ∷ 0x03 ∷ 0x00 ∷ 0x02 ∷ 0x00 ∷ 0x02 ∷ 0x00 ∷ 0x03 ∷
-          0x00 ∷ 0x03 ∷ 0x00 ∷ 0x02 ∷ 0x00 ∷ 0x03 ∷ 0x00 ∷ 0x04 ∷ 0x00 ∷ 0x03 ∷ 0x00 ∷ 0x04 ∷ [];
+          0x00 ∷ 0x02 ∷ 0x00 ∷ 0x03 ∷ 0x00 ∷ 0x01 ∷ 0x00 ∷ 0x02 ∷ 0x00 ∷ 0x03 ∷ 0x00 ∷ 0x02 ∷
+          0x00 ∷ 0x03 ∷ 0x00 ∷ 0x02 ∷ 0x00 ∷ 0x03 ∷ 0x00 ∷ 0x03 ∷ 0x00 ∷ 0x03 ∷ 0x00 ∷ 0x02 ∷
+          0x00 ∷ 0x04 ∷ 0x00 ∷ 0x03 ∷ 0x00 ∷ 0x04 ∷ 0x00 ∷ 0x04 ∷ 0x00 ∷ 0x04 ∷ 0x00 ∷ 0x03 ∷ [];
       stations = 5;
       slots = 4;
     }
@@ -31,18 +34,29 @@ planA =
 abbrev pub emptyPlan : PlanBytes
 emptyPlan = record { bytes = []; stations = 1; slots = 1 }
 
--- the contact (1, 0, 1) twice
+-- the record (1, 0, 1) twice
 abbrev pub repeated : PlanBytes
 repeated =
     record { bytes = 0 ∷ 1 ∷ 0 ∷ 0 ∷ 0 ∷ 1 ∷ 0 ∷ 1 ∷ 0 ∷ 0 ∷ 0 ∷ 1 ∷ []; stations = 2; slots = 1 }
 
--- the contact (1, 1, 1)
+-- the record (1, 1, 1)
 abbrev pub withItself : PlanBytes
 withItself = record { bytes = 0 ∷ 1 ∷ 0 ∷ 1 ∷ 0 ∷ 1 ∷ []; stations = 2; slots = 1 }
 
--- the contacts (1, 0, 1) and (1, 1, 2); two slots, so that two hops are tried
+-- the contacts (1, 0, 1) and (1, 1, 2), doubled; two slots, so that two hops are tried
 abbrev pub sameSlot : PlanBytes
-sameSlot = record { bytes = 0 ∷ 1 ∷ 0 ∷ 0 ∷ 0 ∷ 1 ∷ 0 ∷ 1 ∷ 0 ∷ 1 ∷ 0 ∷ 2 ∷ []; stations = 3; slots = 2 }
+sameSlot =
+    record {
+      bytes =
+          0 ∷ 1 ∷ 0 ∷ 0 ∷ 0 ∷ 1 ∷ 0 ∷ 1 ∷ 0 ∷ 1 ∷ 0 ∷ 0 ∷
+          0 ∷ 1 ∷ 0 ∷ 1 ∷ 0 ∷ 2 ∷ 0 ∷ 1 ∷ 0 ∷ 2 ∷ 0 ∷ 1 ∷ [];
+      stations = 3;
+      slots = 2;
+    }
+
+-- the record (1, 0, 1) alone
+abbrev pub single : PlanBytes
+single = record { bytes = 0 ∷ 1 ∷ 0 ∷ 0 ∷ 0 ∷ 1 ∷ []; stations = 2; slots = 1 }
 
 -- A question with its answer, for each operation; the comment says what the numbers are.
 pub data Example : Type 0 where

@@ -1,4 +1,5 @@
--- The table itself: P1 to P10 of document 01, and the test of an entry. Definitions only.
+-- The table itself: P1 to P10 of document 01, restated for doubled plans, and a single record (document 02, C-16); and the test of
+-- an entry. Definitions only.
 -- Assumes nothing.
 use Prim.Native.Nat.{_+_, _*_}
 use mathlib.Core.Bool.{Bool, true, _&&_}
@@ -20,6 +21,7 @@ use Rattle.examples.specs.Questions.{
   repeated,
   withItself,
   sameSlot,
+  single,
   Example,
   checks,
   station,
@@ -70,25 +72,27 @@ unfoldable pub allRight : List Example → Bool
 allRight [] = true
 allRight (e ∷ l) = right e && allRight l
 
--- P1 to P10, in turn; plan A itself is accepted
+-- P1 to P10, in turn; plan A itself is accepted. Last a single record: it leads from its sender to its hearer, and not back.
 abbrev pub table : List Example
 table =
     station emptyPlan 0 0 0 1 ∷  -- P1
     station planA 0 3 2 3 ∷  -- P2
     station planA 0 4 3 3 ∷
     appearance planA 0 2 3 3 2 ∷  -- P3
-    walks planA 0 2 3 ((0 ∷ 2 ∷ 4 ∷ []) ∷ (1 ∷ 3 ∷ 4 ∷ []) ∷ []) ((0 ∷ 2 ∷ 4 ∷ []) ∷ []) ∷
+    walks planA 0 2 3 ((0 ∷ 4 ∷ 9 ∷ []) ∷ (1 ∷ 5 ∷ 9 ∷ []) ∷ []) ((0 ∷ 4 ∷ 9 ∷ []) ∷ []) ∷
     station planA 0 2 1 1 ∷
-    complete planA 0 4 ((0 ∷ 2 ∷ 5 ∷ []) ∷ (1 ∷ 3 ∷ 5 ∷ []) ∷ (1 ∷ 4 ∷ 5 ∷ []) ∷ []) ∷  -- P4
-    gives first-way planA 0 4 (9 ∷ 9 ∷ 9 ∷ 9 ∷ []) (path 3) (0 ∷ 2 ∷ 5 ∷ 9 ∷ []) ∷
-    gives next-way planA 0 4 (0 ∷ 2 ∷ 5 ∷ 9 ∷ []) (path 3) (1 ∷ 3 ∷ 5 ∷ 9 ∷ []) ∷
-    gives next-way planA 0 4 (1 ∷ 3 ∷ 5 ∷ 9 ∷ []) (path 3) (1 ∷ 4 ∷ 5 ∷ 9 ∷ []) ∷
+    complete planA 0 4 ((0 ∷ 4 ∷ 10 ∷ []) ∷ (1 ∷ 5 ∷ 10 ∷ []) ∷ (1 ∷ 8 ∷ 10 ∷ []) ∷ []) ∷  -- P4
+    gives first-way planA 0 4 (9 ∷ 9 ∷ 9 ∷ 9 ∷ []) (path 3) (0 ∷ 4 ∷ 10 ∷ 9 ∷ []) ∷
+    gives next-way planA 0 4 (0 ∷ 4 ∷ 10 ∷ 9 ∷ []) (path 3) (1 ∷ 5 ∷ 10 ∷ 9 ∷ []) ∷
+    gives next-way planA 0 4 (1 ∷ 5 ∷ 10 ∷ 9 ∷ []) (path 3) (1 ∷ 8 ∷ 10 ∷ 9 ∷ []) ∷
     throughs planA 0 4 (0 ∷ 1 ∷ 2 ∷ 3 ∷ 0 ∷ []) ∷  -- P5
     gives first-way planA 2 1 (9 ∷ 9 ∷ 9 ∷ 9 ∷ []) no-path (9 ∷ 9 ∷ 9 ∷ 9 ∷ []) ∷  -- P6
-    gives next-way planA 0 4 (1 ∷ 4 ∷ 5 ∷ 9 ∷ []) last-path (1 ∷ 4 ∷ 5 ∷ 9 ∷ []) ∷  -- P7
-    gives next-way planA 0 4 (0 ∷ 3 ∷ 5 ∷ 9 ∷ []) (refused 10) (0 ∷ 3 ∷ 5 ∷ 9 ∷ []) ∷
+    gives next-way planA 0 4 (1 ∷ 8 ∷ 10 ∷ 9 ∷ []) last-path (1 ∷ 8 ∷ 10 ∷ 9 ∷ []) ∷  -- P7
+    gives next-way planA 0 4 (0 ∷ 5 ∷ 10 ∷ 9 ∷ []) (refused 10) (0 ∷ 5 ∷ 10 ∷ 9 ∷ []) ∷
     checks planA 0 ∷
     checks repeated 5 ∷  -- P8
     checks withItself 4 ∷
     loadsOf planA (0 ∷ 2 ∷ 2 ∷ 4 ∷ 0 ∷ []) (0 ∷ 2863311530 ∷ 5726623060 ∷ 17179869184 ∷ 0 ∷ []) ∷  -- P9
-    gives first-way sameSlot 0 2 (9 ∷ 9 ∷ []) no-path (9 ∷ 9 ∷ []) ∷ []  -- P10
+    gives first-way sameSlot 0 2 (9 ∷ 9 ∷ []) no-path (9 ∷ 9 ∷ []) ∷  -- P10
+    gives first-way single 0 1 (9 ∷ []) (path 1) (0 ∷ []) ∷  -- C-16
+    gives first-way single 1 0 (9 ∷ []) no-path (9 ∷ []) ∷ []

@@ -7,8 +7,8 @@ use libc::STDIN_FILENO;
 use libc::STDOUT_FILENO;
 
 fn main() {
-    let mut bytes = [0u8; 3073];
-    let mut out = [0u8; 696];
+    let mut bytes = [0u8; 6145];
+    let mut out = [0u8; 697];
     let mut pairs = [0u64; 32];
     let mut sums = [0u64; 32];
     let mut work = [0u64; 8192];

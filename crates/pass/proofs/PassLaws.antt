@@ -97,9 +97,12 @@ module _ (bs : List ℕ) (n t s until : ℕ) (col : ℕ → ℕ) (block : ℕ) (
           let (there, slot) = in-slot-inv bs j u e in
           let whole = accepted bs n t ok .whole in
           let c = accepted bs n t ok .contact j there in
-          let ends = c .ends in
-          let station = c .station in
-          record { inside = omega arith; a-station = omega arith; b-station = station; area = passing-area u j w x }
+          record {
+            inside = omega arith;
+            sender-station = c .sender-station;
+            hearer-station = c .hearer-station;
+            area = passing-area u j w x;
+          }
 
       -- and then the pass is one position further
       pub passing-fold : inSlot bs j u ≡ true
@@ -108,8 +111,6 @@ module _ (bs : List ℕ) (n t s until : ℕ) (col : ℕ → ℕ) (block : ℕ) (
       passing-fold e =
           let (there, slot) = in-slot-inv bs j u e in
           let c = accepted bs n t ok .contact j there in
-          let ends = c .ends in
-          let station = c .station in
           let most = accepted bs n t ok .slots in
           record {
             from-one = x .from-one;
@@ -121,7 +122,7 @@ module _ (bs : List ℕ) (n t s until : ℕ) (col : ℕ → ℕ) (block : ℕ) (
               ahead = λ i from q. x .position .ahead i (omega arith) q;
             };
             state = folded-state (planOf bs n t) (slots-within bs n t ok) most s (mayLeave s col) n block old area u j
-                (contactAt bs j) w (contact-there bs n t j there) slot (omega arith) station (omega arith) (x .state);
+                (contactAt bs j) w (contact-there bs n t j there) slot (c .sender-station) (c .hearer-station) (x .state);
             small = x .small;
             waits = x .waits;
           }

@@ -82,22 +82,23 @@ module _ (n block : ℕ) (w : List ℕ) (v x : ℕ) where
 
 -- the stations of the record that was read lie within the plan
 pub record EndsWithin (n : ℕ) (r : Contact) : Type 0 where
-  pub a : r .a < n
-  pub b : r .b < n
+  pub sender : r .sender < n
+  pub hearer : r .hearer < n
 
 -- the record that was read lies within the plan
 pub read-within : (bs : List ℕ) (n block j : ℕ) (w : List ℕ) (r : Contact) → FoldableArea bs n block j w
     → contactOf r ≡ contactAt bs j → EndsWithin n r
 read-within bs n block j w r f e =
-    record { a = subst (λ c. c .a < n) (sym e) (f .a-station); b = subst (λ c. c .b < n) (sym e) (f .b-station) }
+    record {
+      sender = subst (λ c. c .sender < n) (sym e) (f .sender-station);
+      hearer = subst (λ c. c .hearer < n) (sym e) (f .hearer-station);
+    }
 
--- two sends over the record that was read fold it in
-pub folded-twice : (bs : List ℕ) (n block j : ℕ) (w one two : List ℕ) (r : Contact) → contactOf r ≡ contactAt bs j
-    → one ≡ sentArea n block w (r .a) (r .b) → two ≡ sentArea n block one (r .b) (r .a)
-    → two ≡ foldedArea n block w (contactAt bs j)
+-- a send over the record that was read folds it in
+pub folded-by : (bs : List ℕ) (n block j : ℕ) (w out : List ℕ) (r : Contact) → contactOf r ≡ contactAt bs j
+    → out ≡ sentArea n block w (r .sender) (r .hearer) → out ≡ foldedArea n block w (contactAt bs j)
 unfolding foldedArea
-folded-twice bs n block j w one two r e first second =
-    second ∙ ap (λ z. sentArea n block z (r .b) (r .a)) first ∙ ap (foldedArea n block w) e
+folded-by bs n block j w out r e sent = sent ∙ ap (foldedArea n block w) e
 
 -- ---- a mask
 

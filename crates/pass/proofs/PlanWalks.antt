@@ -3,27 +3,24 @@
 -- Assumes nothing.
 use Prim.Native.Nat.{ℕ, suc, _+_, _<_, _≤_}
 use native.Mathlib.Omega.{arith}
-use native.Mathlib.Decide.{ℕ-discrete}
 use native.Mathlib.Numerals.{add-one}
 use mathlib.Core.Path.{_≡_, refl, sym, _∙_}
 use mathlib.Core.Bool.{Bool, true, false, cond, _&&_}
 use mathlib.Core.List.{List}
-use mathlib.Core.Logic.{by-cases, _≢_}
+use mathlib.Core.Logic.{_≢_}
 use mathlib.Core.Option.{some}
-use borrow.Author.Tests.{eq-eqb, ne-eqb}
-use lib.Dec.{eqb}
 use lib.ListN.{length, getElem?}
 use Rattle.temporal.specs.Plan.{Contact, Plan, start, mayFollow}
 use Rattle.temporal.specs.Walk.{isAt}
 use Rattle.temporal.proofs.WalkLaws.{SlotsWithin}
 use Rattle.counting.proofs.Weights.{total, everywhere, cond-less, total-less}
 use Rattle.counting.proofs.Fewest.{Fewest, plus, delayed}
-use Rattle.counting.proofs.Recurrence.{before, atAppearance, arrivals, arrivals-suc, inflow-to-a, inflow-to-b}
+use Rattle.counting.proofs.Recurrence.{before, atAppearance, arrivals, arrivals-suc, inflow-to-hearer}
 use Rattle.counting.proofs.Recurrence.{inflow-other-station, arrivals-same, arrivals-zero, arrivals-all, settle}
 use Rattle.counting.proofs.Recurrence.{arrivals-less}
 use Rattle.entries.proofs.HopLaws.{walks-few}
-use Rattle.pass.specs.Sweep.{sentArea, foldedArea, Area}
-use Rattle.pass.proofs.StateLaws.{Walks, Sound, AreaState, sent-state, delayed-less}
+use Rattle.pass.specs.Sweep.{foldedArea, Area}
+use Rattle.pass.proofs.StateLaws.{Walks, Sound, AreaState, sent-state}
 use Rattle.pass.proofs.SettleLaws.{Settles}
 
 -- the walks to v that a contact in slot u may follow, by hops, where the permission g lets them go on from v
@@ -40,46 +37,20 @@ walksAt p s may u j =
       pending-avoiding = λ v c. arrivals p s (may c) j v u;
     }
 
--- ---- a contact's first half
+-- ---- a contact more
 
--- what contact c brings from its a to its b is added
-unfoldable half : Plan → ℕ → (ℕ → Bool) → ℕ → Contact → ℕ → ℕ → ℕ → ℕ
-half p s g j c u v k =
-    cond (eqb v (c .b)) (plus (arrivals p s g j v u) (delayed (kept p s g (c .a) u)) k) (arrivals p s g j v u k)
+module _ (p : Plan) (s : ℕ) (g : ℕ → Bool) (j : ℕ) (c : Contact) (u : ℕ) (there : getElem? (p .contacts) j ≡ some c)
+    (slot : c .slot ≡ u) where
+  -- what it brings from its sender is added for its hearer
+  at-hearer : (k : ℕ)
+      → plus (arrivals p s g j (c .hearer) u) (delayed (kept p s g (c .sender) u)) k ≡ arrivals p s g (j + 1) (c .hearer) u k
+  unfolding plus kept
+  at-hearer k = rw (add-one, arrivals-suc p s g j there (c .hearer) u k, inflow-to-hearer p s g c u k slot)
 
-unfoldable walksHalf : Plan → ℕ → (ℕ → ℕ → Bool) → ℕ → ℕ → Contact → Walks
-walksHalf p s may u j c =
-    record {
-      settled = λ v. kept p s everywhere v u;
-      settled-avoiding = λ v x. kept p s (may x) v u;
-      pending = half p s everywhere j c u;
-      pending-avoiding = λ v x. half p s (may x) j c u v;
-    }
-
-module _ (p : Plan) (s : ℕ) (g : ℕ → Bool) (j : ℕ) (c : Contact) (u : ℕ) where
-  half-b : (k : ℕ) → plus (arrivals p s g j (c .b) u) (delayed (kept p s g (c .a) u)) k ≡ half p s g j c u (c .b) k
-  unfolding half
-  half-b k = rw (eq-eqb (c .b) (c .b) refl)
-
-  half-other : (v k : ℕ) → v ≢ c .b → arrivals p s g j v u k ≡ half p s g j c u v k
-  unfolding half
-  half-other v k d = rw (ne-eqb v (c .b) d)
-
-  module _ (there : getElem? (p .contacts) j ≡ some c) (slot : c .slot ≡ u) (apart : c .a ≢ c .b) where
-    -- the second half makes it whole
-    whole-a : (k : ℕ)
-        → plus (half p s g j c u (c .a)) (delayed (kept p s g (c .b) u)) k ≡ arrivals p s g (j + 1) (c .a) u k
-    unfolding plus kept
-    whole-a k =
-        rw (add-one, arrivals-suc p s g j there (c .a) u k, inflow-to-a p s g c u k slot, half-other (c .a) k apart)
-
-    whole-other : (v k : ℕ) → v ≢ c .a → half p s g j c u v k ≡ arrivals p s g (j + 1) v u k
-    unfolding plus kept
-    whole-other v k d =
-        by-cases (ℕ-discrete v (c .b))
-        (λ e. rw (e, add-one, arrivals-suc p s g j there (c .b) u k, inflow-to-b p s g c u k slot) (sym (half-b k)))
-        (λ o. sym (half-other v k o)
-        ∙ rw (add-one, arrivals-suc p s g j there v u k, inflow-other-station p s g c v u k d o) (omega arith))
+  -- and nothing for another station
+  at-other : (v k : ℕ) → v ≢ c .hearer → arrivals p s g j v u k ≡ arrivals p s g (j + 1) v u k
+  at-other v k d =
+      rw (add-one, arrivals-suc p s g j there v u k, inflow-other-station p s g c v u k d) (omega arith)
 
 -- ---- those under a permission are no more
 
@@ -92,31 +63,12 @@ unfolding kept
 kept-less p s g v u k =
     cond-less (g v) (everywhere v) (wider g v) (total-less p g everywhere (wider g) (start s) (before p v u) k)
 
-half-less : (p : Plan) (s : ℕ) (g : ℕ → Bool) (j : ℕ) (c : Contact) (u v k : ℕ)
-    → half p s g j c u v k ≤ half p s everywhere j c u v k
-unfolding half plus
-half-less p s g j c u v k =
-    go (eqb v (c .b)) (arrivals-less p s g everywhere (wider g) j v u k)
-    (delayed-less (kept-less p s g (c .a) u) k)
-  where
-    go : (b : Bool) {x y x′ y′ : ℕ} → x ≤ y → x′ ≤ y′ → cond b (x + x′) x ≤ cond b (y + y′) y
-    go true h l = omega arith
-    go false h l = h
-
 sound-at : (p : Plan) (s : ℕ) (may : ℕ → ℕ → Bool) (u j : ℕ) → Sound (walksAt p s may u j)
 unfolding walksAt
 sound-at p s may u j =
     record {
       settled = λ v c k. kept-less p s (may c) v u k;
       pending = λ v c k. arrivals-less p s (may c) everywhere (wider (may c)) j v u k;
-    }
-
-sound-half : (p : Plan) (s : ℕ) (may : ℕ → ℕ → Bool) (u j : ℕ) (c : Contact) → Sound (walksHalf p s may u j c)
-unfolding walksHalf
-sound-half p s may u j c =
-    record {
-      settled = λ v x k. kept-less p s (may x) v u k;
-      pending = λ v x k. half-less p s (may x) j c u v k;
     }
 
 -- ---- a slot is settled
@@ -178,24 +130,14 @@ module _ (p : Plan) (fits : SlotsWithin p) (few : p .slots ≤ 255) (s : ℕ) (m
 
   -- Folding the contact at position j, in slot u: its walks have arrived too.
   pub folded-state : (u j : ℕ) (c : Contact) (w : List ℕ) → getElem? (p .contacts) j ≡ some c → c .slot ≡ u
-      → c .a < n → c .b < n → c .a ≢ c .b
+      → c .sender < n → c .hearer < n
       → AreaState n block old (walksAt p s may u j) w
       → AreaState n block old (walksAt p s may u (j + 1)) (foldedArea n block w c)
-  unfolding foldedArea walksAt walksHalf
-  folded-state u j c w there slot ha hb apart state =
-      sent-state n block old area (walksHalf p s may u j c) (walksAt p s may u (j + 1)) (sentArea n block w (c .a) (c .b))
-      (c .b) (c .a) hb ha (sound-half p s may u j c) first (one-more (c .b) u (first .settled (c .b) hb .entry .fewest))
+  unfolding foldedArea walksAt
+  folded-state u j c w there slot sender hearer state =
+      sent-state n block old area (walksAt p s may u j) (walksAt p s may u (j + 1)) w (c .sender) (c .hearer) sender hearer
+      (sound-at p s may u j) state (one-more (c .sender) u (state .settled (c .sender) sender .entry .fewest))
       (λ v k. refl) (λ v x k. refl)
-      (whole-a p s everywhere j c u there slot apart)
-      (λ x. whole-a p s (may x) j c u there slot apart)
-      (λ v k. whole-other p s everywhere j c u there slot apart v k)
-      (λ v x k. whole-other p s (may x) j c u there slot apart v k)
-    where
-      first : AreaState n block old (walksHalf p s may u j c) (sentArea n block w (c .a) (c .b))
-      first =
-          sent-state n block old area (walksAt p s may u j) (walksHalf p s may u j c) w (c .a) (c .b) ha hb
-          (sound-at p s may u j) state (one-more (c .a) u (state .settled (c .a) ha .entry .fewest))
-          (λ v k. refl) (λ v x k. refl)
-          (half-b p s everywhere j c u) (λ x. half-b p s (may x) j c u)
-          (λ v k. half-other p s everywhere j c u v k)
-          (λ v x k. half-other p s (may x) j c u v k)
+      (at-hearer p s everywhere j c u there slot) (λ x. at-hearer p s (may x) j c u there slot)
+      (λ v k. at-other p s everywhere j c u there slot v k)
+      (λ v x k. at-other p s (may x) j c u there slot v k)

@@ -112,7 +112,7 @@ module _ (n block : ℕ) (old : List ℕ) (area : Area n block old) where
       settled-hops : (v : ℕ) → v < n → getD w′ v 0 ≡ getD w v 0
       settled-hops v q = took .other v (omega arith) (omega arith) (inl (omega arith))
 
-  -- ---- a send from a to b
+  -- ---- a send from station a to station b
 
   -- what is settled for a, one hop later, is pending for b too
   pub sent-state : (x y : Walks) (w : List ℕ) (a b : ℕ) → a < n → b < n → Sound x → AreaState n block old x w

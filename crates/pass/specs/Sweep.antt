@@ -23,9 +23,9 @@ sentArea n block w v x =
     (mergedArea n w (2 * n + x) (getD w v 0 + 1) (getD w (v + n) 0)))
     w
 
--- both ways over a contact
+-- over a contact, from its sender to its hearer
 unfoldable pub foldedArea : ℕ → ℕ → List ℕ → Contact → List ℕ
-foldedArea n block w c = sentArea n block (sentArea n block w (c .a) (c .b)) (c .b) (c .a)
+foldedArea n block w c = sentArea n block w (c .sender) (c .hearer)
 
 -- the column that stands for v becomes 0 in v's own row, where one stands for it and v is not the source; col gives the column of
 -- a station, block or more where none stands for it
@@ -79,6 +79,6 @@ pub record Area (n block : ℕ) (w : List ℕ) : Type 0 where
 -- the record at j can be folded in: it is there, and its stations lie within the plan
 pub record FoldableArea (bs : List ℕ) (n block j : ℕ) (w : List ℕ) : Type 0 where
   pub inside : j * 6 + 5 < length bs
-  pub a-station : contactAt bs j .a < n
-  pub b-station : contactAt bs j .b < n
+  pub sender-station : contactAt bs j .sender < n
+  pub hearer-station : contactAt bs j .hearer < n
   pub area : Area n block w

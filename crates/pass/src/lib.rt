@@ -149,14 +149,13 @@ fn send(work: &mut [u64], n: usize, block: usize, v: usize, x: usize)
     }
 }
 
-// Folds the record at j in, both ways.
+// Folds the record at j in.
 fn fold_record(work: &mut [u64], plan: &[u8], n: usize, block: usize, j: usize)
     requires { ⌜ FoldableArea (now plan) n block j (now work) ⌝ }
     ensures { λ _. ⌜ now (work .exit) ≡ foldedArea n block (now (work .entry)) (contactAt (now (plan .entry)) j) ⌝ }
 {
     let c = plan::contact_at(plan, j);
-    send(work, n, block, c.a, c.b);
-    send(work, n, block, c.b, c.a);
+    send(work, n, block, c.sender, c.hearer);
 }
 
 // The column that stands for station v, or none.

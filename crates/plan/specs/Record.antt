@@ -10,7 +10,7 @@ use Rattle.plan.specs.declared.Contact.{Contact}
 
 -- the contact that a struct of the code holds
 abbrev pub contactOf : Contact → temporal.Contact
-contactOf r = record { slot = r .slot; a = r .a; b = r .b }
+contactOf r = record { slot = r .slot; sender = r .sender; hearer = r .hearer }
 
 -- whether there is a record at position j and it lies in slot u
 unfoldable pub inSlot : List ℕ → ℕ → ℕ → Bool

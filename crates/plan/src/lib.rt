@@ -85,11 +85,11 @@ pub fn check_number(answer: CheckAnswer) -> usize
     }
 }
 
-// A record: two stations that hear each other in a slot.
+// A record: in a slot a station sends and another hears.
 pub struct Contact {
     pub slot: usize,
-    pub a: usize,
-    pub b: usize,
+    pub sender: usize,
+    pub hearer: usize,
 }
 
 // A byte as a number below 256.
@@ -115,8 +115,8 @@ pub fn contact_at(plan: &[u8], i: usize) -> Contact
     let at = i * 6;
     Contact {
         slot: word_at(plan, at),
-        a: word_at(plan, at + 2),
-        b: word_at(plan, at + 4),
+        sender: word_at(plan, at + 2),
+        hearer: word_at(plan, at + 4),
     }
 }
 
@@ -132,7 +132,7 @@ pub fn in_slot(plan: &[u8], j: usize, u: usize) -> bool
     }
 }
 
-// Whether d is above c, compared by slot, then a, then b.
+// Whether d is above c, compared by slot, then sender, then hearer.
 fn is_above(c: Contact, d: Contact) -> bool
     ensures { λ r. ⌜ r ≡ isAbove (contactOf c) (contactOf d) ⌝ }
 {
@@ -142,13 +142,13 @@ fn is_above(c: Contact, d: Contact) -> bool
     if d.slot < c.slot {
         return false;
     }
-    if c.a < d.a {
+    if c.sender < d.sender {
         return true;
     }
-    if d.a < c.a {
+    if d.sender < c.sender {
         return false;
     }
-    c.b < d.b
+    c.hearer < d.hearer
 }
 
 // The first of the causes 3, 4 and 5 of the record at i. It is compared with its neighbour once it passed 3 and 4.
@@ -163,10 +163,13 @@ fn check_record(plan: &[u8], n: usize, t: usize, i: usize) -> CheckAnswer
     if t < c.slot {
         return CheckAnswer::Refused(PlanFault::Slot);
     }
-    if c.b <= c.a {
+    if c.sender == c.hearer {
         return CheckAnswer::Refused(PlanFault::Ends);
     }
-    if n <= c.b {
+    if n <= c.sender {
+        return CheckAnswer::Refused(PlanFault::Ends);
+    }
+    if n <= c.hearer {
         return CheckAnswer::Refused(PlanFault::Ends);
     }
     if i == 0 {
@@ -201,7 +204,7 @@ pub fn check(plan: &[u8], n: usize, t: usize) -> CheckAnswer
         return CheckAnswer::Refused(PlanFault::Length);
     }
     let m = size / 6;
-    if 4096 < m {
+    if 8192 < m {
         return CheckAnswer::Refused(PlanFault::Length);
     }
     let mut i = 0;

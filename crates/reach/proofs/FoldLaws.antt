@@ -16,7 +16,7 @@ use Rattle.temporal.proofs.Accepted.{accepted}
 use Rattle.temporal.proofs.PlanLaws.{contact-there, slots-within}
 use Rattle.counting.proofs.Weights.{everywhere}
 use Rattle.counting.proofs.Fewest.{Fewest, plus, delayed}
-use Rattle.counting.proofs.Recurrence.{before, arrivals, arrivals-suc, inflow-other-station, inflow-to-a, inflow-to-b}
+use Rattle.counting.proofs.Recurrence.{before, arrivals, arrivals-suc, inflow-other-station, inflow-to-hearer}
 use Rattle.reach.specs.Table.{Table, foldedTable, sentTable, Fits}
 use Rattle.reach.specs.Pass.{Tables, Beyond}
 use Rattle.reach.proofs.PlaceLaws.{place-below}
@@ -46,103 +46,56 @@ ready-few bs n t s v u h ok f reached =
 
 -- ---- a table with a contact folded in
 
-module _ (x y : Table) (c : Contact) (n width : ℕ) (fits : Fits n width x y)
-    (ends : c .a < c .b) (inside : c .b < n) (slot : c .slot < width) where
-  -- the places of a and of b differ
-  apart : c .b * width + c .slot ≢ c .a * width + c .slot
-  apart = stations-apart (c .b) (c .slot) (c .a) (c .slot) width slot slot (λ e. omega arith)
-
-  -- every place but those two is as it was
+module _ (x y : Table) (c : Contact) (n width : ℕ) (fits : Fits n width x y) (inside : c .hearer < n) (slot : c .slot < width) where
+  -- every place but the hearer's is as it was
   pub folded-other-hops :
-      (i : ℕ) → i ≢ c .a * width + c .slot → i ≢ c .b * width + c .slot →
-      getD (foldedTable width x y c .hops) i 0 ≡ getD (x .hops) i 0
+      (i : ℕ) → i ≢ c .hearer * width + c .slot → getD (foldedTable width x y c .hops) i 0 ≡ getD (x .hops) i 0
   unfolding foldedTable
-  folded-other-hops i not-a not-b =
-      sent-other-hops _ y (c .b) (c .a * width + c .slot) i not-a ∙
-      sent-other-hops x y (c .a) (c .b * width + c .slot) i not-b
+  folded-other-hops i other = sent-other-hops x y (c .sender) (c .hearer * width + c .slot) i other
 
   pub folded-other-counts :
-      (i : ℕ) → i ≢ c .a * width + c .slot → i ≢ c .b * width + c .slot →
-      getD (foldedTable width x y c .counts) i 0 ≡ getD (x .counts) i 0
+      (i : ℕ) → i ≢ c .hearer * width + c .slot → getD (foldedTable width x y c .counts) i 0 ≡ getD (x .counts) i 0
   unfolding foldedTable
-  folded-other-counts i not-a not-b =
-      sent-other-counts _ y (c .b) (c .a * width + c .slot) i not-a ∙
-      sent-other-counts x y (c .a) (c .b * width + c .slot) i not-b
+  folded-other-counts i other = sent-other-counts x y (c .sender) (c .hearer * width + c .slot) i other
 
-  -- b's appearance has what a sends on besides
-  pub entry-folded-b :
-      (N M : ℕ → ℕ) → (getD (y .hops) (c .a) 0 < 65535 → getD (y .hops) (c .a) 0 + 1 < 65535) →
-      EntryAt N x (c .b * width + c .slot) → EntryAt M y (c .a) →
-      EntryAt (plus N (delayed M)) (foldedTable width x y c) (c .b * width + c .slot)
+  -- the hearer's appearance has what the sender sends on besides
+  pub entry-folded :
+      (N M : ℕ → ℕ) → (getD (y .hops) (c .sender) 0 < 65535 → getD (y .hops) (c .sender) 0 + 1 < 65535) →
+      EntryAt N x (c .hearer * width + c .slot) → EntryAt M y (c .sender) →
+      EntryAt (plus N (delayed M)) (foldedTable width x y c) (c .hearer * width + c .slot)
   unfolding foldedTable
-  entry-folded-b N M few e f =
-      let first = sentTable x y (c .a) (c .b * width + c .slot) in
-      entry-kept first (sentTable first y (c .b) (c .a * width + c .slot)) (c .b * width + c .slot)
-      (sent-other-hops first y (c .b) (c .a * width + c .slot) _ apart)
-      (sent-other-counts first y (c .b) (c .a * width + c .slot) _ apart)
-      (entry-sent x y (c .a) (c .b * width + c .slot) N M
-      (place-below (c .b) (c .slot) n width _ inside slot (fits .hops))
-      (place-below (c .b) (c .slot) n width _ inside slot (fits .counts)) few e f)
-
-  -- a's appearance has what b sends on besides
-  pub entry-folded-a :
-      (N M : ℕ → ℕ) → (getD (y .hops) (c .b) 0 < 65535 → getD (y .hops) (c .b) 0 + 1 < 65535) →
-      EntryAt N x (c .a * width + c .slot) → EntryAt M y (c .b) →
-      EntryAt (plus N (delayed M)) (foldedTable width x y c) (c .a * width + c .slot)
-  unfolding foldedTable
-  entry-folded-a N M few e f =
-      let first = sentTable x y (c .a) (c .b * width + c .slot) in
-      let kept = beyond-sent (c .b * width + c .slot + 1) x x y (c .a) (c .b * width + c .slot) (omega arith)
-      (beyond-refl _ x) in
-      let hops-kept = kept .hops-length in
-      let counts-kept = kept .counts-length in
-      let below-hops = place-below (c .a) (c .slot) n width _ (omega arith) slot (fits .hops) in
-      let below-counts = place-below (c .a) (c .slot) n width _ (omega arith) slot (fits .counts) in
-      entry-sent first y (c .b) (c .a * width + c .slot) N M (omega arith) (omega arith) few
-      (entry-kept x first (c .a * width + c .slot)
-      (sent-other-hops x y (c .a) (c .b * width + c .slot) _ (λ q. apart (sym q)))
-      (sent-other-counts x y (c .a) (c .b * width + c .slot) _ (λ q. apart (sym q))) e) f
+  entry-folded N M few e f =
+      entry-sent x y (c .sender) (c .hearer * width + c .slot) N M
+      (place-below (c .hearer) (c .slot) n width _ inside slot (fits .hops))
+      (place-below (c .hearer) (c .slot) n width _ inside slot (fits .counts)) few e f
 
   pub beyond-folded : (z : Table) → Beyond (n * width) z x → Beyond (n * width) z (foldedTable width x y c)
   unfolding foldedTable
   beyond-folded z b =
-      beyond-sent (n * width) z _ y (c .b) (c .a * width + c .slot)
-      (place-below (c .a) (c .slot) n width _ (omega arith) slot (omega arith))
-      (beyond-sent (n * width) z x y (c .a) (c .b * width + c .slot)
-      (place-below (c .b) (c .slot) n width _ inside slot (omega arith)) b)
+      beyond-sent (n * width) z x y (c .sender) (c .hearer * width + c .slot)
+      (place-below (c .hearer) (c .slot) n width _ inside slot (omega arith)) b
 
 module _ (bs : List ℕ) (n t s : ℕ) (ok : planFault bs n t ≡ 0) where
   -- ---- what one record brings
 
-  -- to a station that is none of its two: nothing
+  -- to a station that is not its hearer: nothing
   arrive-other :
-      (u j w : ℕ) → j < records bs → w ≢ contactAt bs j .a → w ≢ contactAt bs j .b → (k : ℕ) →
+      (u j w : ℕ) → j < records bs → w ≢ contactAt bs j .hearer → (k : ℕ) →
       arrivals (planOf bs n t) s everywhere j w u k ≡ arrivals (planOf bs n t) s everywhere (suc j) w u k
-  arrive-other u j w there not-a not-b k =
+  arrive-other u j w there other k =
       let more = arrivals-suc (planOf bs n t) s everywhere j (contact-there bs n t j there) w u k in
-      let none = inflow-other-station (planOf bs n t) s everywhere (contactAt bs j) w u k not-a not-b in
+      let none = inflow-other-station (planOf bs n t) s everywhere (contactAt bs j) w u k other in
       omega arith
 
-  -- to b: what a has, one hop later
-  arrive-b :
+  -- to its hearer: what its sender has, one hop later
+  arrive-hearer :
       (u j : ℕ) → j < records bs → contactAt bs j .slot ≡ u → (k : ℕ) →
-      plus (arrivals (planOf bs n t) s everywhere j (contactAt bs j .b) u) (delayed (ready bs n t s (contactAt bs j .a) u)) k ≡
-      arrivals (planOf bs n t) s everywhere (suc j) (contactAt bs j .b) u k
+      plus (arrivals (planOf bs n t) s everywhere j (contactAt bs j .hearer) u) (delayed (ready bs n t s (contactAt bs j .sender) u)) k ≡
+      arrivals (planOf bs n t) s everywhere (suc j) (contactAt bs j .hearer) u k
   unfolding plus everywhere
-  arrive-b u j there slot k =
-      let more = arrivals-suc (planOf bs n t) s everywhere j (contact-there bs n t j there) (contactAt bs j .b) u k in
-      let brings = inflow-to-b (planOf bs n t) s everywhere (contactAt bs j) u k slot in
-      omega arith
-
-  -- to a: what b has, one hop later
-  arrive-a :
-      (u j : ℕ) → j < records bs → contactAt bs j .slot ≡ u → (k : ℕ) →
-      plus (arrivals (planOf bs n t) s everywhere j (contactAt bs j .a) u) (delayed (ready bs n t s (contactAt bs j .b) u)) k ≡
-      arrivals (planOf bs n t) s everywhere (suc j) (contactAt bs j .a) u k
-  unfolding plus everywhere
-  arrive-a u j there slot k =
-      let more = arrivals-suc (planOf bs n t) s everywhere j (contact-there bs n t j there) (contactAt bs j .a) u k in
-      let brings = inflow-to-a (planOf bs n t) s everywhere (contactAt bs j) u k slot in
+  arrive-hearer u j there slot k =
+      let more = arrivals-suc (planOf bs n t) s everywhere j (contact-there bs n t j there) (contactAt bs j .hearer) u k in
+      let brings = inflow-to-hearer (planOf bs n t) s everywhere (contactAt bs j) u k slot in
       omega arith
 
   -- after slot 0, what is pending is what the records bring
@@ -171,11 +124,11 @@ module _ (bs : List ℕ) (n t s : ℕ) (ok : planFault bs n t ≡ 0) where
         rest = λ i low last. st .rest i (omega arith) last;
         within = omega (arith, there);
         fits = fits-beyond n (t + 1) x (record { appearances = new; stations = x .stations }) (st .fits)
-            (beyond-folded (x .appearances) (x .stations) c n (t + 1) (st .fits) ends inside slot (x .appearances)
+            (beyond-folded (x .appearances) (x .stations) c n (t + 1) (st .fits) inside slot (x .appearances)
             (beyond-refl _ (x .appearances)))
             (beyond-refl _ (x .stations));
         appearances-beyond =
-            beyond-folded (x .appearances) (x .stations) c n (t + 1) (st .fits) ends inside slot (old .appearances)
+            beyond-folded (x .appearances) (x .stations) c n (t + 1) (st .fits) inside slot (old .appearances)
             (st .appearances-beyond);
         stations-beyond = st .stations-beyond;
       }
@@ -192,11 +145,11 @@ module _ (bs : List ℕ) (n t s : ℕ) (ok : planFault bs n t ≡ 0) where
       at-slot : contactAt bs j .slot ≡ u
       at-slot = in-slot-inv bs j u here .1
 
-      ends : contactAt bs j .a < contactAt bs j .b
-      ends = accepted bs n t ok .contact j there .ends
+      sender : contactAt bs j .sender < n
+      sender = accepted bs n t ok .contact j there .sender-station
 
-      inside : contactAt bs j .b < n
-      inside = accepted bs n t ok .contact j there .station
+      inside : contactAt bs j .hearer < n
+      inside = accepted bs n t ok .contact j there .hearer-station
 
       slot : contactAt bs j .slot < t + 1
       slot = let last = accepted bs n t ok .contact j there .to-last in omega arith
@@ -205,17 +158,15 @@ module _ (bs : List ℕ) (n t s : ℕ) (ok : planFault bs n t ≡ 0) where
           (v r : ℕ) → v < n → r < t + 1 → r ≢ u →
           getD (new .hops) (v * (t + 1) + r) 0 ≡ getD (x .appearances .hops) (v * (t + 1) + r) 0
       other-hops v r h last ne =
-          folded-other-hops (x .appearances) (x .stations) c n (t + 1) (st .fits) ends inside slot (v * (t + 1) + r)
-          (slots-apart v r (c .a) (c .slot) (t + 1) last slot (λ q. ne (q ∙ at-slot)))
-          (slots-apart v r (c .b) (c .slot) (t + 1) last slot (λ q. ne (q ∙ at-slot)))
+          folded-other-hops (x .appearances) (x .stations) c n (t + 1) (st .fits) inside slot (v * (t + 1) + r)
+          (slots-apart v r (c .hearer) (c .slot) (t + 1) last slot (λ q. ne (q ∙ at-slot)))
 
       other-counts :
           (v r : ℕ) → v < n → r < t + 1 → r ≢ u →
           getD (new .counts) (v * (t + 1) + r) 0 ≡ getD (x .appearances .counts) (v * (t + 1) + r) 0
       other-counts v r h last ne =
-          folded-other-counts (x .appearances) (x .stations) c n (t + 1) (st .fits) ends inside slot (v * (t + 1) + r)
-          (slots-apart v r (c .a) (c .slot) (t + 1) last slot (λ q. ne (q ∙ at-slot)))
-          (slots-apart v r (c .b) (c .slot) (t + 1) last slot (λ q. ne (q ∙ at-slot)))
+          folded-other-counts (x .appearances) (x .stations) c n (t + 1) (st .fits) inside slot (v * (t + 1) + r)
+          (slots-apart v r (c .hearer) (c .slot) (t + 1) last slot (λ q. ne (q ∙ at-slot)))
 
       later : 0 < u
       later = let from-one = accepted bs n t ok .contact j there .from-one in omega (arith, at-slot)
@@ -232,34 +183,23 @@ module _ (bs : List ℕ) (n t s : ℕ) (ok : planFault bs n t ≡ 0) where
 
       arrived : (v : ℕ) → v < n → EntryAt (arrivals (planOf bs n t) s everywhere (j + 1) v u) new (v * (t + 1) + u)
       arrived v h =
-          by-cases (ℕ-discrete v (c .b))
+          by-cases (ℕ-discrete v (c .hearer))
           (λ q. rw (q, add-one j)
-          (subst (EntryAt (arrivals (planOf bs n t) s everywhere (suc j) (c .b) u) new) (same-place (c .b))
-          (entry-ext (arrive-b u j there at-slot)
-          (entry-folded-b (x .appearances) (x .stations) c n (t + 1) (st .fits) ends inside slot _ _
-          (few (c .a) (omega (arith, ends, inside)))
-          (subst (EntryAt (arrivals (planOf bs n t) s everywhere j (c .b) u) (x .appearances)) (sym (same-place (c .b)))
-          (was (c .b) inside))
-          (st .station (c .a) (omega (arith, ends, inside)))))))
-          (λ not-b. by-cases (ℕ-discrete v (c .a))
-          (λ q. rw (q, add-one j)
-          (subst (EntryAt (arrivals (planOf bs n t) s everywhere (suc j) (c .a) u) new) (same-place (c .a))
-          (entry-ext (arrive-a u j there at-slot)
-          (entry-folded-a (x .appearances) (x .stations) c n (t + 1) (st .fits) ends inside slot _ _
-          (few (c .b) inside)
-          (subst (EntryAt (arrivals (planOf bs n t) s everywhere j (c .a) u) (x .appearances))
-          (sym (same-place (c .a))) (was (c .a) (omega (arith, ends, inside))))
-          (st .station (c .b) inside)))))
-          (λ not-a. rw (add-one j)
-          (entry-ext (arrive-other u j v there not-a not-b)
+          (subst (EntryAt (arrivals (planOf bs n t) s everywhere (suc j) (c .hearer) u) new) (same-place (c .hearer))
+          (entry-ext (arrive-hearer u j there at-slot)
+          (entry-folded (x .appearances) (x .stations) c n (t + 1) (st .fits) inside slot _ _
+          (few (c .sender) sender)
+          (subst (EntryAt (arrivals (planOf bs n t) s everywhere j (c .hearer) u) (x .appearances)) (sym (same-place (c .hearer)))
+          (was (c .hearer) inside))
+          (st .station (c .sender) sender)))))
+          (λ other. rw (add-one j)
+          (entry-ext (arrive-other u j v there other)
           (entry-kept (x .appearances) new (v * (t + 1) + u)
-          (folded-other-hops (x .appearances) (x .stations) c n (t + 1) (st .fits) ends inside slot _
-          (stations-apart v u (c .a) (c .slot) (t + 1) slot-below slot not-a)
-          (stations-apart v u (c .b) (c .slot) (t + 1) slot-below slot not-b))
-          (folded-other-counts (x .appearances) (x .stations) c n (t + 1) (st .fits) ends inside slot _
-          (stations-apart v u (c .a) (c .slot) (t + 1) slot-below slot not-a)
-          (stations-apart v u (c .b) (c .slot) (t + 1) slot-below slot not-b))
-          (was v h)))))
+          (folded-other-hops (x .appearances) (x .stations) c n (t + 1) (st .fits) inside slot _
+          (stations-apart v u (c .hearer) (c .slot) (t + 1) slot-below slot other))
+          (folded-other-counts (x .appearances) (x .stations) c n (t + 1) (st .fits) inside slot _
+          (stations-apart v u (c .hearer) (c .slot) (t + 1) slot-below slot other))
+          (was v h))))
 
       pending : (v : ℕ) → v < n → EntryAt (pendingWalks bs n t s u (j + 1) v) new (v * (t + 1) + u)
       pending v h = entry-ext (λ k. sym (pending-arrivals u (j + 1) v later k)) (arrived v h)

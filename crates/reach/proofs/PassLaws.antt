@@ -22,14 +22,12 @@ module _ (bs : List ℕ) (n width u j : ℕ) (x : Tables) where
       let a = accepted bs n (width - 1) (r .accepted) in
       let c = a .contact j there in
       let whole = a .whole in
-      let ends = c .ends in
-      let station = c .station in
       let last = c .to-last in
       let some = r .some-width in
       record {
         inside = omega arith;
-        a-station = omega arith;
-        b-station = c .station;
+        sender-station = c .sender-station;
+        hearer-station = c .hearer-station;
         slot = omega arith;
         fits = r .fits;
       }

@@ -43,8 +43,8 @@ fits-kept n width x y x′ y′ f h c sh sc =
 
 -- the record that was read lies within the tables
 pub record Within (n width : ℕ) (r : Contact) : Type 0 where
-  pub a : r .a < n
-  pub b : r .b < n
+  pub sender : r .sender < n
+  pub hearer : r .hearer < n
   pub slot : r .slot < width
 
 pub read-within :
@@ -52,19 +52,17 @@ pub read-within :
     contactOf r ≡ contactAt bs j → Within n width r
 read-within bs n width j x y r f e =
     record {
-      a = subst (λ c. c .a < n) (sym e) (f .a-station);
-      b = subst (λ c. c .b < n) (sym e) (f .b-station);
+      sender = subst (λ c. c .sender < n) (sym e) (f .sender-station);
+      hearer = subst (λ c. c .hearer < n) (sym e) (f .hearer-station);
       slot = subst (λ c. c .slot < width) (sym e) (f .slot);
     }
 
--- two sends over the record that was read fold it in
-pub folded-twice :
-    (bs : List ℕ) (width j : ℕ) (x first second y : Table) (r : Contact) → contactOf r ≡ contactAt bs j →
-    first ≡ sentTable x y (r .a) (r .b * width + r .slot) → second ≡ sentTable first y (r .b) (r .a * width + r .slot) →
-    second ≡ foldedTable width x y (contactAt bs j)
+-- a send over the record that was read folds it in
+pub folded-by :
+    (bs : List ℕ) (width j : ℕ) (x out y : Table) (r : Contact) → contactOf r ≡ contactAt bs j →
+    out ≡ sentTable x y (r .sender) (r .hearer * width + r .slot) → out ≡ foldedTable width x y (contactAt bs j)
 unfolding foldedTable
-folded-twice bs width j x first second y r e one two =
-    two ∙ ap (λ z. sentTable z y (r .b) (r .a * width + r .slot)) one ∙ ap (foldedTable width x y) e
+folded-by bs width j x out y r e sent = sent ∙ ap (foldedTable width x y) e
 
 -- an accepted plan has few places
 pub few-places : (bs : List ℕ) (n t : ℕ) → planFault bs n t ≡ 0 → n * (t + 1) ≤ 65536

@@ -115,7 +115,7 @@ running-end bs n t s width old x u j y last ready b r =
 -- what the loop counts stays small
 pub running-few :
     (bs : List ℕ) (n t s width : ℕ) (old : Tables) (u j : ℕ) (x : Tables) → Running bs n t s width old u j x →
-    (j ≤ 4096) × (u ≤ 256)
+    (j ≤ 8192) × (u ≤ 256)
 running-few bs n t s width old u j x r =
     let a = accepted bs n t (r .accepted) in
     let few = a .few in

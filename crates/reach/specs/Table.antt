@@ -29,10 +29,9 @@ unfoldable pub sentTable : Table → Table → ℕ → ℕ → Table
 sentTable x y v at =
     cond (ltb (getD (y .hops) v 0) 65535) (mergedTable x at (getD (y .hops) v 0 + 1) (getD (y .counts) v 0)) x
 
--- both ways over a contact: from stations' entries to the appearances of its slot, width entries a station
+-- over a contact: from its sender's entry to its hearer's appearance of its slot, width entries a station
 unfoldable pub foldedTable : ℕ → Table → Table → Contact → Table
-foldedTable width x y c =
-    sentTable (sentTable x y (c .a) (c .b * width + c .slot)) y (c .b) (c .a * width + c .slot)
+foldedTable width x y c = sentTable x y (c .sender) (c .hearer * width + c .slot)
 
 -- the appearances of slot u are taken into the stations' entries, for k stations from v on
 unfoldable pub settledTable : ℕ → ℕ → Table → Table → ℕ → ℕ → Table
@@ -62,7 +61,7 @@ pub record Fits (n width : ℕ) (x y : Table) : Type 0 where
 -- the record at j can be folded in: it is there, its stations and its slot lie within the tables
 pub record FoldableTables (bs : List ℕ) (n width j : ℕ) (x y : Table) : Type 0 where
   pub inside : j * 6 + 5 < length bs
-  pub a-station : contactAt bs j .a < n
-  pub b-station : contactAt bs j .b < n
+  pub sender-station : contactAt bs j .sender < n
+  pub hearer-station : contactAt bs j .hearer < n
   pub slot : contactAt bs j .slot < width
   pub fits : Fits n width x y

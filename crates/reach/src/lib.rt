@@ -140,7 +140,7 @@ fn any_overflows(hops: &[u16], counts: &[u64], k: usize) -> bool
     false
 }
 
-// Folds the record at j in, both ways.
+// Folds the record at j in.
 fn fold_record(
     hops: &mut [u16],
     counts: &mut [u64],
@@ -160,16 +160,8 @@ fn fold_record(
         counts,
         station_hops,
         station_counts,
-        c.a,
-        c.b * width + c.slot,
-    );
-    send(
-        hops,
-        counts,
-        station_hops,
-        station_counts,
-        c.b,
-        c.a * width + c.slot,
+        c.sender,
+        c.hearer * width + c.slot,
     );
 }
 

@@ -69,7 +69,7 @@ refusal-length k =
     length-append (ascii "refused ") (decimal k ++ lineFeed) ∙ rw (length-append (decimal k) lineFeed) (omega arith)
 
 -- it fits the output buffer
-pub refusal-room : (k size : ℕ) → size ≡ 696 → 0 + length (refusalText k) ≤ size
+pub refusal-room : (k size : ℕ) → size ≡ 697 → 0 + length (refusalText k) ≤ size
 refusal-room k size e = omega (arith, refusal-length k, decimal-most k)
 
 -- no fault has the number 0
@@ -167,10 +167,10 @@ module _ (bs : List ℕ) (n t : ℕ) (out ps ls area : List ℕ) (w : Within bs 
   unfolding overLimits
   few-slots = ltb-false 63 t (or-false-right (ltb 32 n) (ltb 63 t) (w .limits))
 
-  few-records : records bs ≤ 512
+  few-records : records bs ≤ 1024
   unfolding wrongInput
   few-records =
-      ltb-false 512 (records bs) (or-false-right (not (eqb (length bs % 6) 0)) (ltb 512 (records bs)) (w .right-input))
+      ltb-false 1024 (records bs) (or-false-right (not (eqb (length bs % 6) 0)) (ltb 1024 (records bs)) (w .right-input))
 
   passes : first (inputCauses bs) ≡ 0
   passes = no-input-cause bs (w .right-input) (rw (← w .stations, ← w .slots) (w .limits))

@@ -15,7 +15,7 @@ largest (x ∷ l) = max x (largest l)
 
 -- the larger station number of the record at a position
 unfoldable pub topStation : List ℕ → ℕ → ℕ
-topStation bs i = max (contactAt bs i .a) (contactAt bs i .b)
+topStation bs i = max (contactAt bs i .sender) (contactAt bs i .hearer)
 
 -- n: one more than the largest station number of all records; 1 for an empty input
 unfoldable pub inputStations : List ℕ → ℕ
@@ -25,9 +25,9 @@ inputStations bs = largest (map (topStation bs) (below (records bs))) + 1
 unfoldable pub inputSlots : List ℕ → ℕ
 inputSlots bs = cond (eqb (records bs) 0) 1 (contactAt bs (records bs - 1) .slot)
 
--- the program's 2: not a multiple of 6 bytes, or over 512 records
+-- the program's 2: not a multiple of 6 bytes, or over 1,024 records
 unfoldable pub wrongInput : List ℕ → Bool
-wrongInput bs = not (eqb (length bs % 6) 0) || ltb 512 (records bs)
+wrongInput bs = not (eqb (length bs % 6) 0) || ltb 1024 (records bs)
 
 -- the program's 1: n over 32, or T over 63. (T = 0 is 1 of every operation.)
 unfoldable pub overLimits : ℕ → ℕ → Bool

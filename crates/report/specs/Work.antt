@@ -29,7 +29,7 @@ pub record Within (bs : List ℕ) (n t : ℕ) (out ps ls work : List ℕ) : Type
   pub stations : n ≡ inputStations bs
   pub slots : t ≡ inputSlots bs
   pub limits : overLimits n t ≡ false
-  pub out-size : length out ≡ 696
+  pub out-size : length out ≡ 697
   pub pairs-size : length ps ≡ 32
   pub loads-size : length ls ≡ 32
   pub work-size : length work ≡ 8192

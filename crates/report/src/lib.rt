@@ -25,7 +25,7 @@ fn top_station(input: &[u8], i: usize) -> usize
     ensures { λ r. ⌜ r ≡ topStation (now (input .entry)) i ⌝ }
 {
     let c = plan::contact_at(input, i);
-    larger(c.a, c.b)
+    larger(c.sender, c.hearer)
 }
 
 // The largest station number of all records; 0 where there is no record.
@@ -54,14 +54,14 @@ fn slots_of(input: &[u8]) -> usize
     c.slot
 }
 
-// Whether the input is not a multiple of 6 bytes, or over 512 records.
+// Whether the input is not a multiple of 6 bytes, or over 1,024 records.
 fn wrong_input(input: &[u8]) -> bool
     ensures { λ r. ⌜ r ≡ wrongInput (now (input .entry)) ⌝ }
 {
     if input.len() % 6 != 0 {
         return true;
     }
-    512 < input.len() / 6
+    1024 < input.len() / 6
 }
 
 // Whether stations up to this one are over 32, or slots over 63.
@@ -158,7 +158,7 @@ fn report_within(
 // The whole text that the load program prints for an input, at the beginning of the output buffer; its length.
 pub fn report(
     input: &[u8],
-    out: &mut [u8; 696],
+    out: &mut [u8; 697],
     pairs: &mut [u64; 32],
     sums: &mut [u64; 32],
     work: &mut [u64; 8192],

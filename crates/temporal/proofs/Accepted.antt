@@ -5,6 +5,7 @@ use native.Mathlib.Nat.{div-add-mod'}
 use mathlib.Core.Path.{_≡_, refl, sym, ap, subst, _∙_}
 use mathlib.Core.Bool.{Bool, true, false, not, cond, _&&_, _||_}
 use mathlib.Core.List.{List, [], _∷_, _++_, flatMap}
+use mathlib.Core.Logic.{_≢_}
 use borrow.Author.Tests.{ltb-true, ltb-false, leb-false, eqb-true, eqb-false, not-false, lt-ltb}
 use lib.Dec.{leb, ltb, eqb}
 use lib.ListN.{length}
@@ -38,8 +39,9 @@ use Rattle.temporal.proofs.CauseLaws.{
 pub record ContactWithin (n t : ℕ) (c : Contact) : Type 0 where
   pub from-one : 0 < c .slot
   pub to-last : c .slot ≤ t
-  pub ends : c .a < c .b
-  pub station : c .b < n
+  pub ends : c .sender ≢ c .hearer
+  pub sender-station : c .sender < n
+  pub hearer-station : c .hearer < n
 
 -- plan bytes that check accepts
 pub record Accepted (bs : List ℕ) (n t : ℕ) : Type 0 where
@@ -48,7 +50,7 @@ pub record Accepted (bs : List ℕ) (n t : ℕ) : Type 0 where
   pub some-slot : 0 < t
   pub slots : t ≤ 255
   pub whole : length bs ≡ records bs * 6
-  pub few : records bs ≤ 4096
+  pub few : records bs ≤ 8192
   pub contact : (i : ℕ) → i < records bs → ContactWithin n t (contactAt bs i)
   pub rising : (i : ℕ) → suc i < records bs → isAbove (contactAt bs i) (contactAt bs (suc i)) ≡ true
 
@@ -73,9 +75,16 @@ slot-right : (t : ℕ) (c : Contact) → wrongSlot t c ≡ false → (0 < c .slo
 unfolding wrongSlot
 slot-right t c q = (zero-false (c .slot) (or-false-left _ _ q), ltb-false t (c .slot) (or-false-right (eqb (c .slot) 0) _ q))
 
-ends-right : (n : ℕ) (c : Contact) → wrongEnds n c ≡ false → (c .a < c .b) × (c .b < n)
+ends-right : (n : ℕ) (c : Contact) → wrongEnds n c ≡ false → (c .sender ≢ c .hearer) × ((c .sender < n) × (c .hearer < n))
 unfolding wrongEnds
-ends-right n c q = (leb-false (c .b) (c .a) (or-false-left _ _ q), leb-false n (c .b) (or-false-right (leb (c .b) (c .a)) _ q))
+ends-right n c q =
+    let high = or-false-right (eqb (c .sender) (c .hearer)) _ q in (
+      eqb-false (c .sender) (c .hearer) (or-false-left _ _ q),
+      (
+        leb-false n (c .sender) (or-false-left _ _ high),
+        leb-false n (c .hearer) (or-false-right (leb n (c .sender)) _ high),
+      ),
+    )
 
 order-right : (bs : List ℕ) (i : ℕ) → wrongOrder bs (suc i) ≡ false → isAbove (contactAt bs i) (contactAt bs (suc i)) ≡ true
 unfolding wrongOrder
@@ -94,11 +103,11 @@ within-limits n t q =
       (zero-false t (or-false-left _ _ slots), ltb-false 255 t (or-false-right (eqb t 0) _ slots)),
     )
 
-length-right : (bs : List ℕ) → wrongLength bs ≡ false → (length bs ≡ records bs * 6) × (records bs ≤ 4096)
+length-right : (bs : List ℕ) → wrongLength bs ≡ false → (length bs ≡ records bs * 6) × (records bs ≤ 8192)
 unfolding wrongLength records
 length-right bs q =
     let whole : length bs % 6 ≡ 0 = eqb-true (length bs % 6) 0 (not-false _ (or-false-left _ _ q)) in
-    (omega arith, ltb-false 4096 (length bs / 6) (or-false-right (not (eqb (length bs % 6) 0)) _ q))
+    (omega arith, ltb-false 8192 (length bs / 6) (or-false-right (not (eqb (length bs % 6) 0)) _ q))
 
 -- ---- acceptance
 
@@ -113,7 +122,8 @@ accepted bs n t e =
     λ i h. each-record (recordCauses bs n t) 0 (records bs) i all (omega arith) (omega arith) in
     let slot : (i : ℕ) → i < records bs → (0 < contactAt bs i .slot) × (contactAt bs i .slot ≤ t) =
     λ i h. slot-right t (contactAt bs i) (first-head 2 _ _ (each i h)) in
-    let ends : (i : ℕ) → i < records bs → (contactAt bs i .a < contactAt bs i .b) × (contactAt bs i .b < n) =
+    let ends : (i : ℕ) → i < records bs →
+    (contactAt bs i .sender ≢ contactAt bs i .hearer) × ((contactAt bs i .sender < n) × (contactAt bs i .hearer < n)) =
     λ i h. ends-right n (contactAt bs i) (first-head 3 _ _ (first-tail 2 _ _ (each i h))) in
     record {
       some-station = limits .0 .0;
@@ -126,7 +136,8 @@ accepted bs n t e =
         from-one = slot i h .0;
         to-last = slot i h .1;
         ends = ends i h .0;
-        station = ends i h .1;
+        sender-station = ends i h .1 .0;
+        hearer-station = ends i h .1 .1;
       };
       rising = λ i h. order-right bs i (first-head 4 _ _ (first-tail 3 _ _ (first-tail 2 _ _ (each (suc i) h))));
     }

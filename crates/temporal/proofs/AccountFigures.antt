@@ -1,4 +1,4 @@
--- What the through counts of pairs of plan A add up to, by computation from the definitions: count × (hops - 1), as C-15 says.
+-- What the through counts of pairs of a small plan add up to, by computation from the definitions: count × (hops - 1), as C-15 says.
 -- Assumes nothing.
 use Prim.Native.Nat.{ℕ}
 use mathlib.Core.Path.{_≡_, refl}
@@ -10,19 +10,19 @@ use Rattle.temporal.specs.Walk.{along, step, run, lastOr, holds, endsIn,
 use Rattle.temporal.specs.Shortest.{orElse, firstNonempty, ofHops, shortest, shortestWalks, shortestPaths, through}
 use Rattle.temporal.specs.Foremost.{arrival, foremostPaths}
 use Rattle.temporal.specs.OutcomeForemost.{foremostThrough}
-use Rattle.temporal.proofs.Figures.{planA}
+use Rattle.temporal.proofs.Figures.{outwardA}
 
 -- 0 to 4, three paths of 3 hops: the through counts 0, 1, 2, 3, 0 add up to 3 × 2.
-pub three-hops : sum (map (through planA 0 4) (below 5)) ≡ 6
-unfolding planA from below sum select any member distinct tuples leadsTo mayFollow along step run lastOr holds isPath isInterior orElse firstNonempty ofHops shortest shortestPaths through flatMap bind
+pub three-hops : sum (map (through outwardA 0 4) (below 5)) ≡ 6
+unfolding outwardA from below sum select any member distinct tuples leadsTo mayFollow along step run lastOr holds isPath isInterior orElse firstNonempty ofHops shortest shortestPaths through flatMap bind
 three-hops = refl
 
 -- 0 to 1, one path of one hop: 1 × 0.
-pub one-hop : sum (map (through planA 0 1) (below 5)) ≡ 0
-unfolding planA from below sum select any member distinct tuples leadsTo mayFollow along step run lastOr holds isPath isInterior orElse firstNonempty ofHops shortest shortestPaths through flatMap bind
+pub one-hop : sum (map (through outwardA 0 1) (below 5)) ≡ 0
+unfolding outwardA from below sum select any member distinct tuples leadsTo mayFollow along step run lastOr holds isPath isInterior orElse firstNonempty ofHops shortest shortestPaths through flatMap bind
 one-hop = refl
 
 -- 0 to 3, two shortest foremost paths of 2 hops (C-14): the through counts 0, 1, 1, 0, 0 add up to 2 × 1.
-pub foremost-two-hops : sum (map (foremostThrough planA 0 3) (below 5)) ≡ 2
-unfolding planA from below sum firstWhere select any member distinct tuples leadsTo mayFollow along step run lastOr holds endsIn isWalk isInterior orElse firstNonempty ofHops shortest shortestWalks arrival foremostPaths foremostThrough flatMap bind
+pub foremost-two-hops : sum (map (foremostThrough outwardA 0 3) (below 5)) ≡ 2
+unfolding outwardA from below sum firstWhere select any member distinct tuples leadsTo mayFollow along step run lastOr holds endsIn isWalk isInterior orElse firstNonempty ofHops shortest shortestWalks arrival foremostPaths foremostThrough flatMap bind
 foremost-two-hops = refl

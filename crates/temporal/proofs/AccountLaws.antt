@@ -111,7 +111,7 @@ stations-within bs n t ok =
     record {
       within = λ i c there u v leads.
           let h = contact-within bs n t ok i c there in
-          leads-below c u v n (h .ends) (h .station) leads;
+          leads-below c u v n (h .hearer-station) leads;
     }
 
 module _ (p : Plan) (g : StationsWithin p) where

@@ -132,8 +132,7 @@ module _ (bs : List ℕ) (n t : ℕ) (ok : planFault bs n t ≡ 0) where
       (lastOr (start s) l .station < n) × (lastOr (start s) l .slot ≤ t)
   unfolding planOf
   walk-ends-within s w l inside e = (
-    run-station (planOf bs n t) n (λ i c there. contact-within bs n t ok i c there .ends)
-        (λ i c there. contact-within bs n t ok i c there .station) (start s) w inside e,
+    run-station (planOf bs n t) n (λ i c there. contact-within bs n t ok i c there .hearer-station) (start s) w inside e,
     run-last-within (planOf bs n t) (slots-within bs n t ok) (start s) w (omega arith) e,
   )
 

@@ -39,29 +39,29 @@ module _ (c d : Contact) where
   unfolding isAbove
   below-slot h = rw (le-ltb (c .slot) (d .slot) (omega arith), ne-eqb (c .slot) (d .slot) (omega arith))
 
-  pub above-a : c .slot ≡ d .slot → c .a < d .a → isAbove c d ≡ true
+  pub above-sender : c .slot ≡ d .slot → c .sender < d .sender → isAbove c d ≡ true
   unfolding isAbove
-  above-a s h =
-      rw (le-ltb (c .slot) (d .slot) (omega arith), eq-eqb (c .slot) (d .slot) s, lt-ltb (c .a) (d .a) h)
+  above-sender s h =
+      rw (le-ltb (c .slot) (d .slot) (omega arith), eq-eqb (c .slot) (d .slot) s, lt-ltb (c .sender) (d .sender) h)
 
-  pub below-a : c .slot ≡ d .slot → d .a < c .a → isAbove c d ≡ false
+  pub below-sender : c .slot ≡ d .slot → d .sender < c .sender → isAbove c d ≡ false
   unfolding isAbove
-  below-a s h =
+  below-sender s h =
       rw (
         le-ltb (c .slot) (d .slot) (omega arith),
         eq-eqb (c .slot) (d .slot) s,
-        le-ltb (c .a) (d .a) (omega arith),
-        ne-eqb (c .a) (d .a) (omega arith),
+        le-ltb (c .sender) (d .sender) (omega arith),
+        ne-eqb (c .sender) (d .sender) (omega arith),
       )
 
-  pub above-b : c .slot ≡ d .slot → c .a ≡ d .a → isAbove c d ≡ ltb (c .b) (d .b)
+  pub above-hearer : c .slot ≡ d .slot → c .sender ≡ d .sender → isAbove c d ≡ ltb (c .hearer) (d .hearer)
   unfolding isAbove
-  above-b s h =
+  above-hearer s h =
       rw (
         le-ltb (c .slot) (d .slot) (omega arith),
         eq-eqb (c .slot) (d .slot) s,
-        le-ltb (c .a) (d .a) (omega arith),
-        eq-eqb (c .a) (d .a) h,
+        le-ltb (c .sender) (d .sender) (omega arith),
+        eq-eqb (c .sender) (d .sender) h,
       )
 
 -- ---- one record's tests
@@ -78,17 +78,23 @@ slot-within : (t : ℕ) (c : Contact) → 0 < c .slot → c .slot ≤ t → wron
 unfolding wrongSlot
 slot-within t c low high = rw (ne-eqb (c .slot) 0 (omega arith), le-ltb t (c .slot) high)
 
-ends-not-rising : (n : ℕ) (c : Contact) → c .b ≤ c .a → wrongEnds n c ≡ true
+ends-same : (n : ℕ) (c : Contact) → c .sender ≡ c .hearer → wrongEnds n c ≡ true
 unfolding wrongEnds
-ends-not-rising n c h = rw (le-leb (c .b) (c .a) h)
+ends-same n c h = rw (eq-eqb (c .sender) (c .hearer) h)
 
-ends-high : (n : ℕ) (c : Contact) → c .a < c .b → n ≤ c .b → wrongEnds n c ≡ true
+sender-high : (n : ℕ) (c : Contact) → c .sender ≢ c .hearer → n ≤ c .sender → wrongEnds n c ≡ true
 unfolding wrongEnds
-ends-high n c low h = rw (lt-leb (c .b) (c .a) low, le-leb n (c .b) h)
+sender-high n c apart h = rw (ne-eqb (c .sender) (c .hearer) apart, le-leb n (c .sender) h)
 
-ends-within : (n : ℕ) (c : Contact) → c .a < c .b → c .b < n → wrongEnds n c ≡ false
+hearer-high : (n : ℕ) (c : Contact) → c .sender ≢ c .hearer → c .sender < n → n ≤ c .hearer → wrongEnds n c ≡ true
 unfolding wrongEnds
-ends-within n c low h = rw (lt-leb (c .b) (c .a) low, lt-leb n (c .b) h)
+hearer-high n c apart low h =
+    rw (ne-eqb (c .sender) (c .hearer) apart, lt-leb n (c .sender) low, le-leb n (c .hearer) h)
+
+ends-within : (n : ℕ) (c : Contact) → c .sender ≢ c .hearer → c .sender < n → c .hearer < n → wrongEnds n c ≡ false
+unfolding wrongEnds
+ends-within n c apart sender hearer =
+    rw (ne-eqb (c .sender) (c .hearer) apart, lt-leb n (c .sender) sender, lt-leb n (c .hearer) hearer)
 
 -- ---- the first cause of the record at i, which is the contact c
 
@@ -102,22 +108,28 @@ module _ (bs : List ℕ) (n t i : ℕ) (c : Contact) (at : c ≡ contactAt bs i)
   record-slot-high h = first-true 2 _ _ (rw (← at) (slot-high t c h))
 
   module _ (low : 0 < c .slot) (high : c .slot ≤ t) where
-    pub record-ends-not-rising : c .b ≤ c .a → first (recordCauses bs n t i) ≡ 4
+    pub record-ends-same : c .sender ≡ c .hearer → first (recordCauses bs n t i) ≡ 4
     unfolding recordCauses
-    record-ends-not-rising h =
-        first-false 3 _ _ (rw (← at) (slot-within t c low high)) ∙ first-true 3 _ _ (rw (← at) (ends-not-rising n c h))
+    record-ends-same h =
+        first-false 3 _ _ (rw (← at) (slot-within t c low high)) ∙ first-true 3 _ _ (rw (← at) (ends-same n c h))
 
-    pub record-ends-high : c .a < c .b → n ≤ c .b → first (recordCauses bs n t i) ≡ 4
+    pub record-sender-high : c .sender ≢ c .hearer → n ≤ c .sender → first (recordCauses bs n t i) ≡ 4
     unfolding recordCauses
-    record-ends-high rising h =
-        first-false 3 _ _ (rw (← at) (slot-within t c low high)) ∙ first-true 3 _ _ (rw (← at) (ends-high n c rising h))
+    record-sender-high apart h =
+        first-false 3 _ _ (rw (← at) (slot-within t c low high)) ∙ first-true 3 _ _ (rw (← at) (sender-high n c apart h))
 
-    module _ (rising : c .a < c .b) (station : c .b < n) where
+    pub record-hearer-high : c .sender ≢ c .hearer → c .sender < n → n ≤ c .hearer → first (recordCauses bs n t i) ≡ 4
+    unfolding recordCauses
+    record-hearer-high apart sender h =
+        first-false 3 _ _ (rw (← at) (slot-within t c low high)) ∙
+        first-true 3 _ _ (rw (← at) (hearer-high n c apart sender h))
+
+    module _ (apart : c .sender ≢ c .hearer) (sender : c .sender < n) (hearer : c .hearer < n) where
       pub record-order : first (recordCauses bs n t i) ≡ first (cause 5 (wrongOrder bs i) ∷ [])
       unfolding recordCauses
       record-order =
           first-false 3 _ _ (rw (← at) (slot-within t c low high)) ∙
-          first-false 4 _ _ (rw (← at) (ends-within n c rising station))
+          first-false 4 _ _ (rw (← at) (ends-within n c apart sender hearer))
 
       pub record-first : i ≡ 0 → first (recordCauses bs n t i) ≡ 0
       unfolding wrongOrder first
@@ -174,18 +186,18 @@ module _ (bs : List ℕ) (n t : ℕ) where
       plan-part-record h = first-false 1 _ _ within ∙ first-true 1 _ _ (rw (ne-eqb (length bs % 6) 0 h))
 
       module _ (whole : length bs % 6 ≡ 0) where
-        pub plan-many-records : 4096 < length bs / 6 → planFault bs n t ≡ 2
+        pub plan-many-records : 8192 < length bs / 6 → planFault bs n t ≡ 2
         unfolding planFault planCauses wrongLength records
         plan-many-records h =
             first-false 1 _ _ within ∙
-            first-true 1 _ _ (rw (eq-eqb (length bs % 6) 0 whole, lt-ltb 4096 (length bs / 6) h))
+            first-true 1 _ _ (rw (eq-eqb (length bs % 6) 0 whole, lt-ltb 8192 (length bs / 6) h))
 
         -- with 1 and 2 excluded, the records decide
-        pub plan-records : length bs / 6 ≤ 4096 → planFault bs n t ≡ faultFrom bs n t 0
+        pub plan-records : length bs / 6 ≤ 8192 → planFault bs n t ≡ faultFrom bs n t 0
         unfolding planFault planCauses wrongLength records below faultFrom
         plan-records h =
             first-false 1 _ _ within ∙
-            first-false 2 _ _ (rw (eq-eqb (length bs % 6) 0 whole, le-ltb 4096 (length bs / 6) h)) ∙
+            first-false 2 _ _ (rw (eq-eqb (length bs % 6) 0 whole, le-ltb 8192 (length bs / 6) h)) ∙
             ap (λ k. first (flatMap (recordCauses bs n t) (from 0 k))) (same-number (length bs / 6))
           where
             same-number : (k : ℕ) → k ≡ k - 0

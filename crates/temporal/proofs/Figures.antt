@@ -1,5 +1,5 @@
--- Figures of plan A and of a small plan by computation from the definitions: a load in which rounding each share and rounding the
--- sum differ, a set of two stations on one path, a set of the destination, shortest foremost paths; and which of 9 and 11 is told.
+-- Figures of small plans by computation from the definitions: a single record, a load in which rounding each share and rounding
+-- the sum differ, a set of two stations on one path, a set of the destination, shortest foremost paths; and which of 9 and 11 is told.
 -- Assumes nothing.
 use Prim.Native.Nat.{ℕ}
 use mathlib.Core.Path.{_≡_, refl}
@@ -22,15 +22,25 @@ use Rattle.temporal.specs.Outcome.{entered, short, workSize}
 use Rattle.temporal.specs.OutcomeSet.{wrongSet, setCauses, setCounted, throughSet}
 use Rattle.temporal.proofs.CauseLaws.{first-append-none}
 
--- plan A of document 01
-unfoldable pub planA : Plan
-planA =
+-- one contact, in which 0 sends and 1 hears (document 02, C-16)
+single : Plan
+single = record { stations = 2; slots = 1; contacts = record { slot = 1; sender = 0; hearer = 1 } ∷ [] }
+
+-- It leads from its sender to its hearer, and there is no path back.
+one-way : count (shortestPaths single 0 1) ∷ count (shortestPaths single 1 0) ∷ [] ≡ 1 ∷ 0 ∷ []
+unfolding single from below select any member distinct tuples leadsTo mayFollow along step run lastOr holds isPath orElse firstNonempty ofHops shortest shortestPaths flatMap bind
+one-way = refl
+
+-- plan A of document 01 with each contact in one direction alone, a sending and b hearing: its paths from 0 are plan A's
+unfoldable pub outwardA : Plan
+outwardA =
     record {
       stations = 5;
       slots = 4;
       contacts =
-          record { slot = 1; a = 0; b = 1 } ∷ record { slot = 1; a = 0; b = 2 } ∷ record { slot = 2; a = 1; b = 3 } ∷
-          record { slot = 2; a = 2; b = 3 } ∷ record { slot = 3; a = 2; b = 3 } ∷ record { slot = 4; a = 3; b = 4 } ∷ [];
+          record { slot = 1; sender = 0; hearer = 1 } ∷ record { slot = 1; sender = 0; hearer = 2 } ∷
+          record { slot = 2; sender = 1; hearer = 3 } ∷ record { slot = 2; sender = 2; hearer = 3 } ∷
+          record { slot = 3; sender = 2; hearer = 3 } ∷ record { slot = 4; sender = 3; hearer = 4 } ∷ [];
     }
 
 -- slot, hops and count of the shortest foremost paths of a pair
@@ -38,30 +48,30 @@ foremostTold : Plan → ℕ → ℕ → List ℕ
 foremostTold p s z = arrival p s z ∷ hops (foremostPaths p s z) ∷ count (foremostPaths p s z) ∷ []
 
 -- Station 2 has two pairs, 2 of 3 paths of each: twice the whole part of 2^33 / 3 (P9).
-load-of-two-pairs : load planA 2 ≡ 5726623060
-unfolding planA from below sum product select any member distinct tuples leadsTo mayFollow along step run lastOr holds isPath isInterior orElse firstNonempty ofHops shortest shortestPaths through allEnds pairsOf share load flatMap bind
+load-of-two-pairs : load outwardA 2 ≡ 5726623060
+unfolding outwardA from below sum product select any member distinct tuples leadsTo mayFollow along step run lastOr holds isPath isInterior orElse firstNonempty ofHops shortest shortestPaths through allEnds pairsOf share load flatMap bind
 load-of-two-pairs = refl
 
 -- Of the three shortest paths from 0 to 4 all go through station 3 and two of them through station 2 too: each counts once.
-set-of-two : touched planA 0 4 (λ v. eqb v 2 || eqb v 3) ≡ 3
-unfolding planA from below sum select any member distinct tuples leadsTo mayFollow along step run lastOr holds isPath isInterior orElse firstNonempty ofHops shortest shortestPaths touches touched flatMap bind
+set-of-two : touched outwardA 0 4 (λ v. eqb v 2 || eqb v 3) ≡ 3
+unfolding outwardA from below sum select any member distinct tuples leadsTo mayFollow along step run lastOr holds isPath isInterior orElse firstNonempty ofHops shortest shortestPaths touches touched flatMap bind
 set-of-two = refl
 
 -- All of them end at station 4, and none has it inside.
-set-of-destination : touched planA 0 4 (λ v. eqb v 4) ≡ 0
-unfolding planA from below sum select any member distinct tuples leadsTo mayFollow along step run lastOr holds isPath isInterior orElse firstNonempty ofHops shortest shortestPaths touches touched flatMap bind
+set-of-destination : touched outwardA 0 4 (λ v. eqb v 4) ≡ 0
+unfolding outwardA from below sum select any member distinct tuples leadsTo mayFollow along step run lastOr holds isPath isInterior orElse firstNonempty ofHops shortest shortestPaths touches touched flatMap bind
 set-of-destination = refl
 
 -- ---- shortest foremost paths
 
--- Document 02's plan A, 0 to 3 (C-14): slot 2, 2 hops, count 2. In slot 3 there is one more path with as many hops.
-foremost-of-plan-a : foremostTold planA 0 3 ≡ 2 ∷ 2 ∷ 2 ∷ []
-unfolding foremostTold planA from below firstWhere select any member distinct tuples leadsTo mayFollow along step run lastOr holds endsIn isWalk isPath orElse firstNonempty ofHops shortest shortestWalks shortestPaths hops arrival foremostPaths flatMap bind
-foremost-of-plan-a = refl
+-- Plan A, 0 to 3 (document 02, C-14): slot 2, 2 hops, count 2. In slot 3 there is one more path with as many hops.
+foremost-of-outward-a : foremostTold outwardA 0 3 ≡ 2 ∷ 2 ∷ 2 ∷ []
+unfolding foremostTold outwardA from below firstWhere select any member distinct tuples leadsTo mayFollow along step run lastOr holds endsIn isWalk isPath orElse firstNonempty ofHops shortest shortestWalks shortestPaths hops arrival foremostPaths flatMap bind
+foremost-of-outward-a = refl
 
 -- Both end at station 3, and neither has it inside; station 1 is inside one of them.
-foremost-inside : foremostThrough planA 0 3 3 ∷ foremostThrough planA 0 3 1 ∷ [] ≡ 0 ∷ 1 ∷ []
-unfolding planA from below firstWhere select any member distinct tuples leadsTo mayFollow along step run lastOr holds endsIn isWalk isInterior orElse firstNonempty ofHops shortest shortestWalks arrival foremostPaths foremostThrough flatMap bind
+foremost-inside : foremostThrough outwardA 0 3 3 ∷ foremostThrough outwardA 0 3 1 ∷ [] ≡ 0 ∷ 1 ∷ []
+unfolding outwardA from below firstWhere select any member distinct tuples leadsTo mayFollow along step run lastOr holds endsIn isWalk isInterior orElse firstNonempty ofHops shortest shortestWalks arrival foremostPaths foremostThrough flatMap bind
 foremost-inside = refl
 
 -- Station 2 is reached in slot 2 over two hops, and over one hop only in slot 3; station 3 is reached in slot 4 over two hops and
@@ -72,8 +82,9 @@ detours =
       stations = 4;
       slots = 4;
       contacts =
-          record { slot = 1; a = 0; b = 1 } ∷ record { slot = 2; a = 1; b = 2 } ∷ record { slot = 3; a = 0; b = 2 } ∷
-          record { slot = 4; a = 1; b = 3 } ∷ record { slot = 4; a = 2; b = 3 } ∷ [];
+          record { slot = 1; sender = 0; hearer = 1 } ∷ record { slot = 2; sender = 1; hearer = 2 } ∷
+          record { slot = 3; sender = 0; hearer = 2 } ∷ record { slot = 4; sender = 1; hearer = 3 } ∷
+          record { slot = 4; sender = 2; hearer = 3 } ∷ [];
     }
 
 foremost-not-shortest : foremostTold detours 0 2 ≡ 2 ∷ 2 ∷ 1 ∷ []

@@ -1,6 +1,6 @@
 -- What follows from the definitions. Adequacy has the theorems by which a reader can trust them.
 pub mod Adequacy
--- figures of plan A by computation; public, so that they are checked before the laws of sets
+-- figures of small plans by computation; public, so that they are checked before the laws of sets
 pub mod Figures
 -- the busiest station
 pub mod BusiestLaws
@@ -12,7 +12,8 @@ pub mod ForemostLaws
 -- they cite
 pub mod AccountFigures
 pub mod AccountLaws
--- the causes of refusal, what an accepted plan keeps, and what a check of a plan rests on
+-- the causes of refusal, what an accepted plan keeps, and what a check of a plan rests on; the figures stand first by their name
+pub mod AcceptanceFigures
 pub mod CauseLaws
 pub mod NumberLaws
 pub mod EnteredLaws

@@ -11,57 +11,39 @@ use borrow.Author.Tests.{ltb-true, ltb-false, lt-ltb, le-ltb, leb-true, leb-fals
 use lib.Dec.{ltb, leb, eqb}
 use Rattle.temporal.specs.Plan.{Contact, Plan, leadsTo, mayFollow}
 
--- (both ways) The station from which a contact leads to w, or none where it leads to w from none: the other end. A
--- one-way contact changes this definition and the laws marked so.
+-- the station from which a contact leads to w: its sender where w is its hearer, else none
 unfoldable pub comesFrom : Contact → ℕ → Option ℕ
-comesFrom c w = cond (eqb w (c .b)) (some (c .a)) (cond (eqb w (c .a)) (some (c .b)) none)
+comesFrom c w = cond (eqb w (c .hearer)) (some (c .sender)) none
 
--- (both ways) the other of two ends a and b is w, asked at v, where v and w are these two
-other-end : (a b v w : ℕ)
-    → (_≡_ {A = Option ℕ} (cond (eqb v a) (some b) (cond (eqb v b) (some a) none)) (some w))
-    ↔ (((v ≡ a) × (w ≡ b)) ⊎ ((v ≡ b) × (w ≡ a)))
-other-end a b v w = go (eqb v a) refl (eqb v b) refl
+-- a number where v is a, else none: it is w exactly where v is a and w is that number
+only-there : (a b v w : ℕ) → (_≡_ {A = Option ℕ} (cond (eqb v a) (some b) none) (some w)) ↔ ((v ≡ a) × (w ≡ b))
+only-there a b v w = go (eqb v a) refl
   where
-    go : (c : Bool) → eqb v a ≡ c → (d : Bool) → eqb v b ≡ d
-        → (_≡_ {A = Option ℕ} (cond c (some b) (cond d (some a) none)) (some w))
-        ↔ (((v ≡ a) × (w ≡ b)) ⊎ ((v ≡ b) × (w ≡ a)))
-    go true q d r =
-        let at-a = eqb-true v a q in
-        (λ e. inl (at-a, cc), ⊎-elim (λ h. ap some (sym (h .1))) (λ h. ap some (sym (h .0) ∙ at-a ∙ sym (h .1))))
-    go false q true r =
+    go : (c : Bool) → eqb v a ≡ c → (_≡_ {A = Option ℕ} (cond c (some b) none) (some w)) ↔ ((v ≡ a) × (w ≡ b))
+    go true q = (λ e. (eqb-true v a q, cc), λ h. ap some (sym (h .1)))
+    go false q =
         let not-a : v ≢ a = eqb-false v a q in
-        (λ e. inr (eqb-true v b r, cc), ⊎-elim (λ h. absurd (not-a (h .0))) (λ h. ap some (sym (h .1))))
-    go false q false r =
-        let not-a : v ≢ a = eqb-false v a q in
-        let not-b : v ≢ b = eqb-false v b r in (
-          λ e. absurd (let z : _≡_ {A = ℕ} 0 1 = cc in omega arith),
-          ⊎-elim (λ h. absurd (not-a (h .0))) (λ h. absurd (not-b (h .0))),
-        )
+        (λ e. absurd (let z : _≡_ {A = ℕ} 0 1 = cc in omega arith), λ h. absurd (not-a (h .0)))
 
 -- a contact leads from v to w exactly where it comes from v to w
 pub leads-comes : (c : Contact) (v w : ℕ) → (leadsTo c v ≡ some w) ↔ (comesFrom c w ≡ some v)
 unfolding leadsTo comesFrom
 leads-comes c v w =
-    let there = other-end (c .a) (c .b) v w in
-    let back = other-end (c .b) (c .a) w v in (
-      λ e. back .1 (⊎-elim (λ h. inl (h .1, h .0)) (λ h. inr (h .1, h .0)) (there .0 e)),
-      λ e. there .1 (⊎-elim (λ h. inl (h .1, h .0)) (λ h. inr (h .1, h .0)) (back .0 e)),
+    let there = only-there (c .sender) (c .hearer) v w in
+    let back = only-there (c .hearer) (c .sender) w v in (
+      λ e. let h = there .0 e in back .1 (h .1, h .0),
+      λ e. let h = back .0 e in there .1 (h .1, h .0),
     )
 
--- a contact comes to its b from its a
-pub comes-to-b : (c : Contact) → comesFrom c (c .b) ≡ some (c .a)
+-- a contact comes to its hearer from its sender
+pub comes-to-hearer : (c : Contact) → comesFrom c (c .hearer) ≡ some (c .sender)
 unfolding comesFrom
-comes-to-b c = other-end (c .b) (c .a) (c .b) (c .a) .1 (inl (refl, refl))
-
--- (both ways) a contact comes to its a from its b
-pub comes-to-a : (c : Contact) → comesFrom c (c .a) ≡ some (c .b)
-unfolding comesFrom
-comes-to-a c = other-end (c .b) (c .a) (c .a) (c .b) .1 (inr (refl, refl))
+comes-to-hearer c = only-there (c .hearer) (c .sender) (c .hearer) (c .sender) .1 (refl, refl)
 
 -- a contact comes to no other station
-pub comes-none : (c : Contact) (w : ℕ) → w ≢ c .a → w ≢ c .b → comesFrom c w ≡ none
+pub comes-none : (c : Contact) (w : ℕ) → w ≢ c .hearer → comesFrom c w ≡ none
 unfolding comesFrom
-comes-none c w not-a not-b = rw (ne-eqb w (c .b) not-b, ne-eqb w (c .a) not-a)
+comes-none c w other = rw (ne-eqb w (c .hearer) other)
 
 -- a contact that may follow an appearance is in a later slot
 pub follows-later : (p : Plan) (t u : ℕ) → mayFollow p t u ≡ true → t < u
@@ -104,26 +86,19 @@ follows-by p t e = go (leb t e) refl
     go true q = let by = leb-true t e q in lt-ltb t (suc e) (omega arith)
     go false q = let past = leb-false t e q in le-ltb t (suc e) (omega arith)
 
--- a contact leads to one of its two stations
-pub leads-below :
-    (c : Contact) (v w n : ℕ) → c .a < c .b → c .b < n → leadsTo c v ≡ some w → w < n
-leads-below c v w n ends inside e =
-    by-cases (ℕ-discrete w (c .a)) (λ q. omega arith)
-    (λ not-a. by-cases (ℕ-discrete w (c .b)) (λ q. omega arith)
-    (λ not-b. absurd (let z : _≡_ {A = ℕ} 0 1 = cc (leads-comes c v w .0 e, comes-none c w not-a not-b) in omega arith)))
+-- a contact leads to its hearer
+pub leads-below : (c : Contact) (v w n : ℕ) → c .hearer < n → leadsTo c v ≡ some w → w < n
+unfolding leadsTo
+leads-below c v w n station e = let h = only-there (c .sender) (c .hearer) v w .0 e in let at = h .1 in omega arith
 
--- a contact leads from its a to its b
-pub leads-from-a : (c : Contact) → leadsTo c (c .a) ≡ some (c .b)
-leads-from-a c = leads-comes c (c .a) (c .b) .1 (comes-to-b c)
-
--- (both ways) a contact leads from its b to its a
-pub leads-from-b : (c : Contact) → leadsTo c (c .b) ≡ some (c .a)
-leads-from-b c = leads-comes c (c .b) (c .a) .1 (comes-to-a c)
+-- a contact leads from its sender to its hearer
+pub leads-from-sender : (c : Contact) → leadsTo c (c .sender) ≡ some (c .hearer)
+leads-from-sender c = leads-comes c (c .sender) (c .hearer) .1 (comes-to-hearer c)
 
 -- a contact leads on from no other station
-pub leads-none : (c : Contact) (v : ℕ) → v ≢ c .a → v ≢ c .b → leadsTo c v ≡ none
+pub leads-none : (c : Contact) (v : ℕ) → v ≢ c .sender → leadsTo c v ≡ none
 unfolding leadsTo
-leads-none c v not-a not-b = rw (ne-eqb v (c .a) not-a, ne-eqb v (c .b) not-b)
+leads-none c v other = rw (ne-eqb v (c .sender) other)
 
 -- (turnaround) what code tests: the contact's slot is later
 pub follows-test : (p : Plan) (t u : ℕ) → mayFollow p t u ≡ ltb t u

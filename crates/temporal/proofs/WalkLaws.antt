@@ -260,18 +260,17 @@ module _ (p : Plan) (x : Appearance) (t : Appearance → Bool) where
   unfolding holds
   ends-after i w steps e = ends-cons i w ∙ rw steps e
 
--- a walk from a station below n, over contacts between stations below n, ends at one
+-- a walk from a station below n, over contacts with hearers below n, ends at one
 pub run-station :
     (p : Plan) (n : ℕ) →
-    ((i : ℕ) (c : Contact) → getElem? (p .contacts) i ≡ some c → c .a < c .b) →
-    ((i : ℕ) (c : Contact) → getElem? (p .contacts) i ≡ some c → c .b < n) →
+    ((i : ℕ) (c : Contact) → getElem? (p .contacts) i ≡ some c → c .hearer < n) →
     (x : Appearance) (w : List ℕ) {l : List Appearance} → x .station < n → run p x w ≡ some l → lastOr x l .station < n
 unfolding lastOr
-run-station p n ends inside x [] h e = rw (← run-nil p x e) h
-run-station p n ends inside x (i ∷ w) h e =
+run-station p n inside x [] h e = rw (← run-nil p x e) h
+run-station p n inside x (i ∷ w) h e =
     let r = run-cons p x i w e in
     let s = step-inv p x i (r .steps) in
     let here : r .next .station < n =
-    leads-below (s .contact) (x .station) (r .next .station) n (ends i (s .contact) (s .at-position))
+    leads-below (s .contact) (x .station) (r .next .station) n
     (inside i (s .contact) (s .at-position)) (s .leads) in
-    rw (← r .whole) (run-station p n ends inside (r .next) w here (r .goes-on))
+    rw (← r .whole) (run-station p n inside (r .next) w here (r .goes-on))

@@ -10,9 +10,9 @@ use Rattle.temporal.specs.Plan.{Contact, Plan}
 unfoldable pub wordAt : List ℕ → ℕ → ℕ
 wordAt bs k = getD bs k 0 * 256 + getD bs (k + 1) 0
 
--- the record at position i: slot, a, b, each 16 bits
+-- the record at position i: slot, a (the sender), b (the hearer), each 16 bits
 unfoldable pub contactAt : List ℕ → ℕ → Contact
-contactAt bs i = record { slot = wordAt bs (i * 6); a = wordAt bs (i * 6 + 2); b = wordAt bs (i * 6 + 4) }
+contactAt bs i = record { slot = wordAt bs (i * 6); sender = wordAt bs (i * 6 + 2); hearer = wordAt bs (i * 6 + 4) }
 
 -- how many whole records there are
 unfoldable pub records : List ℕ → ℕ

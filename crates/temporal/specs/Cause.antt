@@ -29,23 +29,23 @@ unless (suc k) refusal work = refusal (suc k)
 unfoldable pub outside : ℕ → ℕ → Bool
 outside n t = eqb n 0 || ltb 256 n || (eqb t 0 || ltb 255 t)
 
--- 2: not a multiple of 6 bytes, or over 4,096 records
+-- 2: not a multiple of 6 bytes, or over 8,192 records
 unfoldable pub wrongLength : List ℕ → Bool
-wrongLength bs = not (eqb (length bs % 6) 0) || ltb 4096 (records bs)
+wrongLength bs = not (eqb (length bs % 6) 0) || ltb 8192 (records bs)
 
 -- 3: slot 0 or above T
 unfoldable pub wrongSlot : ℕ → Contact → Bool
 wrongSlot t c = eqb (c .slot) 0 || ltb t (c .slot)
 
--- 4: a ≥ b, or b ≥ n
+-- 4: a equals b, or either is n or more
 unfoldable pub wrongEnds : ℕ → Contact → Bool
-wrongEnds n c = leb (c .b) (c .a) || leb n (c .b)
+wrongEnds n c = eqb (c .sender) (c .hearer) || (leb n (c .sender) || leb n (c .hearer))
 
--- whether d is above c, compared by slot, then a, then b
+-- whether d is above c, compared by slot, then a (the sender), then b (the hearer)
 unfoldable pub isAbove : Contact → Contact → Bool
 isAbove c d =
     ltb (c .slot) (d .slot) ||
-    eqb (c .slot) (d .slot) && (ltb (c .a) (d .a) || eqb (c .a) (d .a) && ltb (c .b) (d .b))
+    eqb (c .slot) (d .slot) && (ltb (c .sender) (d .sender) || eqb (c .sender) (d .sender) && ltb (c .hearer) (d .hearer))
 
 -- 5: the record at i is not above the one before it; the first has none before it
 unfoldable pub wrongOrder : List ℕ → ℕ → Bool

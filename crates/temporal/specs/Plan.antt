@@ -6,11 +6,12 @@ use mathlib.Core.List.{List}
 use mathlib.Core.Option.{Option, none, some}
 use lib.Dec.{ltb, eqb}
 
--- Document 01's contact (t, a, b), document 000's time edge ({a, b}, t) (Def. 1): a and b hear each other in a slot.
+-- Document 01's contact (t, a, b), as document 02 (C-16) reads it: a sends and b hears in slot t. Document 002's directed
+-- edge (a, b, t) (Def. 2.1); document 000's time edge (Def. 1) is two of them.
 pub record Contact : Type 0 where
   pub slot : ℕ
-  pub a : ℕ
-  pub b : ℕ
+  pub sender : ℕ
+  pub hearer : ℕ
 
 -- Document 01's plan, document 000's temporal graph (V, E, T) (Def. 1): stations 0 to stations - 1, slots 1 to slots,
 -- and the contacts in the order of their records. A contact's place in this list is its position, counted from 0.
@@ -29,10 +30,10 @@ pub record Appearance : Type 0 where
 abbrev pub start : ℕ → Appearance
 start s = record { station = s; slot = 0 }
 
--- First rule: the station to which a contact leads from station v, or none where v is not one of its two.
--- Both ways, as document 000's transitions (v, w, t) of an undirected time edge.
+-- First rule: the station to which a contact leads from station v: from its sender to its hearer, from no other station.
+-- Document 002's directed edge, of document 000's transitions (v, w, t) the one.
 unfoldable pub leadsTo : Contact → ℕ → Option ℕ
-leadsTo c v = cond (eqb v (c .a)) (some (c .b)) (cond (eqb v (c .b)) (some (c .a)) none)
+leadsTo c v = cond (eqb v (c .sender)) (some (c .hearer)) none
 
 -- Second rule: whether, in a plan, a contact in slot u may follow an appearance in slot t. Strictly later
 -- (document 000, Def. 2, strict), so nothing is sent on in the slot of hearing; any later slot will do, and after the

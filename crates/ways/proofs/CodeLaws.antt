@@ -16,7 +16,7 @@ use lib.Seq.{take-suc, take-add}
 use Rattle.temporal.specs.Plan.{Contact, Plan, Appearance, leadsTo}
 use Rattle.temporal.specs.Walk.{step, run, lastOr, holds}
 use Rattle.temporal.specs.Bytes.{contactAt, records, planOf}
-use Rattle.temporal.proofs.RuleLaws.{follows-later, follows-test, leads-from-a, leads-from-b, leads-none}
+use Rattle.temporal.proofs.RuleLaws.{follows-later, follows-test, leads-from-sender, leads-none}
 use Rattle.temporal.proofs.Accepted.{accepted}
 use Rattle.temporal.proofs.PlanLaws.{contact-there, contact-inv, contacts-length}
 use Rattle.temporal.proofs.WalkLaws.{StepBy, step-inv, step-intro, step-position, run-append}
@@ -77,23 +77,18 @@ module _ (bs : List ℕ) (n t : ℕ) (x : Appearance) (i : ℕ) where
           leads = leads;
         }))
 
-    -- from a to b
-    pub step-from-a : x .slot < r .slot → x .station ≡ r .a
-        → some (record { station = r .b; slot = r .slot }) ≡ step (planOf bs n t) x i
-    step-from-a later at = step-to (r .b) later (ap (leadsTo (contactOf r)) at ∙ leads-from-a (contactOf r))
-
-    -- (both ways) from b to a
-    pub step-from-b : x .slot < r .slot → x .station ≡ r .b
-        → some (record { station = r .a; slot = r .slot }) ≡ step (planOf bs n t) x i
-    step-from-b later at = step-to (r .a) later (ap (leadsTo (contactOf r)) at ∙ leads-from-b (contactOf r))
+    -- from its sender to its hearer
+    pub step-from-sender : x .slot < r .slot → x .station ≡ r .sender
+        → some (record { station = r .hearer; slot = r .slot }) ≡ step (planOf bs n t) x i
+    step-from-sender later at = step-to (r .hearer) later (ap (leadsTo (contactOf r)) at ∙ leads-from-sender (contactOf r))
 
     -- from no other station
-    pub step-from-none : x .station ≢ r .a → x .station ≢ r .b → none ≡ step (planOf bs n t) x i
-    step-from-none not-a not-b =
+    pub step-from-none : x .station ≢ r .sender → none ≡ step (planOf bs n t) x i
+    step-from-none other =
         no-value _ (λ y e.
         let s = step-inv (planOf bs n t) x i e in
         let leads = ap (λ (c : Contact). leadsTo c (x .station)) (sym (contact-read s)) ∙ s .leads in
-        let nowhere = leads-none (contactOf r) (x .station) not-a not-b in
+        let nowhere = leads-none (contactOf r) (x .station) other in
         let z : _≡_ {A = ℕ} 0 1 = cc in
         omega arith)
 

@@ -74,87 +74,56 @@ lowered-more l at from h =
 -- the entries of the record that was read lie within the list
 pub read-room : (bs : List ℕ) (width u j : ℕ) (l : List ℕ) (r : plan.Contact) → FoldableBack bs width u j l
     → contactOf r ≡ contactAt bs j
-    → (r .a * width + u + 1 < length l) × (r .b * width + u + 1 < length l)
+    → (r .sender * width + u + 1 < length l) × (r .hearer * width + u + 1 < length l)
 read-room bs width u j l r f e = (
-  subst (λ (c : Contact). c .a * width + u + 1 < length l) (sym e) (f .a-entry),
-  subst (λ (c : Contact). c .b * width + u + 1 < length l) (sym e) (f .b-entry),
+  subst (λ (c : Contact). c .sender * width + u + 1 < length l) (sym e) (f .sender-entry),
+  subst (λ (c : Contact). c .hearer * width + u + 1 < length l) (sym e) (f .hearer-entry),
 )
 
--- to lower twice, over the record that was read, is to fold it in
-pub folded-twice : (bs : List ℕ) (width u j : ℕ) (l first second : List ℕ) (r : plan.Contact)
-    → contactOf r ≡ contactAt bs j
-    → first ≡ lowered l (r .a * width + u) (r .b * width + u + 1)
-    → second ≡ lowered first (r .b * width + u) (r .a * width + u + 1)
-    → second ≡ foldedBack width u (contactAt bs j) l
+-- to lower over the record that was read is to fold it in
+pub folded-by : (bs : List ℕ) (width u j : ℕ) (l out : List ℕ) (r : plan.Contact) → contactOf r ≡ contactAt bs j
+    → out ≡ lowered l (r .sender * width + u) (r .hearer * width + u + 1)
+    → out ≡ foldedBack width u (contactAt bs j) l
 unfolding foldedBack
-folded-twice bs width u j l first second r e one two =
-    two ∙ ap (λ x. lowered x (r .b * width + u) (r .a * width + u + 1)) one ∙ ap (λ c. foldedBack width u c l) e
+folded-by bs width u j l out r e one = one ∙ ap (λ c. foldedBack width u c l) e
 
 module _ (n width u : ℕ) (c : Contact) (l : List ℕ)
-    (column : u + 1 < width) (ends : c .a < c .b) (station : c .b < n) (fits : n * width ≤ length l) where
-  one : List ℕ
-  one = lowered l (c .a * width + u) (c .b * width + u + 1)
-
+    (column : u + 1 < width) (sender : c .sender < n) (fits : n * width ≤ length l) where
   -- the length and what lies past the table stay
   pub folded-length : length (foldedBack width u c l) ≡ length l
   unfolding foldedBack
-  folded-length = rw lowered-length (lowered-length l (c .a * width + u) (c .b * width + u + 1))
+  folded-length = lowered-length l (c .sender * width + u) (c .hearer * width + u + 1)
 
   -- entries of other slots stay
   pub folded-slot : (v x : ℕ) → x < width → x ≢ u
       → getD (foldedBack width u c l) (v * width + x) 0 ≡ getD l (v * width + x) 0
   unfolding foldedBack
   folded-slot v x h n =
-      lowered-other _ (c .b * width + u) (c .a * width + u + 1) (v * width + x)
-      (slot-apart v x (c .b) u width h (omega arith) n)
-      ∙ lowered-other l (c .a * width + u) (c .b * width + u + 1) (v * width + x)
-      (slot-apart v x (c .a) u width h (omega arith) n)
+      lowered-other l (c .sender * width + u) (c .hearer * width + u + 1) (v * width + x)
+      (slot-apart v x (c .sender) u width h (omega arith) n)
 
   -- entries of other stations stay
-  pub folded-station : (v : ℕ) → v ≢ c .a → v ≢ c .b
+  pub folded-station : (v : ℕ) → v ≢ c .sender
       → getD (foldedBack width u c l) (v * width + u) 0 ≡ getD l (v * width + u) 0
   unfolding foldedBack
-  folded-station v not-a not-b =
-      lowered-other _ (c .b * width + u) (c .a * width + u + 1) (v * width + u)
-      (station-apart v u (c .b) u width (omega arith) (omega arith) not-b)
-      ∙ lowered-other l (c .a * width + u) (c .b * width + u + 1) (v * width + u)
-      (station-apart v u (c .a) u width (omega arith) (omega arith) not-a)
+  folded-station v other =
+      lowered-other l (c .sender * width + u) (c .hearer * width + u + 1) (v * width + u)
+      (station-apart v u (c .sender) u width (omega arith) (omega arith) other)
 
-  -- the entry of a is lowered by that of b
-  pub folded-a : getD (foldedBack width u c l) (c .a * width + u) 0
-      ≡ min (getD l (c .a * width + u) 0) (getD l (c .b * width + (u + 1)) 0 + 1)
+  -- the sender's entry is lowered by the hearer's
+  pub folded-sender : getD (foldedBack width u c l) (c .sender * width + u) 0
+      ≡ min (getD l (c .sender * width + u) 0) (getD l (c .hearer * width + (u + 1)) 0 + 1)
   unfolding foldedBack
-  folded-a =
-      let later : c .b * width + (u + 1) ≡ c .b * width + u + 1 = omega arith in
-      lowered-other _ (c .b * width + u) (c .a * width + u + 1) (c .a * width + u)
-      (station-apart (c .a) u (c .b) u width (omega arith) (omega arith) (omega arith))
-      ∙ lowered-there l (c .a * width + u) (c .b * width + u + 1)
-      (place-below {v = c .a} {u = u} {n = n} {width = width} (omega arith) (omega arith) fits)
+  folded-sender =
+      let later : c .hearer * width + (u + 1) ≡ c .hearer * width + u + 1 = omega arith in
+      lowered-there l (c .sender * width + u) (c .hearer * width + u + 1)
+      (place-below {v = c .sender} {u = u} {n = n} {width = width} sender (omega arith) fits)
       ∙ rw later
-
-  -- (both ways) the entry of b is lowered by that of a
-  pub folded-b : getD (foldedBack width u c l) (c .b * width + u) 0
-      ≡ min (getD l (c .b * width + u) 0) (getD l (c .a * width + (u + 1)) 0 + 1)
-  unfolding foldedBack one
-  folded-b =
-      let later : c .a * width + u + 1 ≡ c .a * width + (u + 1) = omega arith in
-      let room : c .b * width + u < length one =
-      rw lowered-length (place-below {v = c .b} {u = u} {n = n} {width = width} station (omega arith) fits) in
-      let here : getD one (c .b * width + u) 0 ≡ getD l (c .b * width + u) 0 =
-      lowered-other l (c .a * width + u) (c .b * width + u + 1) (c .b * width + u)
-      (station-apart (c .b) u (c .a) u width (omega arith) (omega arith) (omega arith)) in
-      let next : getD one (c .a * width + (u + 1)) 0 ≡ getD l (c .a * width + (u + 1)) 0 =
-      lowered-other l (c .a * width + u) (c .b * width + u + 1) (c .a * width + (u + 1))
-      (slot-apart (c .a) (u + 1) (c .a) u width column (omega arith) (omega arith)) in
-      lowered-there one (c .b * width + u) (c .a * width + u + 1) room
-      ∙ ap (λ k. min (getD one (c .b * width + u) 0) (getD one k 0 + 1)) later
-      ∙ rw (here, next)
 
   pub folded-beyond : drop (n * width) (foldedBack width u c l) ≡ drop (n * width) l
   unfolding foldedBack
   folded-beyond =
-      lowered-beyond _ (c .b * width + u) (c .a * width + u + 1) (n * width) (digits-lt station (omega arith))
-      ∙ lowered-beyond l (c .a * width + u) (c .b * width + u + 1) (n * width) (digits-lt (omega arith) (omega arith))
+      lowered-beyond l (c .sender * width + u) (c .hearer * width + u + 1) (n * width) (digits-lt sender (omega arith))
 
 -- ---- a column is copied
 

@@ -21,7 +21,7 @@ use Rattle.temporal.specs.Walk.{endsIn, isAt}
 use Rattle.temporal.specs.Bytes.{contactAt, records, planOf}
 use Rattle.temporal.specs.Outcome.{over}
 use Rattle.temporal.proofs.ListLaws.{not-both}
-use Rattle.temporal.proofs.RuleLaws.{leads-from-a, leads-from-b, leads-none}
+use Rattle.temporal.proofs.RuleLaws.{leads-from-sender, leads-none}
 use Rattle.temporal.proofs.Accepted.{accepted}
 use Rattle.temporal.proofs.PlanLaws.{contact-there, contact-inv, contacts-length, slots-within, slots-sorted}
 use Rattle.plan.specs.declared.Contact as plan
@@ -33,7 +33,7 @@ use Rattle.ways.proofs.FewestLaws.{Fewest, fewest-unique}
 use Rattle.ways.proofs.AheadLaws.{Ahead, fewest-home, ahead-none, ahead-all, ahead-earlier, ahead-fold}
 use Rattle.ways.proofs.AheadLaws.{ahead-past}
 use Rattle.ways.proofs.ColumnLaws.{place-below, station-apart, folded-length, folded-slot, folded-station}
-use Rattle.ways.proofs.ColumnLaws.{folded-a, folded-b}
+use Rattle.ways.proofs.ColumnLaws.{folded-sender}
 use Rattle.ways.proofs.ColumnLaws.{folded-beyond, copied-length, copied-slot, copied-station, copied-beyond}
 
 -- ---- the last record before a position
@@ -207,7 +207,7 @@ module _ (bs : List ℕ) (n t z : ℕ) (old : List ℕ) (g : Completable bs n t 
     fits-now : n * (t + 1) ≤ length l
     fits-now = let room = g .fits in let same = s .same in omega arith
 
-    -- (both ways) The record before j lies in the next slot and is folded in.
+    -- The record before j lies in the next slot and is folded in.
     passing-fold : (i : ℕ) → j ≡ suc i → lastInSlot bs (suc i) (u + 1) ≡ true
         → Passing bs n t z old u i (foldedBack (t + 1) u (c i) l)
     passing-fold i e here =
@@ -220,9 +220,9 @@ module _ (bs : List ℕ) (n t z : ℕ) (old : List ℕ) (g : Completable bs n t 
           earlier = λ k h. s .earlier k (omega arith);
           column = column-folded;
           done = λ v x h k m.
-              folded-slot n (t + 1) u (c i) l next ends station fits-now v x m (omega arith) ∙ s .done v x h k m;
-          beyond = folded-beyond n (t + 1) u (c i) l next ends station fits-now ∙ s .beyond;
-          same = folded-length n (t + 1) u (c i) l next ends station fits-now ∙ s .same;
+              folded-slot n (t + 1) u (c i) l next sender fits-now v x m (omega arith) ∙ s .done v x h k m;
+          beyond = folded-beyond n (t + 1) u (c i) l next sender fits-now ∙ s .beyond;
+          same = folded-length n (t + 1) u (c i) l next sender fits-now ∙ s .same;
         }
       where
         in-next : c i .slot ≡ u + 1
@@ -234,11 +234,11 @@ module _ (bs : List ℕ) (n t z : ℕ) (old : List ℕ) (g : Completable bs n t 
         next : u + 1 < t + 1
         next = let last = accepted bs n t (g .accepted) .contact i inside .to-last in let here = in-next in omega arith
 
-        ends : c i .a < c i .b
-        ends = accepted bs n t (g .accepted) .contact i inside .ends
+        sender : c i .sender < n
+        sender = accepted bs n t (g .accepted) .contact i inside .sender-station
 
-        station : c i .b < n
-        station = accepted bs n t (g .accepted) .contact i inside .station
+        hearer : c i .hearer < n
+        hearer = accepted bs n t (g .accepted) .contact i inside .hearer-station
 
         before : (v : ℕ) → v < n → Fewest (Ahead p z (suc i) (appearance v u)) (getD l (v * (t + 1) + u) 0)
         before v h = rw (← e) (s .column v h)
@@ -258,24 +258,16 @@ module _ (bs : List ℕ) (n t z : ℕ) (old : List ℕ) (g : Completable bs n t 
 
         column-folded : (v : ℕ) → v < n
             → Fewest (Ahead p z i (appearance v u)) (getD (foldedBack (t + 1) u (c i) l) (v * (t + 1) + u) 0)
-        column-folded v h = by-cases (ℕ-discrete v (c i .a)) from-a (λ not-a.
-            by-cases (ℕ-discrete v (c i .b)) from-b (λ not-b.
-            rw (folded-station n (t + 1) u (c i) l next ends station fits-now v not-a not-b)
-            (ahead-past p z v u i (c i) there slot-suc (leads-none (c i) v not-a not-b) (before v h))))
+        column-folded v h = by-cases (ℕ-discrete v (c i .sender)) from-sender (λ other.
+            rw (folded-station n (t + 1) u (c i) l next sender fits-now v other)
+            (ahead-past p z v u i (c i) there slot-suc (leads-none (c i) v other) (before v h)))
           where
-            from-a : v ≡ c i .a
+            from-sender : v ≡ c i .sender
                 → Fewest (Ahead p z i (appearance v u)) (getD (foldedBack (t + 1) u (c i) l) (v * (t + 1) + u) 0)
-            from-a q =
-                rw (q, folded-a n (t + 1) u (c i) l next ends station fits-now)
-                (ahead-fold p z (c i .a) u i (c i) there slot-suc (leads-from-a (c i))
-                (before (c i .a) (let k = ends in let m = station in omega arith)) (ahead (c i .b) station))
-
-            from-b : v ≡ c i .b
-                → Fewest (Ahead p z i (appearance v u)) (getD (foldedBack (t + 1) u (c i) l) (v * (t + 1) + u) 0)
-            from-b q =
-                rw (q, folded-b n (t + 1) u (c i) l next ends station fits-now)
-                (ahead-fold p z (c i .b) u i (c i) there slot-suc (leads-from-b (c i))
-                (before (c i .b) station) (ahead (c i .a) (let k = ends in let m = station in omega arith)))
+            from-sender q =
+                rw (q, folded-sender n (t + 1) u (c i) l next sender fits-now)
+                (ahead-fold p z (c i .sender) u i (c i) there slot-suc (leads-from-sender (c i))
+                (before (c i .sender) sender) (ahead (c i .hearer) hearer))
 
     -- where the record before j lies elsewhere, every record that is left lies in slot u or before
     left-low : lastInSlot bs j (u + 1) ≡ false → (i : ℕ) → i < j → contactAt bs i .slot ≤ u
@@ -356,20 +348,18 @@ module _ (bs : List ℕ) (n t z : ℕ) (old : List ℕ) (g : Completable bs n t 
             let whole = a .whole in
             let k = a .contact (j - 1) inside in
             let last = k .to-last in
-            let ends = k .ends in
-            let station = k .station in
             let room = fits-now in
             record {
               inside = omega arith;
-              a-entry = omega (
+              sender-entry = omega (
                 arith,
-                place-below {v = contactAt bs (j - 1) .a} {u = u + 1} {n = n} {width = t + 1}
-                    (omega arith) (omega arith) room,
+                place-below {v = contactAt bs (j - 1) .sender} {u = u + 1} {n = n} {width = t + 1}
+                    (k .sender-station) (omega arith) room,
               );
-              b-entry = omega (
+              hearer-entry = omega (
                 arith,
-                place-below {v = contactAt bs (j - 1) .b} {u = u + 1} {n = n} {width = t + 1}
-                    station (omega arith) room,
+                place-below {v = contactAt bs (j - 1) .hearer} {u = u + 1} {n = n} {width = t + 1}
+                    (k .hearer-station) (omega arith) room,
               );
             }
 

@@ -107,7 +107,7 @@ module _ (bs : List ℕ) (n t : ℕ) (ok : planFault bs n t ≡ 0) where
       let c = contact-within bs n t ok i (s .contact) (s .at-position) in
       let last = c .to-last in
       let same = s .same-slot in
-      (leads-below (s .contact) (x .station) (y .station) n (c .ends) (c .station) (s .leads), omega arith)
+      (leads-below (s .contact) (x .station) (y .station) n (c .hearer-station) (s .leads), omega arith)
 
   -- positions from a station's start end in a slot of the plan
   end-slot : (s : ℕ) (w : List ℕ) {x : Appearance} → s < n → endAfter p (start s) w ≡ some x → x .slot ≤ t

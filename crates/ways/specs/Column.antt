@@ -15,10 +15,9 @@ use Rattle.temporal.specs.Outcome.{over}
 unfoldable pub lowered : List ℕ → ℕ → ℕ → List ℕ
 lowered l at from = set l at (min (getD l at 0) (getD l from 0 + 1))
 
--- both ways over a contact: the entries of column u by those of the column after it
+-- over a contact: the sender's entry of column u by the hearer's of the column after it
 unfoldable pub foldedBack : ℕ → ℕ → Contact → List ℕ → List ℕ
-foldedBack width u c l =
-    lowered (lowered l (c .a * width + u) (c .b * width + u + 1)) (c .b * width + u) (c .a * width + u + 1)
+foldedBack width u c l = lowered l (c .sender * width + u) (c .hearer * width + u + 1)
 
 -- column u becomes the column after it, for k stations from v on
 unfoldable pub copiedFrom : ℕ → ℕ → List ℕ → ℕ → ℕ → List ℕ
@@ -43,8 +42,8 @@ turnedBack bs n width u j l =
 -- what folding a record in asks: the record is there, and the entries of its stations lie within the list
 pub record FoldableBack (bs : List ℕ) (width u j : ℕ) (l : List ℕ) : Type 0 where
   pub inside : j * 6 + 5 < length bs
-  pub a-entry : contactAt bs j .a * width + u + 1 < length l
-  pub b-entry : contactAt bs j .b * width + u + 1 < length l
+  pub sender-entry : contactAt bs j .sender * width + u + 1 < length l
+  pub hearer-entry : contactAt bs j .hearer * width + u + 1 < length l
 
 -- what a turn asks
 pub record TurnableBack (bs : List ℕ) (n width u j : ℕ) (l : List ℕ) : Type 0 where

@@ -80,16 +80,15 @@ fn lower(work: &mut [u64], at: usize, from: usize)
     }
 }
 
-// Folds the record at j into column u, both ways.
+// Folds the record at j into column u: its sender's entry is lowered by its hearer's of the next column.
 fn fold_back(work: &mut [u64], plan: &[u8], width: usize, u: usize, j: usize)
     requires { ⌜ FoldableBack (now plan) width u j (now work) ⌝ }
     ensures { λ _. ⌜ now (work .exit) ≡ foldedBack width u (contactAt (now (plan .entry)) j) (now (work .entry)) ⌝ }
 {
     let c = plan::contact_at(plan, j);
-    let a = c.a * width + u;
-    let b = c.b * width + u;
-    lower(work, a, b + 1);
-    lower(work, b, a + 1);
+    let at = c.sender * width + u;
+    let from = c.hearer * width + u + 1;
+    lower(work, at, from);
 }
 
 // Copies the entry after a place to it.
@@ -185,15 +184,9 @@ fn step_on(plan: &[u8], x: Spot, i: usize) -> End
     if c.slot <= x.slot {
         return End::Nowhere;
     }
-    if x.station == c.a {
+    if x.station == c.sender {
         return End::At(Spot {
-            station: c.b,
-            slot: c.slot,
-        });
-    }
-    if x.station == c.b {
-        return End::At(Spot {
-            station: c.a,
+            station: c.hearer,
             slot: c.slot,
         });
     }

@@ -3,13 +3,18 @@
 use std::env;
 use std::process::Command;
 
-use crate::plans::{by_records, named, Plan};
-use crate::question::{ask, Lent, Question};
+use crate::plans::{by_records, named, plan_of};
+use crate::question::{ask, question_of, Lent, QUESTIONS};
 use crate::side::{Side, LIBRARY, RUST};
-use crate::tables::{print_head, print_row, timed_pair};
+use crate::tables::{print_head, print_row};
 
-/// The questions by name, with the end of the names of the functions that answer them.
-const QUESTIONS: [(&str, &str); 3] = [("loads", "loads"), ("pair", "pair"), ("listing", "way")];
+/// The end of the names of the functions that answer a question.
+fn functions_of(question: &str) -> &str {
+    match question {
+        "listing" => "way",
+        _ => question,
+    }
+}
 
 fn side_of(name: &str) -> Result<Side, String> {
     let sides = [LIBRARY, RUST];
@@ -17,29 +22,17 @@ fn side_of(name: &str) -> Result<Side, String> {
     side.ok_or(format!("no side {name}"))
 }
 
-fn question_of(name: &str, plan: &Plan) -> Result<Question, String> {
-    let ends = || timed_pair(plan).0;
-    match name {
-        "loads" => Ok(Question::Loads),
-        "pair" => Ok(Question::Pair(ends())),
-        "listing" => Ok(Question::Listing(ends())),
-        _ => Err(format!("no question {name}")),
-    }
-}
-
 /// One run of one side.
 pub fn once(side: &str, question: &str, plan: &str) -> Result<(), String> {
     let side = side_of(side)?;
-    let mut plans = named().into_iter().chain(by_records());
-    let found = plans.find(|one| one.name == plan);
-    let plan = found.ok_or(format!("no plan {plan}"))?;
+    let plan = plan_of(plan)?;
     let question = question_of(question, &plan)?;
     ask(&side, &plan, question, &mut Lent::new(&plan));
     Ok(())
 }
 
 /// The instructions of one run of one side, without the making of the plan.
-fn count(side: &str, question: &str, functions: &str, plan: &str) -> Result<u64, String> {
+fn count(side: &str, functions: &str, question: &str, plan: &str) -> Result<u64, String> {
     let program = env::current_exe().map_err(|error| error.to_string())?;
     let output = Command::new("valgrind")
         .args(["--tool=callgrind", "--callgrind-out-file=/dev/null"])
@@ -55,9 +48,10 @@ fn count(side: &str, question: &str, functions: &str, plan: &str) -> Result<u64,
 }
 
 /// The cells of a question about a plan.
-fn row(question: &str, functions: &str, plan: &str) -> Result<[String; 5], String> {
-    let library = count("library", question, &format!("joftaki_*{functions}"), plan)?;
-    let rust = count("rust", question, &format!("*rust_*{functions}*"), plan)?;
+fn row(question: &str, plan: &str) -> Result<[String; 5], String> {
+    let functions = functions_of(question);
+    let library = count("library", &format!("joftaki_*{functions}"), question, plan)?;
+    let rust = count("rust", &format!("*rust_*{functions}*"), question, plan)?;
     let millions = |number: u64| format!("{:.1}", number as f64 / 1e6);
     let ratio = format!("{:.2}", library as f64 / rust as f64);
     let (question, plan) = (question.to_string(), plan.to_string());
@@ -74,13 +68,13 @@ pub fn table() -> Result<(), String> {
         "ratio",
     ];
     print_head("Instructions", &columns);
-    for (question, functions) in QUESTIONS {
+    for question in QUESTIONS {
         for plan in named() {
-            print_row(&row(question, functions, &plan.name)?);
+            print_row(&row(question, &plan.name)?);
         }
     }
     for plan in by_records() {
-        print_row(&row("loads", "loads", &plan.name)?);
+        print_row(&row("loads", &plan.name)?);
     }
     println!();
     Ok(())

@@ -1,6 +1,7 @@
-//! Times loads, pair and whole listings of libjoftaki_c.a beside the same passes in Rust, and prints
-//! the tables of docs/PERFORMANCE.md.
+//! Times loads, pair and whole listings of libjoftaki_c.a beside the same passes in Rust, or beside
+//! another archive, and prints the tables of docs/PERFORMANCE.md.
 
+mod against;
 mod clock;
 mod instructions;
 mod library;
@@ -18,6 +19,8 @@ use lister::program;
 const USAGE: &str = "usage:
   bench                            all tables of times
   bench quick                      fewer plans and runs
+  bench against OTHER              the archive beside that of OTHER, another built bench
+  bench serve QUESTION PLAN        times of the archive, one for each line of the input
   bench instructions               instructions of both sides, counted by valgrind
   bench once SIDE QUESTION PLAN    one run of one side, for a tool that watches it";
 
@@ -29,6 +32,8 @@ fn run(words: &[&str]) -> Result<(), String> {
     match words {
         [] => tables::all(),
         ["quick"] => tables::quick(),
+        ["against", other] => against::table(other)?,
+        ["serve", question, plan] => against::serve(question, plan)?,
         ["instructions"] => instructions::table()?,
         ["once", side, question, plan] => instructions::once(side, question, plan)?,
         _ => return Err(USAGE.to_string()),

@@ -1,11 +1,12 @@
-//! Times of the two sides, taken in turn.
+//! Times of two sides, taken in turn.
 
+use std::convert::Infallible;
 use std::time::Duration;
 
 use crate::clock::thread_time;
 use crate::plans::Plan;
 use crate::question::{ask, compare, Lent, Question};
-use crate::side::{Side, LIBRARY, RUST};
+use crate::side::{LIBRARY, RUST};
 
 /// How long to measure: at least so many runs of each side, and for at least so long.
 #[derive(Clone, Copy, Debug)]
@@ -14,17 +15,23 @@ pub struct Effort {
     pub time: Duration,
 }
 
-/// The median times of both sides.
+/// The effort for the tables of docs/PERFORMANCE.md.
+pub const WHOLE: Effort = Effort {
+    runs: 11,
+    time: Duration::from_millis(500),
+};
+
+/// The median times of two sides.
 #[derive(Clone, Copy, Debug)]
 pub struct Times {
-    pub library: Duration,
-    pub rust: Duration,
+    pub sides: [Duration; 2],
 }
 
 impl Times {
-    /// The library's time by that of Rust.
+    /// The first side's time by that of the second.
     pub fn ratio(&self) -> f64 {
-        self.library.as_secs_f64() / self.rust.as_secs_f64()
+        let [first, second] = self.sides.map(|time| time.as_secs_f64());
+        first / second
     }
 }
 
@@ -33,29 +40,35 @@ fn median(mut times: Vec<Duration>) -> Duration {
     times[times.len() / 2]
 }
 
-/// Compares the results, then times both sides in turn on the same lent memory. Each goes first in
-/// every other round.
+/// Times two sides in turn; each goes first in every other round.
+pub fn in_turn<E>(
+    effort: Effort,
+    mut time: impl FnMut(usize) -> Result<Duration, E>,
+) -> Result<Times, E> {
+    let mut taken = [Vec::new(), Vec::new()];
+    let mut total = Duration::ZERO;
+    let mut rounds = 0;
+    while rounds < effort.runs || total < effort.time {
+        for side in [rounds % 2, 1 - rounds % 2] {
+            let time = time(side)?;
+            total += time;
+            taken[side].push(time);
+        }
+        rounds += 1;
+    }
+    Ok(Times {
+        sides: taken.map(median),
+    })
+}
+
+/// Compares the results, then times the library and Rust in turn on the same lent memory.
 pub fn measure(plan: &Plan, question: Question, effort: Effort) -> Times {
     compare(plan, question);
     let mut lent = Lent::new(plan);
-    let mut time = |side: &Side| {
+    let Ok(times) = in_turn(effort, |side| {
         let start = thread_time();
-        ask(side, plan, question, &mut lent);
-        thread_time() - start
-    };
-    let (mut library, mut rust) = (Vec::new(), Vec::new());
-    let start = thread_time();
-    while rust.len() < effort.runs || thread_time() - start < effort.time {
-        if rust.len() % 2 == 0 {
-            library.push(time(&LIBRARY));
-            rust.push(time(&RUST));
-        } else {
-            rust.push(time(&RUST));
-            library.push(time(&LIBRARY));
-        }
-    }
-    Times {
-        library: median(library),
-        rust: median(rust),
-    }
+        ask(&[LIBRARY, RUST][side], plan, question, &mut lent);
+        Ok::<Duration, Infallible>(thread_time() - start)
+    });
+    times
 }

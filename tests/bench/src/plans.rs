@@ -1,8 +1,9 @@
-//! The plans that are timed. Random ones have a fixed seed.
+//! The plans that are timed: in each of them stations hear each other, two records for a contact.
+//! Random ones have a fixed seed.
 
 use std::collections::BTreeSet;
 
-use lister::cases::{plan_bytes, Record};
+use lister::cases::{doubled, plan_bytes, Record};
 use lister::plan::{Ends, PlanInput, RECORD_BYTES};
 use lister::random::Random;
 use lister::reach_cases;
@@ -24,16 +25,6 @@ pub struct Plan {
 }
 
 impl Plan {
-    fn new(name: &str, stations: usize, slots: usize, records: &BTreeSet<Record>) -> Plan {
-        let records: Vec<Record> = records.iter().copied().collect();
-        Plan {
-            name: name.to_string(),
-            stations,
-            slots,
-            bytes: plan_bytes(&records),
-        }
-    }
-
     pub fn input(&self) -> PlanInput<'_> {
         PlanInput {
             bytes: &self.bytes,
@@ -73,22 +64,28 @@ impl Plan {
     }
 }
 
-/// Distinct random records, in order.
-fn random(name: &str, stations: usize, slots: usize, wanted: usize) -> Plan {
+/// Distinct random contacts, each in both directions: `records` records, in order.
+fn random(name: &str, stations: usize, slots: usize, records: usize) -> Plan {
     let mut random = Random::new(SEED);
-    let mut records = BTreeSet::new();
-    while records.len() < wanted {
+    let mut contacts: BTreeSet<Record> = BTreeSet::new();
+    while 2 * contacts.len() < records {
         let slot = random.between(1, slots);
         let a = random.below(stations);
         let b = random.below(stations);
         if a != b {
-            records.insert((slot as u16, a.min(b) as u16, a.max(b) as u16));
+            contacts.insert((slot as u16, a.min(b) as u16, a.max(b) as u16));
         }
     }
-    Plan::new(name, stations, slots, &records)
+    let contacts: Vec<Record> = contacts.into_iter().collect();
+    Plan {
+        name: name.to_string(),
+        stations,
+        slots,
+        bytes: plan_bytes(&doubled(&contacts)),
+    }
 }
 
-/// The ladder of document 01.
+/// The ladder of document 01, doubled.
 fn ladder(name: &str, layers: usize) -> Plan {
     let builder = reach_cases::ladder(layers, 2);
     let (stations, slots) = builder.sizes();
@@ -104,27 +101,53 @@ fn ladder(name: &str, layers: usize) -> Plan {
 /// 01, and the load program's limit.
 pub fn named() -> [Plan; 4] {
     [
-        random("largest random", 256, 255, 4096),
-        random("16 slots", 256, 16, 4096),
+        random("largest random", 256, 255, 8192),
+        random("16 slots", 256, 16, 8192),
         ladder("ladder of 64 layers", 64),
-        random("load program's limit", 32, 63, 512),
+        random("load program's limit", 32, 63, 1024),
     ]
+}
+
+/// The plan of a name.
+pub fn plan_of(name: &str) -> Result<Plan, String> {
+    let mut plans = named().into_iter().chain(by_records());
+    let found = plans.find(|plan| plan.name == name);
+    found.ok_or(format!("no plan {name}"))
 }
 
 /// Plans that grow in records, from the empty plan on.
 pub fn by_records() -> [Plan; 5] {
     let plan = |records| random(&format!("{records} records"), 256, 255, records);
-    [0, 512, 1024, 2048, 4096].map(plan)
+    [0, 1024, 2048, 4096, 8192].map(plan)
 }
 
 /// Plans that grow in n.
 pub fn by_stations() -> [Plan; 4] {
-    let plan = |stations| random(&format!("n {stations}"), stations, 255, 4096);
+    let plan = |stations| random(&format!("n {stations}"), stations, 255, 8192);
     [32, 64, 128, 256].map(plan)
 }
 
 /// Plans that grow in T.
 pub fn by_slots() -> [Plan; 5] {
-    let plan = |slots| random(&format!("T {slots}"), 256, slots, 4096);
+    let plan = |slots| random(&format!("T {slots}"), 256, slots, 8192);
     [16, 32, 64, 128, 255].map(plan)
+}
+
+#[cfg(test)]
+mod tests {
+    use super::*;
+    use crate::native::plan::{check, contacts};
+
+    #[test]
+    fn the_named_plans_are_accepted_and_have_two_records_for_a_contact() {
+        let plans = named();
+        let sizes = plans.each_ref().map(Plan::records);
+        assert_eq!(sizes, [8192, 8192, 508, 1024]);
+        for plan in &plans {
+            assert!(check(plan.input()).is_ok());
+            let upward =
+                contacts(plan.input().bytes).filter(|record| record.sender < record.hearer);
+            assert_eq!(2 * upward.count(), plan.records());
+        }
+    }
 }

@@ -18,6 +18,38 @@ pub enum Question {
     Listing(Ends),
 }
 
+impl Question {
+    /// The pair that is asked about; 0 and 0 where all are.
+    pub fn ends(self) -> Ends {
+        match self {
+            Question::Loads => (0, 0),
+            Question::Pair(ends) | Question::Listing(ends) => ends,
+        }
+    }
+}
+
+/// The names of the questions.
+pub const QUESTIONS: [&str; 3] = ["loads", "pair", "listing"];
+
+/// The most paths of a listing.
+const MOST_PATHS: u64 = 1024;
+
+/// The pair that is timed on a plan, with its number of paths.
+pub fn timed_pair(plan: &Plan) -> (Ends, u64) {
+    plan.pair_with_paths(MOST_PATHS)
+}
+
+/// The question of a name about a plan.
+pub fn question_of(name: &str, plan: &Plan) -> Result<Question, String> {
+    let ends = || timed_pair(plan).0;
+    match name {
+        "loads" => Ok(Question::Loads),
+        "pair" => Ok(Question::Pair(ends())),
+        "listing" => Ok(Question::Listing(ends())),
+        _ => Err(format!("no question {name}")),
+    }
+}
+
 /// Lent memory, of exactly the named lengths.
 #[derive(Clone, Debug, PartialEq, Eq)]
 pub struct Lent {

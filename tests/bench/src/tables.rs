@@ -4,17 +4,9 @@ use std::time::Duration;
 
 use lister::plan::Ends;
 
-use crate::measure::{measure, Effort, Times};
+use crate::measure::{measure, Effort, Times, WHOLE};
 use crate::plans::{by_records, by_slots, by_stations, named, Plan};
-use crate::question::Question;
-
-/// The most paths of a listing.
-const MOST_PATHS: u64 = 1024;
-
-/// The pair that is timed on a plan, with its number of paths.
-pub fn timed_pair(plan: &Plan) -> (Ends, u64) {
-    plan.pair_with_paths(MOST_PATHS)
-}
+use crate::question::{timed_pair, Question};
 
 /// The questions of the named plans.
 fn questions(effort: Effort) {
@@ -25,10 +17,7 @@ fn questions(effort: Effort) {
 
 /// All tables.
 pub fn all() {
-    let effort = Effort {
-        runs: 11,
-        time: Duration::from_millis(500),
-    };
+    let effort = WHOLE;
     questions(effort);
     growth("Loads by records", effort, &by_records());
     growth("Loads by n", effort, &by_stations());
@@ -73,11 +62,10 @@ fn milliseconds(time: Duration) -> String {
     format!("{time:.decimals$}")
 }
 
-/// The cells of the times: library, Rust and ratio.
-fn timed(times: &Times) -> [String; 3] {
-    let library = milliseconds(times.library);
-    let rust = milliseconds(times.rust);
-    [library, rust, format!("{:.2}", times.ratio())]
+/// The cells of the times of two sides: both, and their ratio.
+pub fn timed(times: &Times) -> [String; 3] {
+    let [first, second] = times.sides.map(milliseconds);
+    [first, second, format!("{:.2}", times.ratio())]
 }
 
 /// The loads of named plans.
@@ -113,15 +101,16 @@ fn growth(title: &str, effort: Effort, plans: &[Plan]) {
     let mut before: Option<Duration> = None;
     for plan in plans {
         let times = measure(plan, Question::Loads, effort);
+        let [library, _] = times.sides;
         let grown = before.map_or(String::new(), |before| {
-            let grown = times.library.as_secs_f64() / before.as_secs_f64();
+            let grown = library.as_secs_f64() / before.as_secs_f64();
             format!("{grown:.2}")
         });
         let mut cells = sizes(plan).to_vec();
         cells.extend(timed(&times));
         cells.push(grown);
         print_row(&cells);
-        before = Some(times.library);
+        before = Some(library);
     }
     println!();
 }

@@ -50,10 +50,15 @@ fn lengths<N>(tables: &[Vec<N>]) -> Vec<usize> {
 }
 
 impl fmt::Display for Call<'_> {
-    /// The plan as lines "slot a b", n, T, the arguments and the lengths.
+    /// The plan as lines "slot a b" (a sends, b hears), n, T, the arguments and the lengths.
     fn fmt(&self, to: &mut fmt::Formatter) -> fmt::Result {
-        for Contact { slot, a, b } in contacts(self.input.bytes) {
-            writeln!(to, "{slot} {a} {b}")?;
+        for contact in contacts(self.input.bytes) {
+            let Contact {
+                slot,
+                sender,
+                hearer,
+            } = contact;
+            writeln!(to, "{slot} {sender} {hearer}")?;
         }
         let rest = self.input.bytes.chunks_exact(RECORD_BYTES).remainder();
         if !rest.is_empty() {

@@ -2,11 +2,12 @@
 
 use lister::cases::Record;
 use lister::means::COUNTED;
-use lister::operation::{Operation, OPERATIONS};
-use lister::plans::Owned;
+use lister::operation::{Operation, LAST, OPERATIONS};
+use lister::plans::{pairs, Owned};
 use lister::random::Random;
-use lister::reach_cases::{exact_plans, ladder};
+use lister::reach_cases::{exact_plans, falling_ladder, ladder, sent_ladder};
 
+use crate::call::Call;
 use crate::compare::{Comparison, Difference};
 use crate::lend::{self, Lengths};
 use crate::rounds::{draw_loads, some_calls};
@@ -21,29 +22,46 @@ pub fn compare(comparison: &mut Comparison, seed: u64) -> Result<(), Difference>
         ends(comparison, random, &owned)?;
         some_calls(comparison, random, &owned, COUNTED, 2)?;
     }
-    Ok(())
+    most_records(comparison, random)?;
+    last_positions(comparison, random)
 }
 
-/// So many contacts in the first slots, each slot's between the first stations.
-fn packed(contacts: usize) -> Owned {
-    let pairs = |slot: u16| (1..64).flat_map(move |b| (0..b).map(move |a| (slot, a, b)));
-    let mut records: Vec<Record> = (1..=3).flat_map(pairs).take(contacts).collect();
-    records.sort_unstable();
+/// So many records in the first slots, each slot's between the first 64 stations.
+fn packed(records: usize) -> Vec<Record> {
+    let of_slot = |slot: u16| pairs(64).map(move |(a, b)| (slot, a as u16, b as u16));
+    (1..=3).flat_map(of_slot).take(records).collect()
+}
+
+/// 8,192 records. The last one is the only one that the last station hears.
+fn last_heard() -> Owned {
+    let mut records = packed(8191);
+    records.push((255, 5, 255));
     Owned::new(256, 255, &records)
 }
 
-/// Each station meets the next in a slot of its own: 255 hops from end to end.
+/// Each station sends to the next in a slot of its own: 255 hops from end to end.
 fn line() -> Owned {
     let records: Vec<Record> = (1..=255).map(|slot| (slot, slot - 1, slot)).collect();
     Owned::new(256, 255, &records)
 }
 
+/// Each station hears the next in those slots: nothing goes from end to end.
+fn line_back() -> Owned {
+    let records: Vec<Record> = (1..=255).map(|slot| (slot, slot, slot - 1)).collect();
+    Owned::new(256, 255, &records)
+}
+
 fn plans() -> Vec<Owned> {
-    let mut plans = vec![Owned::new(1, 1, &[]), Owned::new(256, 255, &[]), line()];
-    plans.extend([4095, 4096, 4097].map(packed));
+    let mut plans = vec![Owned::new(1, 1, &[]), Owned::new(256, 255, &[])];
+    plans.extend([line(), line_back(), last_heard()]);
+    for records in [8191, 8192, 8193] {
+        plans.push(Owned::new(256, 255, &packed(records)));
+    }
     for (layers, width) in [(63, 2), (64, 2), (65, 2), (41, 3), (42, 3)] {
         plans.push(Owned::built(&ladder(layers, width)));
+        plans.push(Owned::built(&sent_ladder(layers, width)));
     }
+    plans.extend([64, 65].map(|layers| Owned::built(&falling_ladder(layers))));
     let exact = exact_plans(64);
     plans.extend(exact.iter().map(|plan| Owned::built(&plan.builder)));
     plans
@@ -67,6 +85,50 @@ fn ends(comparison: &mut Comparison, random: &mut Random, owned: &Owned) -> Resu
         let seen = comparison.compare(&call, COUNTED)?;
         refused |= seen.number == TOO_MANY;
         way = seen.lent.narrow;
+    }
+    Ok(())
+}
+
+/// Compares a call, whose number is stated by hand too.
+fn stated(comparison: &mut Comparison, call: &Call, number: u32) -> Result<(), Difference> {
+    let seen = comparison.compare(call, COUNTED)?;
+    match seen.number == number {
+        true => Ok(()),
+        false => Err(format!(
+            "{call}stated: {number}\nlibrary: {}\n",
+            seen.number
+        )),
+    }
+}
+
+/// 8,192 records are accepted, and one more gives 2.
+fn most_records(comparison: &mut Comparison, random: &mut Random) -> Result<(), Difference> {
+    for (records, number) in [(8191, 0), (8192, 0), (8193, 2)] {
+        let owned = Owned::new(256, 255, &packed(records));
+        let (operation, input) = (Operation::Check, owned.input());
+        let call = lend::call(random, operation, input, [0, 0], Lengths::Named);
+        stated(comparison, &call, number)?;
+    }
+    Ok(())
+}
+
+/// Next way on paths that end with position 8,191, and on positions that are no such path, some of
+/// them no record's.
+fn last_positions(comparison: &mut Comparison, random: &mut Random) -> Result<(), Difference> {
+    let owned = last_heard();
+    for (offered, number) in [
+        ([4, 8191], 0),
+        ([4036, 8191], 0),
+        ([8068, 8191], LAST),
+        ([4, 8192], 10),
+        ([4, 65535], 10),
+        ([8191, 8191], 10),
+        ([8192, 8191], 10),
+    ] {
+        let (operation, input) = (Operation::NextWay, owned.input());
+        let mut call = lend::call(random, operation, input, [0, 255], Lengths::Named);
+        call.lent.narrow[0][..2].copy_from_slice(&offered);
+        stated(comparison, &call, number)?;
     }
     Ok(())
 }

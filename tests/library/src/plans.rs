@@ -1,15 +1,19 @@
 //! Generated plans: small and large, valid and damaged.
 
-use lister::cases::{damage, valid_records, Case};
-use lister::plan::{MOST_CONTACTS, MOST_SLOTS, MOST_STATIONS};
+use lister::cases::{damage, doubled, valid_records, Case};
+use lister::plan::{MOST_CONTACTS, MOST_SLOTS, MOST_STATIONS, RECORD_BYTES};
 use lister::plans::{random_plan, Owned};
 use lister::random::Random;
 use lister::reach_cases::Builder;
 
-/// A valid plan of so many stations and slots, with at most so many records.
+/// A valid plan of so many stations and slots: one of three with so many records, each in both
+/// directions, or with twice so many in any direction; records that are drawn again count once.
 fn drawn(random: &mut Random, stations: usize, slots: usize, wanted: usize) -> Owned {
     let wanted = if stations == 1 { 0 } else { wanted };
-    let records = valid_records(random, stations, slots, wanted);
+    let records = match random.below(3) {
+        0 => doubled(&valid_records(random, stations, slots, wanted)),
+        _ => valid_records(random, stations, slots, 2 * wanted),
+    };
     Owned::new(stations, slots, &records)
 }
 
@@ -57,6 +61,26 @@ pub fn damaged(random: &mut Random, owned: Owned) -> Owned {
     }
 }
 
+/// The plan with other stations in a record: one with itself, the sender or the hearer or both not of
+/// the plan, or the two exchanged, which may still be valid.
+pub fn other_stations(random: &mut Random, mut owned: Owned) -> Owned {
+    let records = owned.bytes.len() / RECORD_BYTES;
+    if records == 0 {
+        return owned;
+    }
+    let at = RECORD_BYTES * random.below(records);
+    let record = &mut owned.bytes[at..at + RECORD_BYTES];
+    let outside = (owned.stations + random.below(3)) as u16;
+    match random.below(5) {
+        0 => record.copy_within(2..4, 4),
+        1 => record[2..4].copy_from_slice(&outside.to_be_bytes()),
+        2 => record[4..6].copy_from_slice(&outside.to_be_bytes()),
+        3 => record[2..6].copy_from_slice(&[outside, outside + 1].map(u16::to_be_bytes).concat()),
+        _ => record[2..6].rotate_left(2),
+    }
+    owned
+}
+
 /// A number outside of the limits, or a number that is inside of them only in its low bits.
 pub fn far(random: &mut Random, number: usize) -> usize {
     match random.below(6) {
@@ -93,9 +117,9 @@ pub fn resized(random: &mut Random, owned: Owned) -> Owned {
 pub fn full(random: &mut Random) -> Owned {
     let stations = random.between(128, MOST_STATIONS);
     let slots = random.between(2, MOST_SLOTS);
-    let mut owned = drawn(random, stations, slots, MOST_CONTACTS + 600);
+    let mut owned = drawn(random, stations, slots, MOST_CONTACTS / 2 + 1000);
     let records = MOST_CONTACTS + random.below(2);
-    owned.bytes.truncate(6 * records);
+    owned.bytes.truncate(RECORD_BYTES * records);
     owned
 }
 
@@ -117,8 +141,8 @@ pub fn large(random: &mut Random) -> Owned {
     }
 }
 
-/// Layers of stations: two of neighbouring layers meet in some of the slots between them, and a few
-/// stations meet in any slot.
+/// Layers of stations: in some of the slots between two layers their stations meet, or those of the
+/// one send to those of the other; and a few stations meet in any slot.
 fn layers(random: &mut Random) -> Builder {
     let mut builder = Builder::start();
     let (most_width, most_slots) = (random.between(1, 6), random.between(1, 4));
@@ -132,8 +156,11 @@ fn layers(random: &mut Random) -> Builder {
             slot += 1;
             for station in &before {
                 for other in &next {
-                    if random.below(8) > 0 {
-                        builder.meet(slot, *station, *other);
+                    match random.below(8) {
+                        0 => {}
+                        1 => builder.send(slot, *other, *station),
+                        2 | 3 => builder.meet(slot, *station, *other),
+                        _ => builder.send(slot, *station, *other),
                     }
                 }
             }

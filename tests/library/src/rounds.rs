@@ -40,10 +40,11 @@ pub fn compare(comparison: &mut Comparison, seed: u64) -> Result<(), Difference>
     }
 }
 
-/// Most plans as they are, some damaged or with other sizes.
+/// Most plans as they are, some damaged or with other stations or sizes.
 fn changed(random: &mut Random, owned: Owned) -> Owned {
     match random.below(12) {
-        0..=3 => plans::damaged(random, owned),
+        0..=2 => plans::damaged(random, owned),
+        3 => plans::other_stations(random, owned),
         4 => plans::resized(random, owned),
         _ => owned,
     }
@@ -96,13 +97,13 @@ fn station(random: &mut Random, stations: usize) -> usize {
     }
 }
 
-/// Loads and busiest are rarer on plans with more than so many contacts for all pairs together.
+/// Loads and busiest are rarer on plans with more than so many records for all pairs together.
 const EVERY_PAIR: usize = 1_000_000;
 
 /// Whether loads and busiest are drawn for a plan: the more work it is, the rarer.
 pub fn draw_loads(random: &mut Random, owned: &Owned) -> bool {
-    let contacts = owned.bytes.len() / RECORD_BYTES;
-    let work = owned.stations.min(MOST_STATIONS).pow(2) * contacts;
+    let records = owned.bytes.len() / RECORD_BYTES;
+    let work = owned.stations.min(MOST_STATIONS).pow(2) * records;
     random.below(1 + work / EVERY_PAIR) == 0
 }
 
@@ -158,8 +159,8 @@ fn offer(random: &mut Random, call: &mut Call, means: Means) {
         call.operation = Operation::NextWay;
     }
     if hops > 0 && random.below(3) == 0 {
-        let contacts = call.input.bytes.len() / RECORD_BYTES;
-        call.lent.narrow[0][random.below(hops)] = random.below(contacts + 1) as u16;
+        let records = call.input.bytes.len() / RECORD_BYTES;
+        call.lent.narrow[0][random.below(hops)] = random.below(records + 1) as u16;
     }
 }
 

@@ -1,13 +1,14 @@
-//! All plans of tiny sizes, plans with equal loads and plans in which the earliest slot decides, in all
-//! calls; every number of through set and of foremost against every other.
+//! All plans of tiny sizes, one-way plans, plans with equal loads and plans in which the earliest slot
+//! decides, in all calls; every number of through set and of foremost against every other.
 
 use lister::cases::{plan_bytes, Record, PLAN_A};
 use lister::foremost_cases::ARRIVALS;
 use lister::means::{COUNTED, LISTED};
+use lister::one_way::ONE_WAY_PLANS;
 use lister::operation::{Operation, OPERATIONS};
 use lister::pair_cases::TIED_PLANS;
-use lister::plan::PlanInput;
-use lister::plans::{all_lists, all_plans, pairs, possible_records, Owned};
+use lister::plan::{PlanInput, RECORD_BYTES};
+use lister::plans::{all_doubled_plans, all_lists, all_plans, pairs, possible_records, Owned};
 use lister::random::Random;
 use lister::reach_cases::ladder;
 use lister::set_cases::all_sets;
@@ -20,14 +21,23 @@ use crate::lend::{self, Lengths};
 /// Compares all of them; the seed is of what the tables hold before.
 pub fn compare(comparison: &mut Comparison, seed: u64) -> Result<(), Difference> {
     let random = &mut Random::new(seed);
-    for stations in 1..=3 {
-        for slots in 1..=2 {
-            for owned in all_plans(stations, slots) {
-                every_call(comparison, random, &owned)?;
-                every_buffer(comparison, random, &owned)?;
-                every_set(comparison, random, &owned)?;
-            }
+    for (stations, slots) in [(1, 1), (1, 2), (2, 1), (2, 2), (2, 3), (3, 1)] {
+        for owned in all_plans(stations, slots) {
+            every_argument(comparison, random, &owned)?;
         }
+    }
+    for owned in all_doubled_plans(3, 2) {
+        every_argument(comparison, random, &owned)?;
+    }
+    let all = all_plans(3, 2);
+    for owned in &all {
+        every_pair(comparison, random, owned)?;
+    }
+    for owned in all.iter().step_by(61) {
+        every_argument(comparison, random, owned)?;
+    }
+    for plan in ONE_WAY_PLANS {
+        every_call(comparison, random, &plan.owned())?;
     }
     for tied in TIED_PLANS {
         every_call(comparison, random, &tied.owned())?;
@@ -35,14 +45,68 @@ pub fn compare(comparison: &mut Comparison, seed: u64) -> Result<(), Difference>
     for arrival in ARRIVALS {
         every_call(comparison, random, &arrival.owned())?;
     }
-    for owned in all_plans(4, 2).iter().step_by(5) {
+    for owned in all_doubled_plans(4, 2).iter().step_by(19) {
         every_set(comparison, random, owned)?;
+    }
+    for _ in 0..200 {
+        let owned = one_way(random, 4, 2);
+        every_set(comparison, random, &owned)?;
     }
     every_size(comparison, random)?;
     every_sequence(comparison, random)?;
     every_length(comparison, random)?;
     every_set_byte(comparison, random)?;
     every_two_causes(comparison, random)
+}
+
+/// A plan with each possible record at odds of one in three.
+fn one_way(random: &mut Random, stations: usize, slots: usize) -> Owned {
+    let mut records = possible_records(stations, slots);
+    records.retain(|_| random.below(3) == 0);
+    Owned::new(stations, slots, &records)
+}
+
+/// Every operation with every station up to n, every way buffer and every set.
+fn every_argument(
+    comparison: &mut Comparison,
+    random: &mut Random,
+    owned: &Owned,
+) -> Result<(), Difference> {
+    every_call(comparison, random, owned)?;
+    every_buffer(comparison, random, owned)?;
+    every_set(comparison, random, owned)
+}
+
+/// Every operation that reads a plan, from every station, for every pair; next way is offered the
+/// first path.
+fn every_pair(
+    comparison: &mut Comparison,
+    random: &mut Random,
+    owned: &Owned,
+) -> Result<(), Difference> {
+    let input = owned.input();
+    for operation in [Operation::Check, Operation::Loads, Operation::Busiest] {
+        let call = lend::call(random, operation, input, [0, 0], Lengths::Named);
+        comparison.compare(&call, LISTED)?;
+    }
+    for source in 0..owned.stations {
+        let call = lend::call(random, Operation::Reach, input, [source, 0], Lengths::Named);
+        comparison.compare(&call, LISTED)?;
+    }
+    for (source, destination) in pairs(owned.stations) {
+        let stations = [source, destination];
+        let call = |random: &mut Random, operation: Operation| {
+            lend::call(random, operation, input, stations, Lengths::Named)
+        };
+        for operation in [Operation::Pair, Operation::ThroughSet, Operation::Foremost] {
+            comparison.compare(&call(random, operation), LISTED)?;
+        }
+        let first = comparison.compare(&call(random, Operation::FirstWay), LISTED)?;
+        let mut next = call(random, Operation::NextWay);
+        next.lent.narrow = first.lent.narrow;
+        comparison.compare(&next, LISTED)?;
+    }
+    Ok(())
 }
 
 /// Every operation, with every station up to n.
@@ -74,8 +138,8 @@ fn every_buffer(
     random: &mut Random,
     owned: &Owned,
 ) -> Result<(), Difference> {
-    let contacts = owned.bytes.len() / 6;
-    let buffers = all_lists(owned.slots, contacts as u16 + 1);
+    let records = owned.bytes.len() / RECORD_BYTES;
+    let buffers = all_lists(owned.slots, records as u16 + 1);
     for (source, destination) in pairs(owned.stations) {
         let (operation, stations) = (Operation::NextWay, [source, destination]);
         let input = owned.input();
@@ -119,9 +183,10 @@ fn each_operation(
     Ok(())
 }
 
-/// Every subset of the records of 3 stations and 2 slots, with n up to 4 and T up to 3.
+/// Every subset of the records of 3 stations and 1 slot and of 2 stations and 2 slots, with n up to 4
+/// and T up to 3.
 fn every_size(comparison: &mut Comparison, random: &mut Random) -> Result<(), Difference> {
-    for owned in all_plans(3, 2) {
+    for owned in [all_plans(3, 1), all_plans(2, 2)].concat() {
         for stations in 0..=4 {
             for slots in 0..=3 {
                 let bytes = &owned.bytes;
@@ -233,7 +298,10 @@ fn every_two_causes(comparison: &mut Comparison, random: &mut Random) -> Result<
         (ladder.bytes.clone(), stations, 256),
         (cut, stations, slots),
         (with((slot + 1, 0, 1)), stations, slots),
+        (with((slot, 5, 4)), stations, slots),
         (with((slot, 5, 5)), stations, slots),
+        (with((slot, stations as u16, 0)), stations, slots),
+        (with((slot, 0, stations as u16)), stations, slots),
         (with((1, 0, 1)), stations, slots),
     ];
     let ends = [[0, 130], [1, 130], [0, 131], [300, 300], [7, 7]];

@@ -9,7 +9,7 @@ pub enum PlanFault {
     Length,
     /// 3: a slot is 0 or above T.
     Slot,
-    /// 4: a is not below b, or b is not below n.
+    /// 4: a equals b, or one of them is not below n.
     Stations,
     /// 5: a record is not above the one before it.
     Order,

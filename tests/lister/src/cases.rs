@@ -9,6 +9,8 @@ mod generated;
 mod limits;
 mod records;
 
+use std::collections::BTreeSet;
+
 use crate::answer::number;
 use crate::files::{case_bytes, words_bytes, Filed};
 use crate::plan::{check, PlanInput};
@@ -21,20 +23,40 @@ pub const LONGEST_LABEL: usize = 60;
 /// A record: slot, a, b, unchecked.
 pub type Record = (u16, u16, u16);
 
-/// Plan A, with n = 5 and T = 4.
-pub const PLAN_A: [Record; 6] = [
+/// Document 01's plan A doubled, with n = 5 and T = 4.
+pub const PLAN_A: [Record; 12] = [
     (1, 0, 1),
     (1, 0, 2),
+    (1, 1, 0),
+    (1, 2, 0),
     (2, 1, 3),
     (2, 2, 3),
+    (2, 3, 1),
+    (2, 3, 2),
     (3, 2, 3),
+    (3, 3, 2),
     (4, 3, 4),
+    (4, 4, 3),
 ];
+
+/// Each record and the one with sender and hearer exchanged, in order and each once: two stations
+/// that hear each other.
+pub fn doubled(records: &[Record]) -> Vec<Record> {
+    let both = |(slot, a, b): &Record| [(*slot, *a, *b), (*slot, *b, *a)];
+    let both: BTreeSet<Record> = records.iter().flat_map(both).collect();
+    both.into_iter().collect()
+}
 
 /// The bytes of records, each field high byte first.
 pub fn plan_bytes(records: &[Record]) -> Vec<u8> {
     let fields = records.iter().flat_map(|(slot, a, b)| [*slot, *a, *b]);
     words_bytes(fields).collect()
+}
+
+/// The first records of a plan of 256 stations, in order; up to 65,280 of them are in slot 1.
+pub fn first_records(count: usize) -> Vec<Record> {
+    let of_a = |a: u16| (0..256).filter(move |b| *b != a).map(move |b| (1, a, b));
+    (0..256).flat_map(of_a).take(count).collect()
 }
 
 /// One call of check.

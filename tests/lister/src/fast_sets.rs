@@ -11,7 +11,9 @@ use crate::plan::{Contact, Ends, Plan};
 
 /// The plan without the contacts of some stations.
 fn without(plan: &Plan, stations: &[usize]) -> Plan {
-    let has = |contact: &Contact| stations.contains(&contact.a) || stations.contains(&contact.b);
+    let has = |contact: &Contact| {
+        stations.contains(&contact.sender) || stations.contains(&contact.hearer)
+    };
     let mut plan = plan.clone();
     plan.contacts.retain(|contact| !has(contact));
     plan

@@ -11,6 +11,7 @@
 //! | Here | Document 01 |
 //! |---|---|
 //! | station, slot, contact, plan, position, appearance | the same |
+//! | sender, hearer | a, b of a contact (t, a, b), as document 02's C-16 has it |
 //! | walk | chain |
 //! | hops | legs |
 //! | path | way |
@@ -42,6 +43,7 @@ pub mod load_program;
 pub mod loads;
 pub mod means;
 pub mod numbers;
+pub mod one_way;
 pub mod operation;
 pub mod pair;
 pub mod pair_cases;

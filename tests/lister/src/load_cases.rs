@@ -5,6 +5,7 @@
 //! line feed, then all that the load program prints for the input.
 
 mod causes;
+mod counts;
 mod digits;
 mod examples;
 mod generated;
@@ -22,10 +23,10 @@ pub use digits::{rare_path, RARE_PATHS};
 /// The longest label, in bytes.
 pub const LONGEST_LABEL: usize = 60;
 /// The longest input, in bytes.
-pub const LONGEST_INPUT: usize = 3_100;
-/// The longest text that the load program prints, in bytes: n 32 and T 63, contacts and all pairs of
-/// 3 digits, all loads of 13.
-pub const LONGEST_TEXT: usize = 696;
+pub const LONGEST_INPUT: usize = 6_172;
+/// The longest text that the load program prints, in bytes: n 32 and T 63, contacts of 4 digits, all
+/// pairs of 3, all loads of 13.
+pub const LONGEST_TEXT: usize = 697;
 
 /// One run of the load program.
 #[derive(Clone, Debug, PartialEq, Eq)]
@@ -75,6 +76,7 @@ pub fn all_cases() -> Vec<Case> {
         records::cases(),
         causes::cases(),
         digits::cases(),
+        counts::cases(),
         ladders::cases(),
         generated::cases(),
     ]

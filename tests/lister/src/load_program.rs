@@ -11,7 +11,7 @@ pub const MOST_STATIONS: usize = 32;
 /// The load program's largest T.
 pub const MOST_SLOTS: usize = 63;
 /// The load program's largest number of records.
-pub const MOST_CONTACTS: usize = 512;
+pub const MOST_CONTACTS: usize = 1024;
 
 /// The most walks, from all sources together, that are listed.
 const MOST_LISTED: u128 = 10_000;
@@ -20,7 +20,7 @@ const MOST_LISTED: u128 = 10_000;
 /// station number, T the slot of the last record; both are 1 for an empty input.
 fn named_plan(bytes: &[u8]) -> Answer<PlanInput<'_>> {
     whole_records(bytes, MOST_CONTACTS)?;
-    let largest = contacts(bytes).map(|contact| contact.a.max(contact.b));
+    let largest = contacts(bytes).map(|contact| contact.sender.max(contact.hearer));
     let stations = largest.max().map_or(1, |station| station + 1);
     let slots = contacts(bytes).last().map_or(1, |contact| contact.slot);
     if stations > MOST_STATIONS || !(1..=MOST_SLOTS).contains(&slots) {

@@ -10,22 +10,22 @@ use crate::answer::Answer;
 use crate::causes::few_enough;
 use crate::plan::{follows, Appearance, Contact, Plan};
 
-/// The two ends of a contact, in its slot.
-fn both_ends(contact: &Contact) -> [Appearance; 2] {
+/// The sender and the hearer of a contact, in its slot.
+fn ends(contact: &Contact) -> [Appearance; 2] {
     let slot = contact.slot;
-    [contact.a, contact.b].map(|station| Appearance { station, slot })
+    [contact.sender, contact.hearer].map(|station| Appearance { station, slot })
 }
 
-/// The appearances that a plan's contacts can bring, and each station's start in slot 0. They are
-/// numbered by station, then by slot.
+/// Each station in the slots of its contacts, whether it sends or hears, and its start in slot 0. They
+/// are numbered by station, then by slot. Where a station only sends, no walk ends.
 #[derive(Clone, Debug)]
 pub struct Appearances {
     pub all: Vec<Appearance>,
     /// The numbers of each station's appearances; the first is its start.
     pub of_station: Vec<Range<usize>>,
-    /// The appearances to which contacts lead from each appearance's station in its slot.
+    /// The hearers of the contacts that each appearance's station sends in its slot.
     pub leads: Vec<Vec<usize>>,
-    /// The same from the other end: those from whose stations contacts lead to each appearance.
+    /// The senders of the contacts that each appearance's station hears in its slot.
     pub hears: Vec<Vec<usize>>,
     /// For each appearance, those of its station that contacts in its slot may follow: the first ones,
     /// since a contact that may follow an appearance may follow all earlier ones.
@@ -36,7 +36,7 @@ impl Appearances {
     /// The appearances of an accepted plan.
     pub fn new(plan: &Plan) -> Appearances {
         let starts = (0..plan.stations).map(Appearance::start);
-        let all = starts.chain(plan.contacts.iter().flat_map(both_ends));
+        let all = starts.chain(plan.contacts.iter().flat_map(ends));
         let all: BTreeSet<Appearance> = all.collect();
         let mut appearances = Appearances {
             leads: vec![Vec::new(); all.len()],
@@ -55,15 +55,9 @@ impl Appearances {
             appearances.of_station.push(row);
         }
         for contact in &plan.contacts {
-            for (from, to) in contact.directions() {
-                let at = |station| Appearance {
-                    station,
-                    slot: contact.slot,
-                };
-                let [from, to] = [from, to].map(|station| appearances.number(at(station)));
-                appearances.leads[from].push(to);
-                appearances.hears[to].push(from);
-            }
+            let [from, to] = ends(contact).map(|end| appearances.number(end));
+            appearances.leads[from].push(to);
+            appearances.hears[to].push(from);
         }
         appearances
     }

@@ -7,31 +7,27 @@ pub const MOST_STATIONS: usize = 256;
 /// The largest T.
 pub const MOST_SLOTS: usize = 255;
 /// The largest number of records.
-pub const MOST_CONTACTS: usize = 4096;
+pub const MOST_CONTACTS: usize = 8192;
 /// The bytes of one record.
 pub const RECORD_BYTES: usize = 6;
 
-/// A contact (t, a, b); the derived order is that of records, by slot, a, b.
+/// A contact (t, a, b): in slot t, a sends and b hears. The derived order is that of records, by slot,
+/// a, b.
 #[derive(Clone, Copy, Debug, PartialEq, Eq, PartialOrd, Ord)]
 pub struct Contact {
     pub slot: usize,
-    pub a: usize,
-    pub b: usize,
+    /// a
+    pub sender: usize,
+    /// b
+    pub hearer: usize,
 }
 
 impl Contact {
-    /// The direction of a contact: from which station to which it leads. It leads both ways.
-    #[inline]
-    pub fn directions(&self) -> [(usize, usize); 2] {
-        [(self.a, self.b), (self.b, self.a)]
-    }
-
-    /// The station to which this contact leads from a given one.
+    /// The station to which this contact leads from a given one: from its sender to its hearer, and
+    /// from no other station.
     #[inline]
     pub fn leads_from(&self, station: usize) -> Option<usize> {
-        let directions = self.directions();
-        let from = directions.iter().find(|(from, _)| *from == station);
-        from.map(|(_, to)| *to)
+        (station == self.sender).then_some(self.hearer)
     }
 
     /// The 6 bytes of a record, each field high byte first.
@@ -40,8 +36,8 @@ impl Contact {
         let field = |at: usize| usize::from(u16::from_be_bytes([record[at], record[at + 1]]));
         Contact {
             slot: field(0),
-            a: field(2),
-            b: field(4),
+            sender: field(2),
+            hearer: field(4),
         }
     }
 }
@@ -137,7 +133,8 @@ impl PlanInput<'_> {
         if contact.slot == 0 || contact.slot > self.slots {
             return Err(PlanFault::Slot.into());
         }
-        if contact.a >= contact.b || contact.b >= self.stations {
+        let known = contact.sender < self.stations && contact.hearer < self.stations;
+        if contact.sender == contact.hearer || !known {
             return Err(PlanFault::Stations.into());
         }
         if before.is_some_and(|before| contact <= before) {

@@ -1,12 +1,31 @@
 //! Small plans: all of a size, and generated ones.
 
-use crate::cases::{plan_bytes, Record};
+use crate::cases::{doubled, plan_bytes, Record};
 use crate::lent;
 use crate::means::COUNT_LIMIT;
 use crate::plan::{Ends, PlanInput};
 use crate::random::Random;
 use crate::reach_cases::Builder;
 use crate::ways::{paths_of_call, PathCall};
+
+/// The records of a plan in a table of plans.
+#[derive(Clone, Copy, Debug)]
+pub enum Records {
+    /// Each stands for two stations that hear each other, and so for two records.
+    Doubled(&'static [Record]),
+    /// The records themselves.
+    OneWay(&'static [Record]),
+}
+
+impl Records {
+    /// All records, in order.
+    pub fn all(self) -> Vec<Record> {
+        match self {
+            Records::Doubled(records) => doubled(records),
+            Records::OneWay(records) => records.to_vec(),
+        }
+    }
+}
 
 /// A plan's bytes with n and T.
 #[derive(Clone, Debug)]
@@ -89,32 +108,56 @@ pub fn all_lists(length: usize, bound: u16) -> Vec<Vec<u16>> {
 pub fn possible_records(stations: usize, slots: usize) -> Vec<Record> {
     let mut records = Vec::new();
     for slot in 1..=slots {
-        for a in 0..stations {
-            for b in a + 1..stations {
-                records.push((slot as u16, a as u16, b as u16));
-            }
+        for (a, b) in pairs(stations) {
+            records.push((slot as u16, a as u16, b as u16));
         }
     }
     records
 }
 
+/// The possible records with a below b: each stands for two stations that hear each other.
+pub fn possible_meetings(stations: usize, slots: usize) -> Vec<Record> {
+    let mut records = possible_records(stations, slots);
+    records.retain(|(_, a, b)| a < b);
+    records
+}
+
+/// All subsets of records, in order; there are at most 20 records.
+pub fn subsets(records: &[Record]) -> impl Iterator<Item = Vec<Record>> + '_ {
+    assert!(records.len() <= 20, "too many subsets");
+    let subset = |bits: u32| {
+        let chosen = |place: &usize| bits >> place & 1 == 1;
+        let places = (0..records.len()).filter(chosen);
+        places.map(|place| records[place]).collect()
+    };
+    (0..1 << records.len()).map(subset)
+}
+
 /// All valid plans of n stations and T slots: every subset of the possible records.
 pub fn all_plans(stations: usize, slots: usize) -> Vec<Owned> {
     let possible = possible_records(stations, slots);
-    let plan = |subset: u32| {
-        let chosen = |place: &usize| subset >> place & 1 == 1;
-        let places = (0..possible.len()).filter(chosen);
-        let records: Vec<Record> = places.map(|place| possible[place]).collect();
-        Owned::new(stations, slots, &records)
-    };
-    (0..1 << possible.len()).map(plan).collect()
+    let plan = |records: Vec<Record>| Owned::new(stations, slots, &records);
+    subsets(&possible).map(plan).collect()
 }
 
-/// A plan of up to 6 stations and 5 slots, with each possible record at even odds or rarer.
+/// All plans of n stations and T slots in which stations hear each other: every subset doubled.
+pub fn all_doubled_plans(stations: usize, slots: usize) -> Vec<Owned> {
+    let possible = possible_meetings(stations, slots);
+    let plan = |records: Vec<Record>| Owned::new(stations, slots, &doubled(&records));
+    subsets(&possible).map(plan).collect()
+}
+
+/// A plan of up to 6 stations and 5 slots, with each possible record at even odds or rarer; in one plan of
+/// three, two stations hear each other where one hears the other.
 pub fn random_plan(random: &mut Random) -> Owned {
     let stations = random.between(2, 6);
     let slots = random.between(1, 5);
     let odds = random.between(2, 5);
+    if random.below(3) == 0 {
+        let mut records = possible_meetings(stations, slots);
+        records.retain(|_| random.below(odds) == 0);
+        return Owned::new(stations, slots, &doubled(&records));
+    }
     let mut records = possible_records(stations, slots);
     records.retain(|_| random.below(odds) == 0);
     Owned::new(stations, slots, &records)

@@ -28,8 +28,8 @@ use crate::row::{row, row_number};
 use crate::shortest::NO_WALK;
 
 pub use exact::{exact_plans, Exact};
-pub use ladders::{ladder, Builder};
-pub use limits::{every_slot, star, CORNERS};
+pub use ladders::{falling_ladder, ladder, sent_ladder, Builder};
+pub use limits::{every_slot, falling_row, rising_row, star, CORNERS};
 pub use refusals::{bytes_with_cause, plan_faults};
 pub use small::{cases as small_cases, further_plans, other_length, outer_stations};
 
@@ -38,7 +38,7 @@ pub const LONGEST_LABEL: usize = 60;
 /// The most entries that the program lends, of each table.
 pub const LONGEST_TABLES: [usize; 4] = [65_600, 65_600, 320, 320];
 /// The most bytes of a plan.
-pub const LONGEST_PLAN: usize = 24_600;
+pub const LONGEST_PLAN: usize = 49_200;
 
 /// The operation that a case runs, with its source or its station.
 #[derive(Clone, Copy, Debug, PartialEq, Eq)]

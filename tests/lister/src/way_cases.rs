@@ -32,13 +32,13 @@ use crate::plans::pairs;
 use crate::reach_cases::counts_text;
 use crate::ways::{accepted_plan, paths_of_call, Found, PathCall, Way};
 
-pub use ladders::ladder_path;
+pub use ladders::{ladder_path, sent_ladder_path};
 pub use small::mixed;
 
 /// The longest label, in bytes.
 pub const LONGEST_LABEL: usize = 60;
 /// The most bytes of plans.
-pub const LONGEST_PLAN: usize = 24_600;
+pub const LONGEST_PLAN: usize = 49_200;
 /// The most entries of the way buffer.
 pub const LONGEST_BUFFER: usize = 300;
 /// The most entries of the scratch.

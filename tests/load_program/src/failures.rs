@@ -17,13 +17,10 @@ use crate::run::{finish, start, InputFile, Written};
 const NOT_READ: &str = "load: reading standard input failed\n";
 const NOT_WRITTEN: &str = "load: writing standard output failed\n";
 
-/// Plan A of document 01.
-const PLAN_A: [u8; 36] = [
-    0, 1, 0, 0, 0, 1, 0, 1, 0, 0, 0, 2, 0, 2, 0, 1, 0, 3, 0, 2, 0, 2, 0, 3, 0, 3, 0, 2, 0, 3, 0, 4,
-    0, 3, 0, 4,
-];
-/// A beginning of it that is a plan too.
-const BEGINNING: usize = 24;
+/// Plan A of document 01, doubled.
+const PLAN_A: &[u8] = include_bytes!("../../plans/a.plan");
+/// The length of a beginning of it that is a plan too.
+const BEGINNING: usize = 48;
 /// The device to which every write fails.
 const FULL: &str = "/dev/full";
 /// The pause between two looks at a program's state, and the most looks.
@@ -79,7 +76,7 @@ fn both_closed(program: &str) -> Result<(), String> {
 
 fn closed_output(program: &str) -> Result<(), String> {
     let file = InputFile::new();
-    let stdin = file.holding(&PLAN_A)?.into();
+    let stdin = file.holding(PLAN_A)?.into();
     redirected(program, ">&-", stdin)?.expect(&Written::error(NOT_WRITTEN))
 }
 
@@ -96,7 +93,7 @@ fn directory(program: &str) -> Result<(), String> {
 
 fn full_output(program: &str) -> Result<(), String> {
     let file = InputFile::new();
-    let stdin = file.holding(&PLAN_A)?.into();
+    let stdin = file.holding(PLAN_A)?.into();
     let full = OpenOptions::new().write(true).open(FULL).map_err(told)?;
     finish(started(program, stdin, full.into())?)?.expect(&Written::error(NOT_WRITTEN))
 }
@@ -127,7 +124,7 @@ fn interrupted(program: &str) -> Result<(), String> {
     send(child.id(), "CONT")?;
     ours.write_all(&PLAN_A[BEGINNING..]).map_err(told)?;
     drop(ours);
-    finish(child)?.expect(&Written::output(&load_text(&PLAN_A)))
+    finish(child)?.expect(&Written::output(&load_text(PLAN_A)))
 }
 
 /// Waits until a process is in a state: S where it sleeps, as in a read, T where it is stopped.

@@ -42,8 +42,8 @@ fn long_cases() -> Vec<Case> {
         stated: Some(2),
     };
     vec![
-        case(24_576, 0),
-        case(24_577, 1),
+        case(49_152, 0),
+        case(49_153, 1),
         case(100_000, 0),
         case(100_000, 255),
     ]

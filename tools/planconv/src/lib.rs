@@ -1,10 +1,14 @@
-//! A plan as lines of text and as bytes.
+//! A plan as lines of text and as bytes, and a plan in the old format doubled.
 //!
-//! A line is "slot a b": three decimal numbers from 0 to 65535, blanks between them. The bytes of a
-//! record are the same three numbers, each 16 bits, high byte first. Order is kept, and no rule of
-//! plans is looked at.
+//! A line is "slot a b": three decimal numbers from 0 to 65535, blanks between them; a sends and b
+//! hears. The bytes of a record are the same three numbers, each 16 bits, high byte first. Between
+//! lines and bytes order is kept, and no rule of plans is looked at.
+
+mod double;
 
 use std::fmt;
+
+pub use double::double;
 
 /// The numbers of one record: slot, a, b.
 const FIELDS: usize = 3;
@@ -18,6 +22,24 @@ pub enum Fault {
     Line { line: usize, fault: LineFault },
     /// The bytes end within a record.
     Rest { length: usize, rest: usize },
+    /// A record that no plan in the old format has, with its position, counted from 0.
+    Record {
+        position: usize,
+        record: Record,
+        fault: RecordFault,
+    },
+}
+
+/// The numbers of a record: slot, a, b. The derived order is that of a plan.
+pub type Record = [u16; FIELDS];
+
+/// What is wrong with a record of a plan in the old format.
+#[derive(Clone, Debug, PartialEq, Eq)]
+pub enum RecordFault {
+    /// a is not below b.
+    Stations,
+    /// It is not above the record before it.
+    Order,
 }
 
 /// What is wrong with a line.
@@ -43,6 +65,15 @@ impl fmt::Display for LineFault {
     }
 }
 
+impl fmt::Display for RecordFault {
+    fn fmt(&self, to: &mut fmt::Formatter) -> fmt::Result {
+        match self {
+            RecordFault::Stations => write!(to, "a is not below b"),
+            RecordFault::Order => write!(to, "it is not above the record before it"),
+        }
+    }
+}
+
 impl fmt::Display for Fault {
     fn fmt(&self, to: &mut fmt::Formatter) -> fmt::Result {
         match self {
@@ -51,6 +82,14 @@ impl fmt::Display for Fault {
                 to,
                 "{length} bytes are no multiple of {RECORD_BYTES}: \
                  bytes behind the last record: {rest}"
+            ),
+            Fault::Record {
+                position,
+                record: [slot, a, b],
+                fault,
+            } => write!(
+                to,
+                "no plan in the old format: position {position}, record {slot} {a} {b}: {fault}"
             ),
         }
     }
@@ -95,34 +134,40 @@ pub fn to_bytes(text: &[u8]) -> Result<Vec<u8>, Fault> {
     Ok(bytes)
 }
 
-/// The line of a record.
-fn record_line(record: &[u8]) -> String {
-    let field = |two: &[u8]| u16::from_be_bytes([two[0], two[1]]).to_string();
-    let words: Vec<String> = record.chunks_exact(2).map(field).collect();
-    words.join(" ") + "\n"
+/// The record that 6 bytes hold.
+fn record(bytes: &[u8]) -> Record {
+    let field = |at: usize| u16::from_be_bytes([bytes[at], bytes[at + 1]]);
+    [field(0), field(2), field(4)]
 }
 
-/// The lines of a plan's bytes.
-pub fn to_lines(bytes: &[u8]) -> Result<String, Fault> {
+/// The records of a plan's bytes.
+fn records(bytes: &[u8]) -> Result<impl Iterator<Item = Record> + '_, Fault> {
     let records = bytes.chunks_exact(RECORD_BYTES);
     let rest = records.remainder().len();
     if rest > 0 {
         let length = bytes.len();
         return Err(Fault::Rest { length, rest });
     }
-    Ok(records.map(record_line).collect())
+    Ok(records.map(record))
+}
+
+/// The lines of a plan's bytes.
+pub fn to_lines(bytes: &[u8]) -> Result<String, Fault> {
+    let line = |[slot, a, b]: Record| format!("{slot} {a} {b}\n");
+    Ok(records(bytes)?.map(line).collect())
 }
 
 #[cfg(test)]
 mod tests {
     use super::*;
 
-    /// Plan A of document 01.
+    /// Doubled plan A.
     const PLAN_A: &[u8] = include_bytes!("../../../tests/plans/a.plan");
     /// Its lines; each has as many characters as a record has bytes.
-    const PLAN_A_LINES: &str = "1 0 1\n1 0 2\n2 1 3\n2 2 3\n3 2 3\n4 3 4\n";
+    const PLAN_A_LINES: &str = "1 0 1\n1 0 2\n1 1 0\n1 2 0\n2 1 3\n2 2 3\n2 3 1\n2 3 2\n\
+                                3 2 3\n3 3 2\n4 3 4\n4 4 3\n";
 
-    /// Records 0, 2 and 4 of plan A.
+    /// Records 0, 4 and 8 of it.
     const PLAN_A_PARTS: [[u8; 6]; 3] = [[0, 1, 0, 0, 0, 1], [0, 2, 0, 1, 0, 3], [0, 3, 0, 2, 0, 3]];
 
     fn fault_of(text: &[u8]) -> String {
@@ -130,7 +175,7 @@ mod tests {
     }
 
     #[test]
-    fn plan_a_goes_both_ways() {
+    fn plan_a_makes_the_round_trip() {
         assert_eq!(to_lines(PLAN_A).unwrap(), PLAN_A_LINES);
         assert_eq!(to_bytes(PLAN_A_LINES.as_bytes()).unwrap(), PLAN_A);
     }
@@ -143,7 +188,7 @@ mod tests {
     }
 
     #[test]
-    fn every_number_goes_both_ways() {
+    fn every_number_makes_the_round_trip() {
         for number in 0..=u16::MAX {
             let line = format!("{number} {} {}\n", number ^ 0x55AA, !number);
             let bytes = to_bytes(line.as_bytes()).unwrap();

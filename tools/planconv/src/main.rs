@@ -1,14 +1,16 @@
-//! planconv: a plan's lines from standard input to bytes on standard output, and back.
+//! planconv: a plan's lines from standard input to bytes on standard output, and back; and a plan in
+//! the old format to one of twice as many records.
 
 use std::env;
 use std::io::{self, Read, Write};
 use std::process::ExitCode;
 
-use planconv::{to_bytes, to_lines};
+use planconv::{double, to_bytes, to_lines};
 
 const USAGE: &str = "usage:
   planconv to-bytes < lines > plan     lines \"slot a b\" to records of 6 bytes
-  planconv to-lines < plan > lines     records of 6 bytes to lines";
+  planconv to-lines < plan > lines     records of 6 bytes to lines
+  planconv double < old > plan         each contact of a plan in the old format to two records";
 
 fn main() -> ExitCode {
     match run() {
@@ -27,6 +29,7 @@ fn run() -> Result<(), String> {
     let convert = match words.as_slice() {
         ["to-bytes"] => to_bytes,
         ["to-lines"] => |bytes: &[u8]| to_lines(bytes).map(String::into_bytes),
+        ["double"] => double,
         _ => return Err(USAGE.to_string()),
     };
     let mut input = Vec::new();

@@ -3,8 +3,10 @@
 use std::io::Write;
 use std::process::{Command, Output, Stdio};
 
-/// Plan A of document 01.
+/// Doubled plan A.
 const PLAN_A: &[u8] = include_bytes!("../../../tests/plans/a.plan");
+/// The lines of plan A of document 01, in the old format.
+const OLD_PLAN_A_LINES: &[u8] = b"1 0 1\n1 0 2\n2 1 3\n2 2 3\n3 2 3\n4 3 4\n";
 
 fn planconv(words: &[&str], input: &[u8]) -> Output {
     let mut command = Command::new(env!("CARGO_BIN_EXE_planconv"));
@@ -33,8 +35,11 @@ fn message(words: &[&str], input: &[u8]) -> String {
 
 #[test]
 fn plan_a_makes_the_round_trip() {
+    let old = converted("to-bytes", OLD_PLAN_A_LINES);
+    assert_eq!(converted("to-lines", &old), OLD_PLAN_A_LINES);
+    assert_eq!(converted("double", &old), PLAN_A);
     let lines = converted("to-lines", PLAN_A);
-    assert_eq!(lines, b"1 0 1\n1 0 2\n2 1 3\n2 2 3\n3 2 3\n4 3 4\n");
+    assert!(lines.starts_with(b"1 0 1\n1 0 2\n1 1 0\n1 2 0\n2 1 3\n"));
     assert_eq!(converted("to-bytes", &lines), PLAN_A);
 }
 
@@ -42,6 +47,7 @@ fn plan_a_makes_the_round_trip() {
 fn empty_input_is_an_empty_plan() {
     assert!(converted("to-bytes", b"").is_empty());
     assert!(converted("to-lines", b"").is_empty());
+    assert!(converted("double", b"").is_empty());
 }
 
 #[test]
@@ -52,16 +58,31 @@ fn a_wrong_line_leaves_standard_output_empty() {
 
 #[test]
 fn a_wrong_length_leaves_standard_output_empty() {
-    let said = message(&["to-lines"], &PLAN_A[..35]);
+    for word in ["to-lines", "double"] {
+        let said = message(&[word], &PLAN_A[..11]);
+        assert_eq!(
+            said,
+            "11 bytes are no multiple of 6: bytes behind the last record: 5\n"
+        );
+    }
+}
+
+#[test]
+fn a_plan_that_is_not_in_the_old_format_leaves_standard_output_empty() {
     assert_eq!(
-        said,
-        "35 bytes are no multiple of 6: bytes behind the last record: 5\n"
+        message(&["double"], PLAN_A),
+        "no plan in the old format: position 2, record 1 1 0: a is not below b\n"
+    );
+    let twice = PLAN_A[..6].repeat(2);
+    assert_eq!(
+        message(&["double"], &twice),
+        "no plan in the old format: position 1, record 1 0 1: it is not above the record before it\n"
     );
 }
 
 #[test]
 fn other_words_give_the_usage() {
-    for words in [[].as_slice(), &["to-byte"], &["to-bytes", "to-lines"]] {
+    for words in [[].as_slice(), &["to-byte"], &["to-bytes", "double"]] {
         assert!(message(words, PLAN_A).starts_with("usage:\n"));
     }
 }

@@ -7,7 +7,7 @@ use Rattle.cases_check.proofs.main.Statement.{statement}
 use Rattle.cases_check.proofs.main.Tie as tie
 
 abbrev Inv-loop : tie.InvT-loop
-Inv-loop head₀ label₀ plan₀ left₀ head label plan left = (8 ≡ length head) × (64 ≡ length label) × (24600 ≡ length plan)
+Inv-loop head₀ label₀ plan₀ left₀ head label plan left = (8 ≡ length head) × (64 ≡ length label) × (49200 ≡ length plan)
 
 abbrev μ-loop : tie.MeasureT-loop
 μ-loop head₀ label₀ plan₀ left₀ head label plan left = left

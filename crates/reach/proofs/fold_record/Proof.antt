@@ -1,8 +1,7 @@
--- `reach::fold_record` meets its contract: two sends in turn, from a to b and from b to a, both from the same stations.
+-- `reach::fold_record` meets its contract: a send from the record's sender to its hearer's appearance.
 -- Assumes nothing.
 use native.Mathlib.Omega.{arith}
-use mathlib.Core.Path.{refl}
-use Rattle.reach.proofs.PlaceLaws.{place-below, places-within, fits-kept, read-within, folded-twice}
+use Rattle.reach.proofs.PlaceLaws.{place-below, places-within, read-within, folded-by}
 use borrow.Author.Needs.{needs}
 use Rattle.reach.proofs.fold_record.Statement.{statement}
 use Rattle.reach.proofs.fold_record.Tie as tie
@@ -13,33 +12,17 @@ contact-at-requires c κs = search needs
 mul-send : tie.Need-mul-send
 mul-send c =
     let at = read-within _ _ _ _ _ _ _ (c .before .before .before .before .before .before .before .before .before .pre) (c .before .before .before .contact-at .ensures) in
-    omega (arith, place-below _ _ _ _ _ (at .b) (at .slot) (c .before .before .before .before .before .before .before .before .before .pre .fits .hops), c .before .before .before .before .before .before .before .before .before .good .0 .0)
+    omega (arith, place-below _ _ _ _ _ (at .hearer) (at .slot) (c .before .before .before .before .before .before .before .before .before .pre .fits .hops), c .before .before .before .before .before .before .before .before .before .good .0 .0)
 
 add-send : tie.Need-add-send
 add-send c =
     let at = read-within _ _ _ _ _ _ _ (c .before .before .before .before .before .before .before .before .before .before .pre) (c .before .before .before .before .contact-at .ensures) in
-    omega (arith, place-below _ _ _ _ _ (at .b) (at .slot) (c .before .before .before .before .before .before .before .before .before .before .pre .fits .hops), c .before .before .before .before .before .before .before .before .before .before .good .0 .0)
+    omega (arith, place-below _ _ _ _ _ (at .hearer) (at .slot) (c .before .before .before .before .before .before .before .before .before .before .pre .fits .hops), c .before .before .before .before .before .before .before .before .before .before .good .0 .0)
 
 send-requires : tie.Need-send-requires
 send-requires c κs =
     let at = read-within _ _ _ _ _ _ _ (c .before .before .before .before .before .before .before .before .before .before .pre) (c .before .before .before .before .contact-at .ensures) in
-    places-within _ _ _ _ (c .before .before .before .before .before .before .before .before .before .before .pre .fits) _ _ _ (at .b) (at .slot) (at .a)
-
-mul-send-2 : tie.Need-mul-send-2
-mul-send-2 c =
-    let at = read-within _ _ _ _ _ _ _ (c .before .before .before .before .before .before .before .before .before .before .before .before .before .before .before .before .before .before .pre) (c .before .before .before .before .before .before .before .before .before .before .before .before .contact-at .ensures) in
-    omega (arith, place-below _ _ _ _ _ (at .a) (at .slot) (c .before .before .before .before .before .before .before .before .before .before .before .before .before .before .before .before .before .before .pre .fits .hops), c .before .before .before .before .before .before .before .before .before .before .before .before .before .before .before .before .before .before .good .0 .0)
-
-add-send-2 : tie.Need-add-send-2
-add-send-2 c =
-    let at = read-within _ _ _ _ _ _ _ (c .before .before .before .before .before .before .before .before .before .before .before .before .before .before .before .before .before .before .before .pre) (c .before .before .before .before .before .before .before .before .before .before .before .before .before .contact-at .ensures) in
-    omega (arith, place-below _ _ _ _ _ (at .a) (at .slot) (c .before .before .before .before .before .before .before .before .before .before .before .before .before .before .before .before .before .before .before .pre .fits .hops), c .before .before .before .before .before .before .before .before .before .before .before .before .before .before .before .before .before .before .before .good .0 .0)
-
-send-requires-2 : tie.Need-send-requires-2
-send-requires-2 c κs =
-    let at = read-within _ _ _ _ _ _ _ (c .before .before .before .before .before .before .before .before .before .before .before .before .before .before .before .before .before .before .before .pre) (c .before .before .before .before .before .before .before .before .before .before .before .before .before .contact-at .ensures) in
-    places-within _ _ _ _ (fits-kept _ _ _ _ _ _ (c .before .before .before .before .before .before .before .before .before .before .before .before .before .before .before .before .before .before .before .pre .fits) (c .before .before .before .before .before .before .before .before .send .kept .0) (c .before .before .before .before .before .before .before .before .send .kept .1 .0) refl refl)
-    _ _ _ (at .a) (at .slot) (at .b)
+    places-within _ _ _ _ (c .before .before .before .before .before .before .before .before .before .before .pre .fits) _ _ _ (at .hearer) (at .slot) (at .sender)
 
 same-length : tie.Need-same-length
 same-length c = search needs
@@ -48,7 +31,7 @@ same-length-2 : tie.Need-same-length-2
 same-length-2 c = search needs
 
 returns : tie.Need-returns
-returns c = folded-twice _ _ _ _ _ _ _ _ (c .before .before .before .before .before .before .before .before .before .before .before .before .before .before .before .before .before .before .contact-at .ensures) (c .before .before .before .before .before .before .before .before .before .before .before .before .before .send .ensures) (c .before .before .before .before .send2 .ensures)
+returns c = folded-by _ _ _ _ _ _ _ (c .before .before .before .before .before .before .before .before .before .contact-at .ensures) (c .before .before .before .before .send .ensures)
 
 pub fold-record-spec : {M : Type 1} → statement M
 fold-record-spec =
@@ -58,9 +41,6 @@ fold-record-spec =
     mul-send
     add-send
     send-requires
-    mul-send-2
-    add-send-2
-    send-requires-2
     same-length
     same-length-2
     returns)

@@ -15,7 +15,7 @@ larger-requires c κs = search needs
 
 returns : tie.Need-returns
 unfolding topStation
-returns c = c .larger .ensures ∙ ap (λ x. max (x .a) (x .b)) (c .before .contact-at .ensures)
+returns c = c .larger .ensures ∙ ap (λ x. max (x .sender) (x .hearer)) (c .before .contact-at .ensures)
 
 pub top-station-spec : {M : Type 1} → statement M
 top-station-spec = tie.close (tie.spec contact-at-requires larger-requires returns)

@@ -2,7 +2,7 @@
 -- Assumes nothing.
 use native.Mathlib.Omega.{arith}
 use Rattle.ways.specs.Found.{endOf}
-use Rattle.ways.proofs.CodeLaws.{step-past, step-early, step-from-a, step-from-b, step-from-none}
+use Rattle.ways.proofs.CodeLaws.{step-past, step-early, step-from-sender, step-from-none}
 use borrow.Author.Needs.{needs}
 use Rattle.ways.proofs.step_on.Statement.{statement}
 use Rattle.ways.proofs.step_on.Tie as tie
@@ -20,16 +20,12 @@ returns-2 c = λ n t. step-early _ n t _ _ _ (c .before .before .before .contact
 
 returns-3 : tie.Need-returns-3
 unfolding endOf
-returns-3 c = λ n t. step-from-a _ n t _ _ _ (c .before .before .before .before .before .before .contact-at .ensures) (omega arith) (omega arith) (c .if3 .taken)
+returns-3 c = λ n t. step-from-sender _ n t _ _ _ (c .before .before .before .before .before .before .contact-at .ensures) (omega arith) (omega arith) (c .if3 .taken)
 
 returns-4 : tie.Need-returns-4
 unfolding endOf
-returns-4 c = λ n t. step-from-b _ n t _ _ _ (c .before .before .before .before .before .before .before .before .before .contact-at .ensures) (omega arith) (omega arith) (c .if4 .taken)
-
-returns-5 : tie.Need-returns-5
-unfolding endOf
-returns-5 c = λ n t. step-from-none _ n t _ _ _ (c .before .before .before .before .before .before .before .before .before .contact-at .ensures) (omega arith) (c .before .before .before .if3 .left) (c .if4 .left)
+returns-4 c = λ n t. step-from-none _ n t _ _ _ (c .before .before .before .before .before .before .contact-at .ensures) (omega arith) (c .if3 .left)
 
 pub step-on-spec : {M : Type 1} → statement M
 step-on-spec =
-    tie.close (tie.spec returns contact-at-requires returns-2 returns-3 returns-4 returns-5)
+    tie.close (tie.spec returns contact-at-requires returns-2 returns-3 returns-4)

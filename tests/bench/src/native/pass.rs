@@ -65,24 +65,24 @@ impl<'a> Area<'a> {
         self.rows[source * block..][..block].fill(1);
     }
 
-    /// Sends what is settled for `from` on over one hop more, to what is pending for `to`.
+    /// Sends what is settled for a sender on over one hop more, to what is pending for its hearer.
     #[inline]
-    fn send(&mut self, from: usize, to: usize) {
-        let hops = self.hops[from];
+    fn send(&mut self, sender: usize, hearer: usize) {
+        let hops = self.hops[sender];
         if hops == NO_WALK {
             return;
         }
-        if hops < self.hops[to] {
+        if hops < self.hops[hearer] {
             let block = self.task.block;
-            let row = &mut self.pending_rows[to * block..][..block];
-            let sent = &self.rows[from * block..][..block];
-            merge_row(row, sent, self.pending_hops[to], hops + 1);
+            let row = &mut self.pending_rows[hearer * block..][..block];
+            let sent = &self.rows[sender * block..][..block];
+            merge_row(row, sent, self.pending_hops[hearer], hops + 1);
         }
         merge(
-            &mut self.pending_hops[to],
-            &mut self.pending_counts[to],
+            &mut self.pending_hops[hearer],
+            &mut self.pending_counts[hearer],
             hops + 1,
-            self.counts[from],
+            self.counts[sender],
         );
     }
 
@@ -165,8 +165,7 @@ pub fn pass<'a>(work: &'a mut [u64], input: PlanInput, task: Task) -> Option<Are
     let mut records = contacts(input.bytes).peekable();
     for slot in 1..=input.slots {
         while let Some(contact) = records.next_if(|contact| contact.slot == slot) {
-            area.send(contact.a, contact.b);
-            area.send(contact.b, contact.a);
+            area.send(contact.sender, contact.hearer);
         }
         if area.settle() {
             return None;

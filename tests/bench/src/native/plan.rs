@@ -13,13 +13,13 @@ pub fn work_length(input: PlanInput) -> usize {
     scratch_length(input.stations, input.slots)
 }
 
-/// The contact that 6 bytes hold, each field high byte first.
+/// The contact that 6 bytes hold, each field high byte first: slot, sender, hearer.
 pub fn contact(record: &[u8]) -> Contact {
     let field = |at: usize| usize::from(u16::from_be_bytes([record[at], record[at + 1]]));
     Contact {
         slot: field(0),
-        a: field(2),
-        b: field(4),
+        sender: field(2),
+        hearer: field(4),
     }
 }
 
@@ -40,7 +40,10 @@ pub fn check(input: PlanInput) -> Answer<()> {
         if contact.slot == 0 || contact.slot > input.slots {
             return Err(PlanFault::Slot.into());
         }
-        if contact.a >= contact.b || contact.b >= input.stations {
+        if contact.sender == contact.hearer
+            || contact.sender >= input.stations
+            || contact.hearer >= input.stations
+        {
             return Err(PlanFault::Stations.into());
         }
         if before.is_some_and(|before| contact <= before) {

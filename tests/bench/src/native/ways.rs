@@ -33,10 +33,9 @@ pub fn complete(table: &mut [u64], input: PlanInput, destination: usize) {
             row[slot] = row[slot + 1];
         }
         while let Some(contact) = records.next_if(|contact| contact.slot == slot + 1) {
-            let a = contact.a * width + slot;
-            let b = contact.b * width + slot;
-            lower(table, a, b + 1);
-            lower(table, b, a + 1);
+            let sender = contact.sender * width + slot;
+            let hearer = contact.hearer * width + slot;
+            lower(table, sender, hearer + 1);
         }
     }
 }

@@ -38,13 +38,12 @@ fn sizes_first() -> Vec<Case> {
         &slot_too,
         1,
     ));
-    let station_too = [(1, 0, 257)];
-    cases.push(Case::on_records(
-        "1 before 4, n 257, b 257",
-        (257, 4),
-        &station_too,
-        1,
-    ));
+    for (label, station_too) in [
+        ("1 before 4, n 257, b 257", [(1, 0, 257)]),
+        ("1 before 4, n 257, a 257", [(1, 257, 0)]),
+    ] {
+        cases.push(Case::on_records(label, (257, 4), &station_too, 1));
+    }
     cases
 }
 
@@ -71,11 +70,13 @@ fn length_second() -> Vec<Case> {
 
 /// Causes 3, 4 and 5 of one record.
 fn one_record() -> Vec<Case> {
-    let lists: [(&str, &[Record], u8); 17] = [
+    let lists: [(&str, &[Record], u8); 22] = [
         ("3 before 4, slot 0, a = b", &[(0, 1, 1)], 3),
         ("3 before 4, slot 0, all 0", &[(0, 0, 0)], 3),
-        ("3 before 4, slot above T, a above b", &[(5, 3, 2)], 3),
+        ("3 before 4, slot above T, a = b", &[(5, 3, 3)], 3),
         ("3 before 4, slot above T, b = n", &[(5, 0, 5)], 3),
+        ("3 before 4, slot above T, a = n", &[(5, 5, 0)], 3),
+        ("3, slot above T, a above b", &[(5, 3, 2)], 3),
         ("3 before 4, all 65535", &[(65535, 65535, 65535)], 3),
         ("3 before 5, slot 0", &[(1, 0, 1), (0, 0, 1)], 3),
         (
@@ -92,7 +93,7 @@ fn one_record() -> Vec<Case> {
             &[(2, 1, 2), (1, 3, 3)],
             4,
         ),
-        ("4 before 5, a above b", &[(2, 1, 2), (2, 1, 0)], 4),
+        ("5, a above b, below by b", &[(2, 1, 2), (2, 1, 0)], 5),
         (
             "4 before 5, b = n, below by slot",
             &[(2, 0, 1), (1, 0, 5)],
@@ -100,6 +101,21 @@ fn one_record() -> Vec<Case> {
         ),
         ("4 before 5, b = n, below by a", &[(2, 1, 2), (2, 0, 5)], 4),
         ("4 before 5, b 65535", &[(2, 1, 2), (1, 1, 65535)], 4),
+        (
+            "4 before 5, a = n, below by slot",
+            &[(2, 0, 1), (1, 5, 0)],
+            4,
+        ),
+        (
+            "4 before 5, a and b = n, below by slot",
+            &[(2, 0, 1), (1, 5, 5)],
+            4,
+        ),
+        (
+            "4 of a record with a = n above its neighbour",
+            &[(1, 0, 1), (1, 5, 0)],
+            4,
+        ),
         (
             "4 of a record above its neighbour",
             &[(1, 0, 1), (1, 1, 1)],
@@ -114,13 +130,15 @@ fn one_record() -> Vec<Case> {
 
 /// Causes 3, 4 and 5 of different records: the earlier record decides.
 fn two_records() -> Vec<Case> {
-    let lists: [(&str, &[Record], u8); 20] = [
+    let lists: [(&str, &[Record], u8); 22] = [
         ("earlier 3, later 4", &[(0, 0, 1), (1, 1, 1)], 3),
         ("earlier 3, later 5", &[(5, 0, 1), (1, 0, 1), (1, 0, 1)], 3),
-        ("earlier 4, later 3", &[(1, 1, 0), (0, 0, 1)], 4),
+        ("earlier 4, later 3", &[(1, 1, 1), (0, 0, 1)], 4),
+        ("earlier a above b, later 3", &[(1, 1, 0), (0, 0, 1)], 3),
         ("earlier 4, later slot above T", &[(1, 1, 1), (5, 0, 1)], 4),
         ("earlier 4, later 5", &[(1, 2, 2), (1, 0, 1), (1, 0, 1)], 4),
         ("earlier b = n, later 3", &[(1, 0, 5), (0, 0, 1)], 4),
+        ("earlier a = n, later 3", &[(1, 5, 0), (0, 0, 1)], 4),
         ("earlier 5, later 3", &[(1, 0, 1), (1, 0, 1), (0, 0, 1)], 5),
         (
             "earlier 5, later slot above T",
@@ -164,7 +182,7 @@ fn two_records() -> Vec<Case> {
             5,
         ),
         ("3, then one below it", &[(5, 0, 1), (1, 0, 1)], 3),
-        ("4, then one below it", &[(2, 1, 0), (1, 0, 1)], 4),
+        ("4, then one below it", &[(2, 1, 1), (1, 0, 1)], 4),
         (
             "3, then 4, then 5",
             &[(0, 0, 1), (1, 1, 1), (1, 0, 1), (1, 0, 1)],

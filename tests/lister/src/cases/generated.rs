@@ -8,7 +8,7 @@ use crate::random::Random;
 /// The seed of the generated cases; each label names it.
 pub const SEED: u64 = 1;
 /// The number of generated cases.
-const CASES: usize = 400;
+const CASES: usize = 360;
 
 pub fn generated_cases() -> Vec<Case> {
     let mut random = Random::new(SEED);
@@ -47,19 +47,28 @@ fn valid_case(random: &mut Random, small: bool) -> Case {
     }
 }
 
-/// Records of a valid plan, each once and in order; `wanted` of them are drawn.
+/// Records of a valid plan, each once and in order; `wanted` of them are drawn. In a third of the plans
+/// no record comes with its other direction but by chance, in a third some do, in a third all.
 pub fn valid_records(
     random: &mut Random,
     stations: usize,
     slots: usize,
     wanted: usize,
 ) -> Vec<Record> {
+    let directions = random.below(3);
     let mut records: BTreeSet<Record> = BTreeSet::new();
-    for _ in 0..wanted {
-        let slot = random.between(1, slots);
-        let b = random.between(1, stations - 1);
-        let a = random.below(b);
-        records.insert((slot as u16, a as u16, b as u16));
+    let mut left = wanted;
+    while left > 0 {
+        let slot = random.between(1, slots) as u16;
+        let sender = random.below(stations);
+        let hearer = (sender + random.between(1, stations - 1)) % stations;
+        let (sender, hearer) = (sender as u16, hearer as u16);
+        records.insert((slot, sender, hearer));
+        left -= 1;
+        if left > 0 && random.below(2) < directions {
+            records.insert((slot, hearer, sender));
+            left -= 1;
+        }
     }
     records.into_iter().collect()
 }
@@ -71,7 +80,7 @@ pub fn damage(random: &mut Random, case: &mut Case) -> &'static str {
         case.bytes.extend(vec![0; random.between(1, 6)]);
         return "grow";
     }
-    match random.below(8) {
+    match random.below(10) {
         0 => {
             let (one, other) = (random.below(records), random.below(records));
             for byte in 0..6 {
@@ -112,6 +121,18 @@ pub fn damage(random: &mut Random, case: &mut Case) -> &'static str {
             "cut"
         }
         6 => {
+            let at = 6 * random.below(records);
+            for byte in at + 2..at + 4 {
+                case.bytes.swap(byte, byte + 2);
+            }
+            "exchange"
+        }
+        7 => {
+            let at = 6 * random.below(records);
+            case.bytes.copy_within(at + 2..at + 4, at + 4);
+            "equal"
+        }
+        8 => {
             case.stations = other_size(random, case.stations);
             "n"
         }

@@ -1,6 +1,6 @@
 //! Causes 1 and 2 at their limits.
 
-use super::{plan_bytes, Case, Record, PLAN_A};
+use super::{doubled, plan_bytes, Case, Record, PLAN_A};
 
 pub fn cases() -> Vec<Case> {
     [
@@ -70,8 +70,9 @@ fn short_lengths() -> Vec<Case> {
         (11, 2),
         (12, 0),
         (13, 2),
-        (35, 2),
         (36, 0),
+        (71, 2),
+        (72, 0),
     ] {
         let label = format!("plan A, its first {length} bytes");
         let bytes = whole[..length].to_vec();
@@ -86,56 +87,56 @@ fn short_lengths() -> Vec<Case> {
     cases
 }
 
-/// 4,096 records at n 256, T 255: 16 contacts in every slot, and 16 more in slot 1.
-pub fn spread_records() -> Vec<Record> {
-    let mut records = Vec::new();
+/// 8,192 records at n 256, T 255: in every slot 16 stations send to one each and hear it, and in slot 1
+/// to one more.
+fn spread_records() -> Vec<Record> {
+    let mut meetings = Vec::new();
     for slot in 1..=255 {
         for a in 0..16 {
             if slot == 1 {
-                records.push((slot, a, 239 + a));
+                meetings.push((slot, a, 239 + a));
             }
-            records.push((slot, a, 240 + a));
+            meetings.push((slot, a, 240 + a));
         }
     }
-    records
+    doubled(&meetings)
 }
 
-/// The first 4,096 contacts in the order of records at n 256, T 255.
-fn first_records() -> Vec<Record> {
-    let of_a = |a: u16| (a + 1..256).map(move |b| (1, a, b));
-    (0..256).flat_map(of_a).take(4096).collect()
-}
-
-/// The numbers of records and bytes around 4,096 records.
+/// The numbers of records and bytes around 8,192 records.
 fn long_lengths() -> Vec<Case> {
     let sizes = (256, 255);
     let spread = spread_records();
     let mut longer = spread.clone();
-    longer.push((255, 254, 255));
+    longer.push((255, 255, 254));
     let cut = |length: usize| plan_bytes(&longer)[..length].to_vec();
-    let mut last_bad = spread.clone();
-    last_bad[4095] = (256, 15, 255);
-    let mut last_same = spread.clone();
-    last_same[4095] = (255, 15, 15);
-    let mut last_equal = spread.clone();
-    last_equal[4095] = spread[4094];
+    let with_last = |record: Record| {
+        let mut records = spread.clone();
+        records[8191] = record;
+        records
+    };
+    let before_last = spread[8190];
     vec![
-        Case::on_records("4096 records, 16 in a slot", sizes, &spread, 0),
-        Case::on_records("4096 records, all in slot 1", sizes, &first_records(), 0),
-        Case::on_records("4097 records", sizes, &longer, 2),
-        Case::on_bytes("24575 bytes", sizes, cut(24575), 2),
-        Case::on_bytes("24577 bytes", sizes, cut(24577), 2),
-        Case::on_bytes("24581 bytes", sizes, cut(24581), 2),
-        Case::on_bytes("24576 bytes of 0", sizes, vec![0; 24576], 3),
-        Case::on_bytes("24582 bytes of 0", sizes, vec![0; 24582], 2),
-        Case::on_records("4097 records and n 257", (257, 255), &longer, 1),
-        Case::on_records("4096 records, last slot 256", sizes, &last_bad, 3),
-        Case::on_records("4096 records, last a = b", sizes, &last_same, 4),
-        Case::on_records("4096 records, last two equal", sizes, &last_equal, 5),
+        Case::on_records("8192 records, 32 in a slot", sizes, &spread, 0),
+        Case::on_records("8193 records", sizes, &longer, 2),
+        Case::on_bytes("49151 bytes", sizes, cut(49151), 2),
+        Case::on_bytes("49153 bytes", sizes, cut(49153), 2),
+        Case::on_records("8193 records and n 257", (257, 255), &longer, 1),
+        Case::on_records(
+            "8192 records, last two equal",
+            sizes,
+            &with_last(before_last),
+            5,
+        ),
+        Case::on_records(
+            "8192 records, last a = n",
+            sizes,
+            &with_last((255, 256, 15)),
+            4,
+        ),
     ]
 }
 
-/// The smallest and the largest sizes, with and without contacts.
+/// The smallest and the largest sizes, with and without records.
 fn corners() -> Vec<Case> {
     vec![
         Case::on_records("n 0, T 0, empty plan", (0, 0), &[], 1),
@@ -144,13 +145,19 @@ fn corners() -> Vec<Case> {
         Case::on_records("n 256, T 256, empty plan", (256, 256), &[], 1),
         Case::on_records("n 65535, T 65535, empty plan", (65535, 65535), &[], 1),
         Case::on_records(
-            "n 256, T 255, last contact",
+            "n 256, T 255, last record",
             (256, 255),
-            &[(255, 254, 255)],
+            &[(255, 255, 254)],
             0,
         ),
-        Case::on_records("n 2, T 1, the one contact", (2, 1), &[(1, 0, 1)], 0),
+        Case::on_records(
+            "n 2, T 1, the two records",
+            (2, 1),
+            &[(1, 0, 1), (1, 1, 0)],
+            0,
+        ),
         Case::on_records("n 1, contact 0 1", (1, 1), &[(1, 0, 1)], 4),
+        Case::on_records("n 1, contact 1 0", (1, 1), &[(1, 1, 0)], 4),
         Case::on_records("n 1, contact 0 0", (1, 1), &[(1, 0, 0)], 4),
         Case::on_records("plan A with n 256, T 255", (256, 255), &PLAN_A, 0),
         Case::on_records("plan A with n 4", (4, 4), &PLAN_A, 4),

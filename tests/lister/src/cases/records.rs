@@ -1,6 +1,7 @@
 //! Causes 3, 4 and 5, each alone, on both sides of each limit.
 
-use super::{Case, Record, PLAN_A};
+use super::{doubled, Case, Record, PLAN_A};
+use crate::one_way::{OneWayPlan, ONE_WAY_PLANS};
 
 pub fn cases() -> Vec<Case> {
     [
@@ -11,6 +12,7 @@ pub fn cases() -> Vec<Case> {
         orders(),
         orders_wide(),
         places(),
+        one_way(),
     ]
     .concat()
 }
@@ -77,12 +79,12 @@ fn stations_small() -> Vec<Case> {
     let contacts = [
         (0, 0, 4),
         (0, 1, 0),
-        (1, 0, 4),
+        (1, 0, 0),
         (1, 1, 4),
         (0, 4, 0),
         (3, 4, 0),
-        (4, 0, 4),
-        (4, 3, 4),
+        (4, 0, 0),
+        (4, 3, 0),
         (4, 4, 4),
         (0, 5, 4),
         (4, 5, 4),
@@ -90,13 +92,19 @@ fn stations_small() -> Vec<Case> {
         (5, 4, 4),
         (5, 5, 4),
         (5, 6, 4),
+        (6, 5, 4),
         (0, 6, 4),
+        (6, 0, 4),
         (0, 256, 4),
+        (256, 0, 4),
         (0, 257, 4),
+        (257, 0, 4),
         (0, 260, 4),
+        (260, 0, 4),
         (256, 1, 4),
         (256, 257, 4),
         (0, 1024, 4),
+        (1024, 0, 4),
         (0, 65535, 4),
         (65535, 0, 4),
         (65534, 65535, 4),
@@ -110,19 +118,22 @@ fn stations_large() -> Vec<Case> {
     let contacts = [
         (0, 255, 0),
         (254, 255, 0),
-        (255, 0, 4),
-        (255, 254, 4),
+        (255, 0, 0),
+        (255, 254, 0),
         (255, 255, 4),
         (0, 256, 4),
         (1, 256, 4),
         (255, 256, 4),
+        (256, 0, 4),
         (256, 1, 4),
         (256, 255, 4),
         (256, 256, 4),
         (256, 257, 4),
         (256, 512, 4),
         (0, 257, 4),
+        (257, 0, 4),
         (0, 511, 4),
+        (511, 0, 4),
         (255, 65280, 4),
         (65280, 255, 4),
         (65280, 65281, 4),
@@ -137,7 +148,7 @@ fn stations_large() -> Vec<Case> {
 
 /// Two records at n 5, T 4: above, equal, and below, by each field.
 fn orders() -> Vec<Case> {
-    let pairs: [(&str, Record, Record, u8); 15] = [
+    let pairs: [(&str, Record, Record, u8); 23] = [
         ("above by slot only", (1, 0, 1), (2, 0, 1), 0),
         ("above by a only", (1, 0, 4), (1, 1, 4), 0),
         ("above by b only", (1, 0, 1), (1, 0, 2), 0),
@@ -153,6 +164,14 @@ fn orders() -> Vec<Case> {
         ("below by slot, b above", (2, 0, 1), (1, 0, 4), 5),
         ("below by slot, a above", (2, 0, 4), (1, 3, 4), 5),
         ("below by a, b above", (1, 1, 2), (1, 0, 4), 5),
+        ("the other direction, a 0 to 1", (1, 0, 1), (1, 1, 0), 0),
+        ("the other direction, a 4 to 2", (1, 4, 2), (1, 2, 4), 5),
+        ("a above b, above by a", (1, 2, 1), (1, 3, 0), 0),
+        ("a above b, above by b", (1, 4, 0), (1, 4, 3), 0),
+        ("a above b, equal record", (1, 4, 3), (1, 4, 3), 5),
+        ("a above b, below by b", (1, 4, 3), (1, 4, 0), 5),
+        ("a above b, below by a", (1, 4, 0), (1, 3, 2), 5),
+        ("a above b, b above a of another", (1, 1, 4), (1, 3, 0), 0),
     ];
     let case = |(label, one, other, stated): &(&str, Record, Record, u8)| {
         Case::on_records(label, (5, 4), &[*one, *other], *stated)
@@ -184,7 +203,7 @@ fn orders() -> Vec<Case> {
 
 /// Two records at n 256, T 255: a key of too few bits orders them otherwise.
 fn orders_wide() -> Vec<Case> {
-    let pairs: [(&str, Record, Record, u8); 12] = [
+    let pairs: [(&str, Record, Record, u8); 16] = [
         ("wide, above by a, b 255 to 2", (1, 0, 255), (1, 1, 2), 0),
         ("wide, above by slot, b 2 to 1", (1, 0, 2), (2, 0, 1), 0),
         (
@@ -203,10 +222,24 @@ fn orders_wide() -> Vec<Case> {
         ("wide, slot 255 to 254", (255, 0, 1), (254, 254, 255), 5),
         (
             "wide, largest record twice",
-            (255, 254, 255),
-            (255, 254, 255),
+            (255, 255, 254),
+            (255, 255, 254),
             5,
         ),
+        (
+            "wide, the other direction, falling",
+            (1, 255, 0),
+            (1, 0, 255),
+            5,
+        ),
+        (
+            "wide, the other direction, rising",
+            (1, 0, 255),
+            (1, 255, 0),
+            0,
+        ),
+        ("wide, a 254 to 255", (9, 254, 255), (9, 255, 0), 0),
+        ("wide, a 255 to 254", (9, 255, 0), (9, 254, 255), 5),
     ];
     let case = |(label, one, other, stated): &(&str, Record, Record, u8)| {
         Case::on_records(label, (256, 255), &[*one, *other], *stated)
@@ -214,7 +247,7 @@ fn orders_wide() -> Vec<Case> {
     pairs.iter().map(case).collect()
 }
 
-/// Plan A with one record changed, at the first, a middle and the last position; P8 too.
+/// Plan A with one record changed, at every position; P8 too.
 fn places() -> Vec<Case> {
     let changed = |position: usize, record: Record| {
         let mut records = PLAN_A.to_vec();
@@ -231,8 +264,9 @@ fn places() -> Vec<Case> {
         push("slot 0", (0, a, b), 3);
         push("slot 5", (5, a, b), 3);
         push("a = b", (slot, a, a), 4);
-        push("a and b exchanged", (slot, b, a), 4);
+        push("a and b exchanged", (slot, b, a), 5);
         push("b = n", (slot, a, 5), 4);
+        push("a = n", (slot, 5, b), 4);
     }
     for position in 1..PLAN_A.len() {
         let label = format!("plan A, position {position} equals the one before");
@@ -262,7 +296,7 @@ fn places() -> Vec<Case> {
         &with_itself,
         4,
     ));
-    let two = [(1, 0, 1), (1, 1, 2)];
+    let two = doubled(&[(1, 0, 1), (1, 1, 2)]);
     cases.push(Case::on_records(
         "P10 two contacts in slot 1",
         (3, 1),
@@ -270,5 +304,28 @@ fn places() -> Vec<Case> {
         0,
     ));
     cases.push(Case::on_records("plan A", (5, 4), &PLAN_A, 0));
+    cases
+}
+
+/// Plans with one direction alone; the records of one of them exchanged.
+fn one_way() -> Vec<Case> {
+    let case = |plan: &OneWayPlan| Case::on_records(plan.label, plan.sizes, plan.records, 0);
+    let mut cases: Vec<Case> = ONE_WAY_PLANS.iter().map(case).collect();
+    let plan_a = [
+        (1, 0, 1),
+        (1, 0, 2),
+        (2, 1, 3),
+        (2, 2, 3),
+        (3, 2, 3),
+        (4, 3, 4),
+    ];
+    // A record with the larger sender may stand alone or last in its slot.
+    for (position, stated) in [5, 0, 5, 0, 0, 0].into_iter().enumerate() {
+        let mut records = plan_a;
+        let (slot, a, b) = records[position];
+        records[position] = (slot, b, a);
+        let label = format!("plan A with one direction, {position} exchanged");
+        cases.push(Case::on_records(&label, (5, 4), &records, stated));
+    }
     cases
 }

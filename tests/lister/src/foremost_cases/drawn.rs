@@ -17,7 +17,7 @@ pub fn cases() -> Vec<Case> {
     let mut cases = Vec::new();
     for index in 0..PLANS {
         let (stations, slots) = (random.between(4, 7), random.between(5, 12));
-        let wanted = random.between(8, 16);
+        let wanted = random.between(10, 24);
         let records = valid_records(&mut random, stations, slots, wanted);
         let label = format!("drawn {index}, seed {SEED}");
         let plan = LabelledPlan::of_records(&label, (stations as u16, slots as u16), &records);

@@ -2,7 +2,7 @@
 //! reach-cases, and plans in which the earliest slot and later ones differ.
 
 use crate::pair_cases::{Case, LabelledPlan};
-use crate::reach_cases::{exact_plans, ladder, Builder};
+use crate::reach_cases::{exact_plans, ladder, sent_ladder, Builder};
 
 pub fn cases() -> Vec<Case> {
     let mut cases = known_plans();
@@ -27,34 +27,53 @@ fn known_plans() -> Vec<Case> {
 /// The layers of a ladder whose last two stations have 2^63 walks each, in slot 64.
 const LAYERS: usize = 64;
 
-/// A label; the slots in which a station behind the ladder meets the first of these two, the second,
-/// and the source; the number of foremost.
-type Behind = (&'static str, [&'static [usize]; 3], u8);
+/// A label; the slots in which a station behind the ladder hears the first of these two, the second,
+/// and the source; the number of foremost where it sends to them too, and where it does not.
+type Behind = (&'static str, [&'static [usize]; 3], u8, u8);
 
 /// The plans. In a label "then" is in the slot in which the station behind the ladder is reached.
 const BEHIND: [Behind; 8] = [
-    ("2^63 then, 2^63 later", [&[65], &[66], &[]], 0),
-    ("2^63 then, one hop later", [&[65], &[], &[66]], 0),
-    ("2^63 then and later, sent back", [&[65, 67], &[66], &[]], 9),
-    ("2^64 then", [&[65], &[65], &[]], 9),
-    ("2^64 then, one hop later", [&[65], &[65], &[66]], 9),
-    ("2^64 and one hop then", [&[65], &[65], &[65]], 0),
-    ("2^63 then, 2^64 later", [&[65, 66], &[66], &[]], 9),
-    ("one hop then, 2^64 later", [&[66], &[66], &[65]], 9),
+    ("2^63 then, 2^63 later", [&[65], &[66], &[]], 0, 0),
+    ("2^63 then, one hop later", [&[65], &[], &[66]], 0, 0),
+    (
+        "2^63 then and later, sent back",
+        [&[65, 67], &[66], &[]],
+        9,
+        0,
+    ),
+    ("2^64 then", [&[65], &[65], &[]], 9, 9),
+    ("2^64 then, one hop later", [&[65], &[65], &[66]], 9, 9),
+    ("2^64 and one hop then", [&[65], &[65], &[65]], 0, 0),
+    ("2^63 then, 2^64 later", [&[65, 66], &[66], &[]], 9, 9),
+    ("one hop then, 2^64 later", [&[66], &[66], &[65]], 9, 9),
 ];
 
 fn arrivals() -> Vec<Case> {
     let mut cases = Vec::new();
-    for (label, meetings, number) in BEHIND {
-        let mut builder = ladder(LAYERS, 2);
-        let end = builder.station();
-        let others = [end - 2, end - 1, 0];
-        for (other, slots) in others.into_iter().zip(meetings) {
-            for slot in slots {
-                builder.meet(*slot, end, other);
-            }
-        }
-        cases.extend(to_two(&format!("arrival, {label}"), &builder, number));
+    for (label, heard, of_both, of_one) in BEHIND {
+        let [both, one] = [
+            behind(ladder(LAYERS, 2), heard, Builder::meet),
+            behind(sent_ladder(LAYERS, 2), heard, Builder::send),
+        ];
+        cases.extend(to_two(&format!("arrival, {label}"), &both, of_both));
+        let [to_end, _] = to_two(&format!("one-way arrival, {label}"), &one, of_one);
+        cases.push(to_end);
     }
     cases
+}
+
+/// A ladder with a station behind it that hears the last two and the source in these slots.
+fn behind(
+    mut builder: Builder,
+    heard: [&[usize]; 3],
+    join: fn(&mut Builder, usize, usize, usize),
+) -> Builder {
+    let end = builder.station();
+    let others = [end - 2, end - 1, 0];
+    for (other, slots) in others.into_iter().zip(heard) {
+        for slot in slots {
+            join(&mut builder, *slot, other, end);
+        }
+    }
+    builder
 }

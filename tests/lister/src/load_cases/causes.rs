@@ -16,9 +16,10 @@ pub fn cases() -> Vec<Case> {
 }
 
 /// Records with one of causes 1, 3, 4, 5 each.
-const FAULTS: [(&str, &[Record]); 8] = [
+const FAULTS: [(&str, &[Record]); 9] = [
     ("n 33", &[(1, 0, 1), (1, 0, 32)]),
     ("n 65536", &[(1, 0, 65535), (2, 0, 1)]),
+    ("n 33 by a", &[(1, 0, 1), (1, 32, 0)]),
     ("T 64", &[(1, 0, 1), (64, 0, 1)]),
     ("T 0", &[(1, 0, 1), (0, 0, 1)]),
     ("slot 0", &[(0, 0, 1), (1, 0, 1)]),
@@ -44,17 +45,17 @@ fn length_first() -> Vec<Case> {
     cases
 }
 
-/// 513 records with each other fault, at their beginning and at their end.
+/// 1,025 records with each other fault, at their beginning and at their end in turn.
 fn too_many_first() -> Vec<Case> {
     let mut cases = Vec::new();
-    for (fault, records) in FAULTS {
-        let spread = spread_records(513 - records.len());
-        let early = [records, &spread].concat();
-        let label = format!("2 before {fault}, 513 records");
-        cases.push(Case::on_records(&label, &early, 2));
-        let late = [&spread, records].concat();
-        let label = format!("2 before {fault} at the end, 513 records");
-        cases.push(Case::on_records(&label, &late, 2));
+    for (index, (fault, records)) in FAULTS.into_iter().enumerate() {
+        let spread = spread_records(1025 - records.len());
+        let (place, all) = match index % 2 {
+            0 => ("", [records, &spread].concat()),
+            _ => (" at the end", [&spread, records].concat()),
+        };
+        let label = format!("2 before {fault}{place}, 1025 records");
+        cases.push(Case::on_records(&label, &all, 2));
     }
     cases
 }
@@ -79,6 +80,11 @@ fn sizes_second() -> Vec<Case> {
         ),
         ("n 33 in a record of slot 0", &[(0, 0, 32), (1, 0, 1)], 1),
         ("n 33 by a = b", &[(1, 32, 32), (2, 0, 1)], 1),
+        (
+            "n 33 by a, after equal records",
+            &[(1, 0, 1), (1, 0, 1), (1, 32, 0)],
+            1,
+        ),
         ("T 0 after slot above T", &[(1, 0, 1), (0, 0, 1)], 1),
         ("T 0 after a = b", &[(1, 1, 1), (0, 0, 1)], 1),
         ("T 0 in a record with a = b", &[(0, 1, 1)], 1),
@@ -106,14 +112,14 @@ fn sizes_second() -> Vec<Case> {
 fn one_record() -> Vec<Case> {
     on_table(&[
         ("3 before 4, slot 0", &[(0, 1, 1), (1, 0, 1)], 3),
-        ("3 before 4, slot above T", &[(5, 3, 2), (4, 0, 1)], 3),
+        ("3 before 4, slot above T", &[(5, 3, 3), (4, 0, 1)], 3),
         ("3 before 5, slot 0", &[(1, 0, 1), (0, 0, 1), (2, 0, 1)], 3),
         ("3 before 4 and 5", &[(1, 0, 1), (0, 0, 0), (2, 0, 1)], 3),
         ("4 before 5, a = b", &[(2, 1, 2), (1, 3, 3), (2, 1, 3)], 4),
         (
-            "4 before 5, b before a",
+            "5 of a record with a above b",
             &[(2, 1, 2), (2, 1, 0), (2, 1, 3)],
-            4,
+            5,
         ),
         ("4 before 5 in the last record", &[(2, 1, 2), (2, 0, 0)], 4),
         (
@@ -130,7 +136,12 @@ fn two_records() -> Vec<Case> {
     on_table(&[
         ("earlier 3, later 4", &[(0, 0, 1), (1, 1, 1), (1, 0, 1)], 3),
         ("earlier 3, later 5", &[(2, 0, 1), same, same], 3),
-        ("earlier 4, later 3", &[(1, 1, 0), (0, 0, 1), (1, 0, 1)], 4),
+        ("earlier 4, later 3", &[(1, 1, 1), (0, 0, 1), (1, 0, 1)], 4),
+        (
+            "earlier a above b, later 3",
+            &[(1, 1, 0), (0, 0, 1), (1, 0, 1)],
+            3,
+        ),
         (
             "earlier 4, later slot above T",
             &[(1, 1, 1), (5, 0, 1), (2, 0, 1)],

@@ -1,16 +1,15 @@
-//! Loads of 1 to 13 digits, the longest text, and counts above 2^63.
+//! Loads of 1 to 13 digits, and the longest text.
 
 use super::Case;
-use crate::cases::{plan_bytes, Record};
-use crate::load_program::{MOST_SLOTS, MOST_STATIONS};
+use crate::load_program::{MOST_CONTACTS, MOST_SLOTS, MOST_STATIONS};
 use crate::plans::Owned;
 use crate::reach_cases::Builder;
 
 pub fn cases() -> Vec<Case> {
     let mut cases = rare_paths();
     cases.extend(stars());
+    cases.extend(one_way_stars());
     cases.push(Case::on_bytes("longest text", longest(), 0));
-    cases.push(Case::on_bytes("counts above 2^63", large_counts(), 0));
     cases
 }
 
@@ -90,64 +89,39 @@ fn stars() -> Vec<Case> {
     cases
 }
 
-/// A cycle of 32 stations: each slot from 1 to 63 has its next contact, and slots 1 and 63 have all.
-fn longest() -> Vec<u8> {
-    let contact = |slot: usize, from: usize| -> Record {
-        let ends = [from % MOST_STATIONS, (from + 1) % MOST_STATIONS].map(|end| end as u16);
-        (slot as u16, ends[0].min(ends[1]), ends[0].max(ends[1]))
-    };
-    let mut records: Vec<Record> = (1..=MOST_SLOTS).map(|t| contact(t, t - 1)).collect();
-    for slot in [1, MOST_SLOTS] {
-        records.extend((0..MOST_STATIONS).map(|from| contact(slot, from)));
+/// A centre that hears all others in one slot and sends to them in a later one: the same loads. Where it
+/// sends first, all loads are 0.
+fn one_way_stars() -> Vec<Case> {
+    let mut cases = Vec::new();
+    for (stations, centre, [hears, sends]) in [
+        (3, 1, [1, 2]),
+        (MOST_STATIONS, 0, [1, 63]),
+        (MOST_STATIONS, 31, [40, 41]),
+        (MOST_STATIONS, 16, [63, 1]),
+    ] {
+        let mut builder = Builder::start();
+        builder.grow(stations, 1);
+        for other in (0..stations).filter(|other| *other != centre) {
+            builder.send(hears, other, centre);
+            builder.send(sends, centre, other);
+        }
+        let label = format!("{centre} of {stations} hears in slot {hears}, sends in {sends}");
+        cases.push(Case::on_bytes(&label, Owned::built(&builder).bytes, 0));
     }
-    records.sort_unstable();
-    records.dedup();
-    plan_bytes(&records)
+    cases
 }
 
-/// The layers of the plan with large counts: the stations of each, and the first and the last slot in
-/// which all of them meet all of the layer before.
-const LARGE_LAYERS: [(usize, usize, usize); 23] = [
-    (2, 1, 7),
-    (1, 2, 11),
-    (2, 3, 13),
-    (1, 5, 16),
-    (2, 7, 19),
-    (1, 9, 22),
-    (2, 12, 25),
-    (1, 14, 28),
-    (1, 15, 33),
-    (1, 18, 35),
-    (1, 21, 39),
-    (1, 24, 41),
-    (1, 26, 44),
-    (1, 29, 46),
-    (1, 32, 48),
-    (2, 36, 50),
-    (1, 39, 52),
-    (2, 42, 54),
-    (1, 45, 57),
-    (2, 47, 59),
-    (1, 50, 61),
-    (2, 54, 62),
-    (1, 57, 63),
-];
-
-/// 512 records at the limits with over 2^63 shortest paths between the first and the last station.
-fn large_counts() -> Vec<u8> {
+/// A cycle of 32 stations in which each sends to the next in the last 32 slots: 1,024 records. Every other
+/// station is interior to 465 pairs, whole, so all lines have their most digits.
+fn longest() -> Vec<u8> {
+    let first_slot = MOST_SLOTS + 1 - MOST_CONTACTS / MOST_STATIONS;
     let mut builder = Builder::start();
-    let mut last = vec![0];
-    for (width, first_slot, last_slot) in LARGE_LAYERS {
-        let next = builder.layer(width);
-        for slot in first_slot..=last_slot {
-            for station in &last {
-                builder.meet_all(slot, *station, &next);
-            }
+    builder.grow(MOST_STATIONS, MOST_SLOTS);
+    for slot in first_slot..=MOST_SLOTS {
+        for sender in 0..MOST_STATIONS {
+            builder.send(slot, sender, (sender + 1) % MOST_STATIONS);
         }
-        last = next;
     }
-    assert_eq!((last, builder.contacts()), (vec![31], 512));
-    let count = builder.entries().station(31).count;
-    assert!((1 << 63..1 << 64).contains(&count), "{count}");
+    assert_eq!(builder.contacts(), MOST_CONTACTS);
     Owned::built(&builder).bytes
 }

@@ -7,12 +7,13 @@ use crate::random::Random;
 
 /// The seed of the generated cases; each label names it.
 pub const SEED: u64 = 4;
-/// The number of plans of each size.
-const PLANS: usize = 50;
+/// The number of damaged plans.
+const DAMAGED: usize = 50;
 
-/// A size of plans: the largest n, T and number of records.
+/// A size of plans: their number, the largest n, T and number of records.
 struct Size {
     name: &'static str,
+    plans: usize,
     stations: usize,
     slots: usize,
     records: usize,
@@ -21,18 +22,21 @@ struct Size {
 const SIZES: [Size; 3] = [
     Size {
         name: "small",
+        plans: 50,
         stations: 6,
         slots: 5,
-        records: 12,
+        records: 20,
     },
     Size {
         name: "middle",
+        plans: 50,
         stations: 14,
         slots: 16,
-        records: 60,
+        records: 100,
     },
     Size {
         name: "large",
+        plans: 35,
         stations: MOST_STATIONS,
         slots: MOST_SLOTS,
         records: MOST_CONTACTS,
@@ -43,7 +47,7 @@ pub fn cases() -> Vec<Case> {
     let mut random = Random::new(SEED);
     let mut cases = Vec::new();
     for size in &SIZES {
-        for index in 0..PLANS {
+        for index in 0..size.plans {
             cases.push(Case {
                 label: format!("{} {index}, seed {SEED}", size.name),
                 bytes: valid_plan(&mut random, size),
@@ -51,7 +55,7 @@ pub fn cases() -> Vec<Case> {
             });
         }
     }
-    for index in 0..PLANS {
+    for index in 0..DAMAGED {
         cases.push(damaged(&mut random, index));
     }
     cases

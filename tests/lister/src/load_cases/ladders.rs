@@ -2,10 +2,27 @@
 
 use super::Case;
 use crate::plans::Owned;
-use crate::reach_cases::Builder;
+use crate::reach_cases::{falling_ladder, sent_ladder, Builder};
 
 pub fn cases() -> Vec<Case> {
-    [layers(), slots()].concat()
+    [layers(), one_way(), slots()].concat()
+}
+
+/// Ladders whose stations send to the next layer alone; 16 layers of two have 33 stations.
+fn one_way() -> Vec<Case> {
+    let mut cases = Vec::new();
+    for layers in [1, 2, 15, 16] {
+        let stated = if layers > 15 { 1 } else { 0 };
+        for (name, builder) in [
+            ("sent", sent_ladder(layers, 2)),
+            ("falling", falling_ladder(layers)),
+        ] {
+            let label = format!("{name} ladder of {layers} layers of 2");
+            let bytes = Owned::built(&builder).bytes;
+            cases.push(Case::on_bytes(&label, bytes, stated));
+        }
+    }
+    cases
 }
 
 /// Layers of stations; 16 layers of two have 33 stations.

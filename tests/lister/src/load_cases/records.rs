@@ -11,7 +11,7 @@ pub fn cases() -> Vec<Case> {
 const LAST: usize = PLAN_A.len() - 1;
 
 /// Plan A with one record changed.
-fn changed(at: usize, change: impl Fn(Record) -> Record) -> [Record; 6] {
+fn changed(at: usize, change: impl Fn(Record) -> Record) -> [Record; 12] {
     let mut records = PLAN_A;
     records[at] = change(records[at]);
     records
@@ -33,25 +33,21 @@ fn slots() -> Vec<Case> {
             cases.push(Case::on_records(&label, &records, stated));
         }
     }
-    for slot in [1, 2] {
+    for slot in [1, 2, 3] {
         let records = changed(LAST, |(_, a, b)| (slot, a, b));
         let label = format!("plan A, record {LAST} in slot {slot}");
         cases.push(Case::on_records(&label, &records, 3));
     }
-    // In slot 3 the last record is above the one before it.
-    let records = changed(LAST, |(_, a, b)| (3, a, b));
-    let label = format!("plan A, record {LAST} in slot 3");
-    cases.push(Case::on_records(&label, &records, 0));
     cases
 }
 
-/// Every record of plan A with a = b and with a and b exchanged.
+/// Every record of plan A with a = b, and with a and b exchanged, which another record has.
 fn stations() -> Vec<Case> {
     let mut cases = Vec::new();
     for at in 0..PLAN_A.len() {
         let label = |what: &str| format!("plan A, record {at}, {what}");
         let exchanged = changed(at, |(slot, a, b)| (slot, b, a));
-        cases.push(Case::on_records(&label("b before a"), &exchanged, 4));
+        cases.push(Case::on_records(&label("exchanged"), &exchanged, 5));
         let same = changed(at, |(slot, a, _)| (slot, a, a));
         cases.push(Case::on_records(&label("b as a"), &same, 4));
         let same = changed(at, |(slot, _, b)| (slot, b, b));
@@ -63,19 +59,17 @@ fn stations() -> Vec<Case> {
 /// Every record of plan A twice, and exchanged with the next.
 fn orders() -> Vec<Case> {
     let mut cases = Vec::new();
-    for at in 0..PLAN_A.len() {
+    for (at, record) in PLAN_A.into_iter().enumerate() {
         let mut records = PLAN_A.to_vec();
-        records.insert(at, PLAN_A[at]);
+        records.insert(at, record);
         let label = format!("plan A, record {at} twice");
         cases.push(Case::on_records(&label, &records, 5));
     }
     for at in 0..LAST {
         let mut records = PLAN_A;
         records.swap(at, at + 1);
-        // With record 4 last T is 3, and the slot of the record before it is above T.
-        let stated = if at + 1 == LAST { 3 } else { 5 };
         let label = format!("plan A, records {at} and {} exchanged", at + 1);
-        cases.push(Case::on_records(&label, &records, stated));
+        cases.push(Case::on_records(&label, &records, 5));
     }
     cases
 }
@@ -107,6 +101,10 @@ fn small_orders() -> Vec<Case> {
         ("slots 2, 1, 2", &[(2, 0, 1), (1, 0, 1), (2, 1, 2)], 5),
         ("not above by a", &[(1, 1, 2), (1, 0, 3)], 5),
         ("not above by b", &[(1, 0, 2), (1, 0, 1)], 5),
+        ("the other direction, falling", &[(1, 1, 0), (1, 0, 1)], 5),
+        ("the other direction, rising", &[(1, 0, 1), (1, 1, 0)], 0),
+        ("a above b, above by b", &[(1, 3, 0), (1, 3, 2)], 0),
+        ("a above b, not above by b", &[(1, 3, 2), (1, 3, 0)], 5),
         (
             "equal records 0 and 2",
             &[(1, 0, 1), (1, 0, 2), (1, 0, 1)],

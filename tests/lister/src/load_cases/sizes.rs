@@ -15,10 +15,10 @@ pub fn cases() -> Vec<Case> {
     .concat()
 }
 
-/// One contact with a station number around the limits, and with a plain low byte.
+/// One record with a station number around the limits, and with a plain low byte.
 fn station_limits() -> Vec<Case> {
     let mut cases = Vec::new();
-    for (b, stated) in [
+    for (station, stated) in [
         (2, 0),
         (30, 0),
         (31, 0),
@@ -32,20 +32,20 @@ fn station_limits() -> Vec<Case> {
         (65534, 1),
         (65535, 1),
     ] {
-        let label = format!("contact 0 {b} in slot 1");
-        cases.push(Case::on_records(&label, &[(1, 0, b)], stated));
-        // The larger number first is cause 4, where n has no cause.
+        let label = format!("contact 0 {station} in slot 1");
+        cases.push(Case::on_records(&label, &[(1, 0, station)], stated));
+        let label = format!("contact {station} 0 in slot 1");
+        cases.push(Case::on_records(&label, &[(1, station, 0)], stated));
+        // A station with itself is cause 4, where n has no cause.
         let stated = if stated == 0 { 4 } else { stated };
-        let label = format!("contact {b} 0 in slot 1");
-        cases.push(Case::on_records(&label, &[(1, b, 0)], stated));
-        let label = format!("contact {b} {b} in slot 1");
-        cases.push(Case::on_records(&label, &[(1, b, b)], stated));
+        let label = format!("contact {station} {station} in slot 1");
+        cases.push(Case::on_records(&label, &[(1, station, station)], stated));
     }
     cases.push(Case::on_records("contact 0 0, n 1", &[(1, 0, 0)], 4));
     cases
 }
 
-/// One contact with a slot around the limits, and with a plain low byte.
+/// One record with a slot around the limits, and with a plain low byte.
 fn slot_limits() -> Vec<Case> {
     let slots = [
         (0, 1),
@@ -88,6 +88,8 @@ fn places() -> Vec<Case> {
         ("n 33 in record 0", &[(1, 0, 32), (2, 0, 1), (3, 1, 2)], 1),
         ("n 33 in record 1", &[(1, 0, 1), (2, 1, 32), (3, 1, 2)], 1),
         ("n 33 in record 2", &[(1, 0, 1), (2, 1, 2), (3, 2, 32)], 1),
+        ("n 32 by a", &[(1, 0, 1), (2, 31, 2), (3, 2, 1)], 0),
+        ("n 33 by a", &[(1, 0, 1), (2, 32, 2), (3, 2, 1)], 1),
         ("n 65536 in record 0", &[(1, 0, 65535), (2, 0, 1)], 1),
         ("n 65536 in record 1", &[(1, 0, 1), (2, 0, 65535)], 1),
         ("n 65536 by a", &[(1, 65535, 0), (2, 0, 1)], 1),
@@ -110,28 +112,29 @@ fn places() -> Vec<Case> {
     ])
 }
 
-/// 512 records at the limits, and one change in them.
+/// 1,024 records at the limits, and one change in them.
 fn most_records() -> Vec<Case> {
-    let whole = spread_records(512);
+    let whole = spread_records(1024);
     let changed = |at: usize, record: Record| {
         let mut records = whole.clone();
         records[at] = record;
         records
     };
-    let equal = changed(511, whole[510]);
-    let longer = spread_records(513);
+    let equal = changed(1023, whole[1022]);
+    let longer = spread_records(1025);
     vec![
-        Case::on_records("512 records, n 32, T 63", &whole, 0),
-        Case::on_records("513 records, n 32, T 63", &longer, 2),
-        Case::on_records("512 records, last b 32", &changed(511, (63, 30, 32)), 1),
-        Case::on_records("512 records, last slot 64", &changed(511, (64, 0, 1)), 1),
-        Case::on_records("512 records, last slot 0", &changed(511, (0, 30, 31)), 1),
-        Case::on_records("512 records, last slot 62", &changed(511, (62, 0, 1)), 3),
-        Case::on_records("512 records, last a = b", &changed(511, (63, 31, 31)), 4),
-        Case::on_records("512 records, last two equal", &equal, 5),
-        Case::on_records("512 records, first b 32", &changed(0, (1, 0, 32)), 1),
-        Case::on_records("512 records, first slot 0", &changed(0, (0, 0, 1)), 3),
-        Case::on_records("512 records, first a = b", &changed(0, (1, 0, 0)), 4),
-        Case::on_records("512 records, first two equal", &changed(0, whole[1]), 5),
+        Case::on_records("1024 records, n 32, T 63", &whole, 0),
+        Case::on_records("1025 records, n 32, T 63", &longer, 2),
+        Case::on_records("1024 records, last b 32", &changed(1023, (63, 31, 32)), 1),
+        Case::on_records("1024 records, last a 32", &changed(1023, (63, 32, 31)), 1),
+        Case::on_records("1024 records, last slot 64", &changed(1023, (64, 0, 1)), 1),
+        Case::on_records("1024 records, last slot 0", &changed(1023, (0, 30, 31)), 1),
+        Case::on_records("1024 records, last slot 62", &changed(1023, (62, 0, 1)), 3),
+        Case::on_records("1024 records, last a = b", &changed(1023, (63, 31, 31)), 4),
+        Case::on_records("1024 records, last two equal", &equal, 5),
+        Case::on_records("1024 records, first b 32", &changed(0, (1, 0, 32)), 1),
+        Case::on_records("1024 records, first slot 0", &changed(0, (0, 0, 1)), 3),
+        Case::on_records("1024 records, first a = b", &changed(0, (1, 0, 0)), 4),
+        Case::on_records("1024 records, first two equal", &changed(0, whole[1]), 5),
     ]
 }

@@ -1,7 +1,7 @@
 //! Ladders.
 
 use super::{Case, LabelledPlan};
-use crate::reach_cases::ladder;
+use crate::reach_cases::{falling_ladder, ladder, sent_ladder};
 
 pub fn cases() -> Vec<Case> {
     [
@@ -9,6 +9,7 @@ pub fn cases() -> Vec<Case> {
         too_many(),
         other_sources(),
         other_widths(),
+        one_way(),
     ]
     .concat()
 }
@@ -24,17 +25,17 @@ fn last(layers: usize) -> u16 {
     2 * layers as u16
 }
 
-/// 63 and 64 layers.
+/// 64 layers.
 fn accepted_ladders() -> Vec<Case> {
-    let mut cases = Vec::new();
-    for layers in [63, 64] {
-        let plan = on(layers, "");
-        cases.push(plan.pair(0, last(layers)));
-        cases.push(plan.pair(0, last(layers) - 1));
-        cases.push(plan.pair(0, last(layers) / 2));
-        cases.push(plan.pair(last(layers), 0));
-    }
-    cases.extend([on(64, "").loads(), on(64, "").busiest()]);
+    let plan = on(64, "");
+    let mut cases = vec![
+        plan.pair(0, last(64)),
+        plan.pair(0, last(64) - 1),
+        plan.pair(0, last(64) / 2),
+        plan.pair(last(64), 0),
+        plan.loads(),
+        plan.busiest(),
+    ];
     let plan = on(64, ", longer");
     for case in [plan.pair(0, last(64)), plan.loads()] {
         cases.push(case.longer([7, 6, 8]).marked(4321));
@@ -73,12 +74,31 @@ fn other_sources() -> Vec<Case> {
     pairs.into_iter().map(case).collect()
 }
 
-/// Ladders of other widths, the last accepted one and the first that is not.
+/// 64 and 65 layers of two whose stations send to the next layer alone.
+fn one_way() -> Vec<Case> {
+    let mut cases = Vec::new();
+    for (layers, number) in [(64, 0), (65, 9)] {
+        for (name, builder, end) in [
+            ("sent", sent_ladder(layers, 2), last(layers)),
+            ("falling", falling_ladder(layers), 1),
+        ] {
+            let label = format!("{name} ladder of {layers} layers");
+            let plan = LabelledPlan::built(&label, &builder);
+            cases.push(plan.pair(0, end).stating(number));
+            cases.push(plan.pair(end, 0).stating(0));
+            cases.push(plan.loads().stating(number));
+        }
+    }
+    cases
+}
+
+/// Ladders of other widths whose stations send to the next layer alone, the last accepted one and the
+/// first that is not.
 fn other_widths() -> Vec<Case> {
     let mut cases = Vec::new();
     for (width, layers, number) in [(3, 41, 0), (3, 42, 9), (7, 23, 0), (7, 24, 9)] {
-        let label = format!("ladder of {layers} layers, {width} wide");
-        let plan = LabelledPlan::built(&label, &ladder(layers, width));
+        let label = format!("sent ladder of {layers} layers, {width} wide");
+        let plan = LabelledPlan::built(&label, &sent_ladder(layers, width));
         cases.push(plan.pair(0, (width * layers) as u16).stating(number));
         cases.push(plan.loads().stating(number));
     }

@@ -1,11 +1,12 @@
-//! Pair, loads and busiest at n 256 and T 255, with few records and with 4,096; and sizes whose
+//! Pair, loads and busiest at n 256 and T 255, with few records and with 8,192; and sizes whose
 //! stations do not divide evenly into blocks.
 
 use super::{Case, LabelledPlan};
 use crate::call_cases::Called;
-use crate::cases::{valid_records, Record, PLAN_A};
+use crate::cases::{doubled, valid_records, Record, PLAN_A};
+use crate::plans::possible_records;
 use crate::random::Random;
-use crate::reach_cases::{every_slot, star, CORNERS};
+use crate::reach_cases::{every_slot, falling_row, rising_row, star, CORNERS};
 
 pub fn cases() -> Vec<Case> {
     let mut cases = few_records();
@@ -30,8 +31,8 @@ fn few_records() -> Vec<Case> {
     let empty = on("empty plan", &[]);
     let corners = on("corners", &CORNERS);
     let plan_a = on("plan A", &PLAN_A);
-    let row: Vec<Record> = (1..=255).map(|slot| (slot, slot - 1, slot)).collect();
-    let row = on("row", &row);
+    let row = on("row", &rising_row());
+    let falling = on("falling row", &falling_row());
     let mut cases = vec![
         empty.pair(0, 255),
         empty.loads(),
@@ -44,8 +45,11 @@ fn few_records() -> Vec<Case> {
         row.pair(0, 255),
         row.pair(100, 200),
         row.pair(255, 0),
-        row.clone().counted().loads(),
         row.counted().busiest(),
+        falling.pair(255, 0),
+        falling.pair(200, 100),
+        falling.pair(0, 255),
+        falling.counted().loads(),
     ];
     for pair in [(0, 254), (254, 0), (1, 254), (254, 1), (255, 1)] {
         cases.push(corners.pair(pair.0, pair.1));
@@ -53,28 +57,19 @@ fn few_records() -> Vec<Case> {
     cases
 }
 
-/// 4,096 contacts of 64 stations in 127 slots, spread over the possible ones.
+/// 8,192 records of 64 stations in 127 slots, spread over the possible ones.
 pub fn dense() -> Vec<Record> {
-    let of_slot = |slot: u16| {
-        let of_a = move |a: u16| (a + 1..64).map(move |b| (slot, a, b));
-        (0..64).flat_map(of_a)
-    };
-    let possible = (1..=127).flat_map(of_slot);
-    possible.step_by(61).take(4096).collect()
+    let possible = possible_records(64, 127).into_iter();
+    possible.step_by(62).take(8192).collect()
 }
 
 fn many_records() -> Vec<Case> {
-    let star = on("4096 records, 0 meets all in turn", &star()).counted();
-    let spread = on("4096 records in every slot", &every_slot());
-    let dense = LabelledPlan::of_records("n 64, T 127, 4096 records", (64, 127), &dense());
+    let star = on("8192 records, 0 meets all in turn", &star()).counted();
+    let spread = on("8192 records in every slot", &every_slot());
+    let dense = LabelledPlan::of_records("n 64, T 127, 8192 records", (64, 127), &dense());
     let dense = dense.counted();
-    let cases = vec![
-        star.pair(1, 255),
-        star.busiest(),
-        spread.pair(240, 239),
-        dense.loads(),
-    ];
-    assert!(cases.iter().all(|case| case.bytes.len() == 6 * 4096));
+    let cases = vec![star.busiest(), spread.pair(240, 239), dense.loads()];
+    assert!(cases.iter().all(|case| case.bytes.len() == 6 * 8192));
     cases
 }
 
@@ -115,23 +110,26 @@ pub const BLOCKS: [(u16, u16); 11] = [
 /// The seed of the drawn records; each label names it.
 const SEED: u64 = 4;
 
-/// Two plans of each size: one in which a pair has most stations interior, and, where a path can have
-/// two hops, a drawn one.
+/// Two plans of each size: one in which a pair has most stations interior, doubled for every other size,
+/// and, where a path can have two hops, a drawn one.
 fn blocks() -> Vec<Case> {
     let mut random = Random::new(SEED);
     let mut cases = Vec::new();
-    for (stations, slots) in BLOCKS {
+    for (index, (stations, slots)) in BLOCKS.into_iter().enumerate() {
         let on = |label: &str, records: &[Record]| {
             let label = format!("blocks n {stations}, T {slots}, {label}");
             let plan = LabelledPlan::of_records(&label, (stations, slots), records);
             counted_where_large(plan)
         };
         let (source, destination) = (stations / 2, stations / 2 + 1);
-        let records = between(&mut random, (stations, slots), source, destination);
+        let mut records = between(&mut random, (stations, slots), source, destination);
+        if index % 2 == 0 {
+            records = doubled(&records);
+        }
         let between = on("between", &records);
         cases.extend([between.pair(source, destination), between.loads()]);
         if slots > 1 {
-            let wanted = 2 * usize::from(stations) + 20;
+            let wanted = 3 * usize::from(stations) + 20;
             let records = valid_records(&mut random, stations.into(), slots.into(), wanted);
             let drawn = on(&format!("seed {SEED}"), &records);
             cases.extend([drawn.loads(), drawn.busiest()]);
@@ -149,23 +147,22 @@ fn counted_where_large(plan: LabelledPlan) -> LabelledPlan {
     plan
 }
 
-/// The source meets the others in slot 1, and these the destination in later slots: some in none, some
-/// in two, the first and the last station in slot 2 at least.
+/// The source sends to the others in slot 1, and these to the destination in later slots: some in none,
+/// some in two, the first and the last station in slot 2 at least.
 fn between(
     random: &mut Random,
     (stations, slots): (u16, u16),
     source: u16,
     destination: u16,
 ) -> Vec<Record> {
-    let contact = |slot: u16, one: u16, other: u16| (slot, one.min(other), one.max(other));
     let mut records = Vec::new();
     let others = (0..stations).filter(|v| *v != source && *v != destination);
     for station in others {
-        records.push(contact(1, source, station));
+        records.push((1, source, station));
         let is_outer = station == 0 || station + 1 == stations;
         for slot in 2..=slots.min(3) {
             if random.below(4) > 0 || (is_outer && slot == 2) {
-                records.push(contact(slot, station, destination));
+                records.push((slot, station, destination));
             }
         }
     }

@@ -5,7 +5,7 @@ use super::{Case, LabelledPlan, Operation};
 use crate::call_cases::Called;
 use crate::cases::PLAN_A;
 use crate::plan::within_limits;
-use crate::reach_cases::{bytes_with_cause, ladder, plan_faults};
+use crate::reach_cases::{bytes_with_cause, plan_faults, sent_ladder};
 
 pub fn cases() -> Vec<Case> {
     [
@@ -166,9 +166,9 @@ fn lengths() -> Vec<Case> {
     cases
 }
 
-/// Causes 6 to 8 with 9: the ladder of 65 layers.
+/// Causes 6 to 8 with 9: a ladder of 65 layers.
 fn before_too_many() -> Vec<Case> {
-    let on = |label: &str| LabelledPlan::built(label, &ladder(65, 2));
+    let on = |label: &str| LabelledPlan::built(label, &sent_ladder(65, 2));
     let mut cases = vec![
         on("6 before 9").pair(0, 131).stating(6),
         on("6 before 9").pair(131, 0).stating(6),

@@ -17,10 +17,11 @@ pub struct MixedLadder {
 }
 
 /// Ladders with layers of 3 and 2 stations in turn; of the contacts between two layers some are
-/// missing, but each station of the next layer hears one.
+/// missing, but each station of the next layer hears one. In every other ladder it hears and does not
+/// send.
 pub fn mixed_ladders() -> Vec<MixedLadder> {
     let mut random = Random::new(SEED);
-    let ladder = |layers: usize| {
+    let ladder = |(layers, one_way): (usize, bool)| {
         let mut builder = Builder::start();
         let mut last = vec![0];
         for slot in 1..=layers {
@@ -29,7 +30,11 @@ pub fn mixed_ladders() -> Vec<MixedLadder> {
                 let sure = last[random.below(last.len())];
                 let mut heard = last.clone();
                 heard.retain(|one| *one == sure || random.below(8) > 0);
-                builder.meet_all(slot, *station, &heard);
+                if one_way {
+                    builder.hear_all(slot, *station, &heard);
+                } else {
+                    builder.meet_all(slot, *station, &heard);
+                }
             }
             last = next;
         }
@@ -40,7 +45,8 @@ pub fn mixed_ladders() -> Vec<MixedLadder> {
             last,
         }
     };
-    [31, 38, 44, 51].map(ladder).to_vec()
+    let ladders = [(31, false), (38, true), (44, false), (51, true)];
+    ladders.map(ladder).to_vec()
 }
 
 pub fn cases() -> Vec<Case> {

@@ -6,7 +6,7 @@
 use super::ladders::Builder;
 use super::Case;
 use crate::means::COUNT_LIMIT;
-use crate::reach::Entry;
+use crate::reach::{Entry, NO_ENTRY};
 
 /// A plan, the number of reach from its source, and the number where appearances alone count.
 #[derive(Clone, Debug)]
@@ -73,6 +73,9 @@ pub fn exact_plans(bits: usize) -> Vec<Exact> {
         scale.appearance_alone(),
         scale.source_again(),
         scale.last_places(),
+        scale.one_way(),
+        scale.one_way_undercut(),
+        scale.one_way_source_again(),
     ]
     .concat()
 }
@@ -120,10 +123,10 @@ impl Scale {
     }
 
     /// As many layers as bits: the last two stations have half of 2^bits walks each, and as many hops
-    /// as bits; their slot is the last.
+    /// as bits; their slot is the last. A station sends to the next layer, and hears none of it.
     fn halves(self) -> (Builder, Vec<usize>) {
         let mut builder = Builder::start();
-        let last = builder.ladder(self.bits, 2);
+        let last = builder.sent_ladder(self.bits, 2);
         (builder, last)
     }
 
@@ -137,11 +140,13 @@ impl Scale {
         for slot in 1..self.bits {
             let pair = builder.layer(2);
             for station in &pair {
-                builder.meet_all(slot, *station, &last);
+                builder.hear_all(slot, *station, &last);
             }
             let is_last = slot + 1 == self.bits;
             let next = builder.layer(if is_last { singles } else { 1 });
-            builder.meet_all(slot, single[0], &next);
+            for station in &next {
+                builder.send(slot, single[0], *station);
+            }
             last = [pair.as_slice(), &next].concat();
             single = next;
         }
@@ -399,6 +404,72 @@ impl Scale {
         let label = format!("n 256, T 255, 2^{bits}-1 at the last appearance");
         vec![appearance, station, Exact::accepted(label, &builder)]
     }
+
+    /// A station hears the last layer and does not send to it, or sends to it and is not reached.
+    fn one_way(self) -> Vec<Exact> {
+        let Scale { bits } = self;
+        let (mut builder, last) = self.halves();
+        let end = builder.station();
+        builder.hear_all(bits + 1, end, &last);
+        self.assert_over(&builder, &[(end, bits + 1)], &[end]);
+        assert_station(&builder, end, bits + 1, self.top());
+        let label = format!("one way, 2^{bits} in one slot");
+        let heard = Exact::refused(label, &builder);
+
+        let (mut builder, last) = self.halves();
+        let end = builder.station();
+        for station in &last {
+            builder.send(bits + 1, end, *station);
+        }
+        self.assert_over(&builder, &[], &[]);
+        assert_eq!(builder.entries().station(end), NO_ENTRY);
+        let label = format!("one way, 2^{bits} against two records");
+        vec![heard, Exact::accepted(label, &builder)]
+    }
+
+    /// A station has 2^bits walks over two slots, and a later slot brings fewer hops. The station that
+    /// brings them does not hear the 2^bits.
+    fn one_way_undercut(self) -> Vec<Exact> {
+        let Scale { bits } = self;
+        let (mut builder, last) = self.halves();
+        let end = builder.station();
+        let near = builder.station();
+        builder.send(1, 0, near);
+        builder.send(bits + 1, last[0], end);
+        builder.send(bits + 2, last[1], end);
+        self.assert_over(&builder, &[], &[end]);
+        builder.send(bits + 3, near, end);
+        self.assert_over(&builder, &[], &[]);
+        assert_station(&builder, end, 2, 1);
+        let label = format!("one way, 2^{bits} undercut in a later slot");
+        let undercut = Exact::accepted(label, &builder);
+        builder.send(bits + 3, end, near);
+        self.assert_over(&builder, &[(near, bits + 3)], &[]);
+        assert_appearance(&builder, (near, bits + 3), bits + 2, self.top());
+        let label = format!("one way, 2^{bits} undercut, and sent on");
+        vec![undercut, Exact::refused(label, &builder)]
+    }
+
+    /// The source hears the last layer, or sends to it.
+    fn one_way_source_again(self) -> Vec<Exact> {
+        let Scale { bits } = self;
+        let (mut builder, last) = self.halves();
+        builder.hear_all(bits + 1, 0, &last);
+        self.assert_over(&builder, &[(0, bits + 1)], &[]);
+        assert_appearance(&builder, (0, bits + 1), bits + 1, self.top());
+        let label = format!("one way, 2^{bits} heard by the source");
+        let heard = Exact::refused(label, &builder);
+
+        let (mut builder, last) = self.halves();
+        for station in &last {
+            builder.send(bits + 1, 0, *station);
+        }
+        self.assert_over(&builder, &[], &[]);
+        assert_eq!(builder.entries().appearance(0, bits + 1), NO_ENTRY);
+        assert_station(&builder, last[0], 1, 1);
+        let label = format!("one way, the source sends to 2^{bits}");
+        vec![heard, Exact::accepted(label, &builder)]
+    }
 }
 
 /// Rows of stations that meet the next in three slots. After 41 hops the last station but one hears
@@ -419,17 +490,17 @@ fn three_slots_a_hop() -> Vec<Exact> {
     vec![accepted, Exact::refused(label, &builder)]
 }
 
-/// 4,096 records: 17 layers of 15 stations, and contacts of one layer in later slots.
+/// 8,192 records: 17 layers of 15 stations, and stations of one layer that meet in later slots.
 fn most_records() -> Vec<Exact> {
     let ladder = |layer: usize| {
         let mut builder = Builder::start();
         let last = builder.ladder(17, 15);
         let stations = 15 * layer + 1..15 * layer + 16;
         let mut slot = 18;
-        while builder.contacts() < 4096 {
+        while builder.contacts() < 8192 {
             let of = |a: usize| (a + 1..stations.end).map(move |b| (a, b));
             let pairs = stations.clone().flat_map(of);
-            for (a, b) in pairs.take(4096 - builder.contacts()) {
+            for (a, b) in pairs.take((8192 - builder.contacts()) / 2) {
                 builder.meet(slot, a, b);
             }
             slot += 1;
@@ -440,7 +511,7 @@ fn most_records() -> Vec<Exact> {
     let builder = ladder(0);
     assert_over(COUNT_LIMIT, &builder, &[], &[]);
     assert_appearance(&builder, (1, 18), 2, 14);
-    let label = "4096 records, 15^16 at the last layer".to_string();
+    let label = "8192 records, 15^16 at the last layer".to_string();
     let accepted = Exact::accepted(label, &builder);
 
     let builder = ladder(16);
@@ -448,6 +519,6 @@ fn most_records() -> Vec<Exact> {
     assert!(entries.stations_over(COUNT_LIMIT).is_empty());
     assert!(entries.appearances_over(COUNT_LIMIT).contains(&(255, 18)));
     assert_appearance(&builder, (255, 18), 18, 14 * 15_u128.pow(16));
-    let label = "4096 records, 14 times 15^16 at appearances".to_string();
+    let label = "8192 records, 14 times 15^16 at appearances".to_string();
     vec![accepted, Exact::refused(label, &builder)]
 }

@@ -1,7 +1,8 @@
-//! P1 to P3 and P10, and plan A from every source.
+//! P1 to P3 and P10, plan A and plans with one direction alone from every source.
 
 use super::Case;
-use crate::cases::PLAN_A;
+use crate::cases::{doubled, PLAN_A};
+use crate::one_way::ONE_WAY_PLANS;
 
 pub fn cases() -> Vec<Case> {
     let plan_a = |label: &str, source: u16| Case::on_records(label, (5, 4), &PLAN_A, source);
@@ -16,8 +17,14 @@ pub fn cases() -> Vec<Case> {
     }
     for source in 0..3 {
         let label = format!("P10 two contacts in slot 1, from {source}");
-        let records = [(1, 0, 1), (1, 1, 2)];
+        let records = doubled(&[(1, 0, 1), (1, 1, 2)]);
         cases.push(Case::on_records(&label, (3, 1), &records, source));
+    }
+    for plan in ONE_WAY_PLANS {
+        for source in 0..plan.sizes.0 {
+            let label = format!("{}, from {source}", plan.label);
+            cases.push(Case::on_records(&label, plan.sizes, plan.records, source));
+        }
     }
     cases.into_iter().map(|case| case.stating(0)).collect()
 }

@@ -5,6 +5,9 @@ use crate::cases::{plan_bytes, Record};
 use crate::plan::{read, PlanInput};
 use crate::reach::Entries;
 
+/// Joins two stations in a slot: `Builder::meet` or `Builder::send`.
+type Join = fn(&mut Builder, usize, usize, usize);
+
 /// A plan in the making; station 0 is the source.
 #[derive(Clone, Debug)]
 pub struct Builder {
@@ -34,11 +37,24 @@ impl Builder {
         (0..width).map(|_| self.station()).collect()
     }
 
-    /// Two stations meet in a slot.
-    pub fn meet(&mut self, slot: usize, one: usize, other: usize) {
-        let (a, b) = (one.min(other), one.max(other));
+    /// A station sends in a slot, and another hears.
+    pub fn send(&mut self, slot: usize, sender: usize, hearer: usize) {
         self.slots = self.slots.max(slot);
-        self.records.push((slot as u16, a as u16, b as u16));
+        self.records
+            .push((slot as u16, sender as u16, hearer as u16));
+    }
+
+    /// Two stations hear each other in a slot: two records.
+    pub fn meet(&mut self, slot: usize, one: usize, other: usize) {
+        self.send(slot, one, other);
+        self.send(slot, other, one);
+    }
+
+    /// A station hears each of some others in a slot.
+    pub fn hear_all(&mut self, slot: usize, hearer: usize, senders: &[usize]) {
+        for sender in senders {
+            self.send(slot, *sender, hearer);
+        }
     }
 
     /// A station meets each of some others in a slot.
@@ -91,18 +107,30 @@ impl Builder {
         }
     }
 
-    /// Layers of equal width in the first slots, every station meeting all of the next layer.
+    /// Layers of equal width in the first slots, every station joined to all of the next layer.
     /// Answers the last layer.
-    pub fn ladder(&mut self, layers: usize, width: usize) -> Vec<usize> {
+    fn layers(&mut self, layers: usize, width: usize, join: Join) -> Vec<usize> {
         let mut last = vec![0];
         for slot in 1..=layers {
             let next = self.layer(width);
             for station in last {
-                self.meet_all(slot, station, &next);
+                for other in &next {
+                    join(self, slot, station, *other);
+                }
             }
             last = next;
         }
         last
+    }
+
+    /// Layers whose stations meet all of the next one.
+    pub fn ladder(&mut self, layers: usize, width: usize) -> Vec<usize> {
+        self.layers(layers, width, Builder::meet)
+    }
+
+    /// Layers whose stations send to all of the next one, and hear none of it.
+    pub fn sent_ladder(&mut self, layers: usize, width: usize) -> Vec<usize> {
+        self.layers(layers, width, Builder::send)
     }
 
     /// A row of stations, each meeting the next in `width` slots. Answers the last station.
@@ -119,15 +147,42 @@ impl Builder {
     }
 }
 
-/// A ladder alone.
+/// A ladder alone, whose stations meet.
 pub fn ladder(layers: usize, width: usize) -> Builder {
     let mut builder = Builder::start();
     builder.ladder(layers, width);
     builder
 }
 
+/// A ladder alone, whose stations send to the next layer.
+pub fn sent_ladder(layers: usize, width: usize) -> Builder {
+    let mut builder = Builder::start();
+    builder.sent_ladder(layers, width);
+    builder
+}
+
+/// A ladder of two stations a layer that send to the next layer. Behind the source the numbers fall:
+/// the first layer has the two largest, the last one 2 and 1.
+pub fn falling_ladder(layers: usize) -> Builder {
+    let mut builder = sent_ladder(layers, 2);
+    let falling = |station: u16| match station {
+        0 => 0,
+        _ => 2 * layers as u16 + 1 - station,
+    };
+    for (_, sender, hearer) in &mut builder.records {
+        (*sender, *hearer) = (falling(*sender), falling(*hearer));
+    }
+    builder
+}
+
 pub fn cases() -> Vec<Case> {
-    [named_ladders(), other_sources(), other_widths()].concat()
+    [
+        named_ladders(),
+        other_sources(),
+        other_widths(),
+        one_way_ladders(),
+    ]
+    .concat()
 }
 
 /// 63, 64 and 65 layers, on tables of the named lengths and longer.
@@ -139,7 +194,7 @@ fn named_ladders() -> Vec<Case> {
         let (hops, count) = (layers as u16, 1 << (layers - 1));
         assert_eq!((last.hops, last.count), (hops, count));
         assert_eq!(builder.stations, 2 * layers + 1);
-        assert_eq!(builder.contacts(), 4 * layers - 2);
+        assert_eq!(builder.contacts(), 8 * layers - 4);
         let label = format!("ladder of {layers} layers");
         cases.push(builder.case(&label).stating(stated));
         let label = format!("ladder of {layers} layers, longer tables");
@@ -162,7 +217,33 @@ fn other_sources() -> Vec<Case> {
     [1, 2, 3, 129, 130].map(case).to_vec()
 }
 
-/// Ladders of other widths, the last accepted one and the first that is not.
+/// 64 and 65 layers that send to the next: from the source, and from a station that then hears no
+/// other layer.
+fn one_way_ladders() -> Vec<Case> {
+    let mut cases = Vec::new();
+    for (layers, stated) in [(64, 0), (65, 9)] {
+        for (name, builder, end) in [
+            ("sent", sent_ladder(layers, 2), 2 * layers),
+            ("falling", falling_ladder(layers), 1),
+        ] {
+            let last = builder.entries().station(end);
+            let (hops, count) = (layers as u16, 1 << (layers - 1));
+            assert_eq!((last.hops, last.count), (hops, count));
+            assert_eq!(builder.contacts(), 4 * layers - 2);
+            let label = format!("{name} ladder of {layers} layers");
+            cases.push(builder.case(&label).stating(stated));
+            let label = format!("{name} ladder of {layers} layers, from {end}");
+            cases.push(Case {
+                operation: Operation::Reach(end as u16),
+                ..builder.case(&label).stating(0)
+            });
+        }
+    }
+    cases
+}
+
+/// Ladders of other widths whose stations send to the next layer alone, the last accepted one and the
+/// first that is not.
 fn other_widths() -> Vec<Case> {
     let mut cases = Vec::new();
     for (width, layers, stated) in [
@@ -175,11 +256,11 @@ fn other_widths() -> Vec<Case> {
         (7, 23, 0),
         (7, 24, 9),
     ] {
-        let builder = ladder(layers, width);
+        let builder = sent_ladder(layers, width);
         let last = builder.entries().station(width * layers);
         assert_eq!(last.count, (width as u128).pow(layers as u32 - 1));
         assert_eq!(last.count > u128::from(u64::MAX), stated == 9);
-        let label = format!("ladder of {layers} layers, {width} wide");
+        let label = format!("sent ladder of {layers} layers, {width} wide");
         cases.push(builder.case(&label).stating(stated));
     }
     cases

@@ -1,8 +1,8 @@
 //! The refusals of reach, alone and two in one call, and tables of every length near the named one.
 
-use super::ladders::ladder;
+use super::ladders::sent_ladder;
 use super::{Case, Operation};
-use crate::cases::{plan_bytes, Record, PLAN_A};
+use crate::cases::{first_records, plan_bytes, Record, PLAN_A};
 
 pub fn cases() -> Vec<Case> {
     [
@@ -67,7 +67,7 @@ fn with_cause(cause: u8) -> Vec<Record> {
 /// Bytes at n 5, T 4 that have cause 2, 3, 4 or 5.
 pub fn bytes_with_cause(cause: u8) -> Vec<u8> {
     match cause {
-        2 => plan_bytes(&PLAN_A)[..35].to_vec(),
+        2 => plan_bytes(&PLAN_A)[..71].to_vec(),
         _ => plan_bytes(&with_cause(cause)),
     }
 }
@@ -76,11 +76,7 @@ pub fn bytes_with_cause(cause: u8) -> Vec<u8> {
 fn plans() -> Vec<Case> {
     let whole = plan_bytes(&PLAN_A);
     let with_behind = [whole.as_slice(), &[0]].concat();
-    let first_records = |count: usize| {
-        let of_a = |a: u16| (a + 1..256).map(move |b| (1, a, b));
-        let records: Vec<Record> = (0..256).flat_map(of_a).take(count).collect();
-        plan_bytes(&records)
-    };
+    let most = plan_bytes(&first_records(8193));
     let on = |label: &str, bytes: Vec<u8>, stated: u8| {
         let case = Case::on_bytes(label, (5, 4), bytes, 0);
         case.longer([1, 2, 3, 4]).stating(stated)
@@ -90,19 +86,22 @@ fn plans() -> Vec<Case> {
         on(label, bytes, stated)
     };
     vec![
-        on("2 for 35 bytes", whole[..35].to_vec(), 2),
-        on("2 for 37 bytes", with_behind, 2),
+        on("2 for 71 bytes", whole[..71].to_vec(), 2),
+        on("2 for 73 bytes", with_behind, 2),
         on("2 for 1 byte", whole[..1].to_vec(), 2),
-        Case::on_bytes("2 for 4097 records", (256, 255), first_records(4097), 0).stating(2),
+        Case::on_bytes("2 for 8193 records", (256, 255), most, 0).stating(2),
         with("3 for slot 0", &[(0, 0, 1)], 3),
         with("3 for slot 5", &[(1, 0, 1), (5, 0, 1)], 3),
         with("3 for slot 65535", &[(65535, 0, 1)], 3),
         with("4 for a = b", &[(1, 0, 1), (2, 1, 1)], 4),
-        with("4 for a above b", &[(1, 1, 0)], 4),
         with("4 for b = n", &[(1, 0, 5)], 4),
+        with("4 for a = n", &[(1, 5, 0)], 4),
+        with("4 for a and b = n", &[(1, 5, 5)], 4),
+        with("4 for a 65535", &[(1, 0, 1), (2, 65535, 0)], 4),
         with("5 for a repeated record", &[(1, 0, 1), (1, 0, 1)], 5),
         with("5 for a falling slot", &[(2, 0, 1), (1, 0, 1)], 5),
         with("5 for a falling a", &[(1, 1, 2), (1, 0, 4)], 5),
+        with("5 for falling directions", &[(1, 1, 0), (1, 0, 1)], 5),
         with("5 for a falling b", &[(1, 0, 2), (1, 0, 1)], 5),
     ]
 }
@@ -203,7 +202,7 @@ fn two_in_the_plan() -> Vec<Case> {
         on("3 before 4 of one record", &[(0, 1, 1)], 3),
         on("3 before 5 of one record", &[(1, 0, 1), (0, 0, 1)], 3),
         on("4 before 5 of one record", &[(1, 1, 2), (1, 1, 1)], 4),
-        on("4 of a record before 3", &[(1, 1, 0), (0, 0, 1)], 4),
+        on("4 of a record before 3", &[(1, 1, 1), (0, 0, 1)], 4),
         on(
             "5 of a record before 3",
             &[(1, 0, 1), (1, 0, 1), (5, 0, 1)],
@@ -233,9 +232,9 @@ fn two_in_the_call() -> Vec<Case> {
     ]
 }
 
-/// The causes 1 to 8 with 9: the ladder of 65 layers.
+/// The causes 1 to 8 with 9: a ladder of 65 layers.
 fn before_too_many() -> Vec<Case> {
-    let whole = || ladder(65, 2).case("").stating(9);
+    let whole = || sent_ladder(65, 2).case("").stating(9);
     let named = |label: &str, case: Case| Case {
         label: label.to_string(),
         ..case

@@ -9,7 +9,7 @@ use crate::random::Random;
 /// The seed of the further plans; each label names it.
 pub const SEED: u64 = 2;
 /// The number of further plans.
-const PLANS: usize = 300;
+const PLANS: usize = 240;
 
 pub fn cases() -> Vec<Case> {
     [checked_plans(), further_plans()].concat()
@@ -51,13 +51,13 @@ pub fn outer_stations(bytes: &[u8]) -> BTreeSet<u16> {
     ends.map(|end| end.copied().unwrap_or(0)).into()
 }
 
-/// Plans of up to 6 stations, 5 slots and 10 records; every fourth varies the lengths.
+/// Plans of up to 6 stations, 5 slots and 14 records; every fourth varies the lengths.
 pub fn further_plans() -> Vec<Case> {
     let mut random = Random::new(SEED);
     let case = |index: usize| {
         let stations = random.between(2, 6);
         let slots = random.between(1, 5);
-        let wanted = random.between(1, 10);
+        let wanted = random.between(2, 14);
         let records = valid_records(&mut random, stations, slots, wanted);
         let source = random.below(stations) as u16;
         let label = format!("small {index}, seed {SEED}, from {source}");

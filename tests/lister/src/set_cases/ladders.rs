@@ -3,7 +3,7 @@
 use super::Case;
 use crate::pair_cases::{mixed_ladders, LabelledPlan};
 use crate::random::Random;
-use crate::reach_cases::{exact_plans, ladder};
+use crate::reach_cases::{exact_plans, falling_ladder, ladder, sent_ladder};
 
 pub fn cases() -> Vec<Case> {
     [
@@ -11,6 +11,7 @@ pub fn cases() -> Vec<Case> {
         too_many(),
         other_sources(),
         other_widths(),
+        one_way(),
         exact(),
         mixed(),
     ]
@@ -38,20 +39,16 @@ fn accepted() -> Vec<Case> {
     let mut cases = vec![
         through(&[]),
         through(&[0, 128]),
-        through(&[127]),
-        through(&layer(64)),
         through(&[1]),
         through(&[126]),
-        through(&[1, 3]),
         through(&[1, 2, 3]),
         through(&[1, 3, 5, 7]),
         through(&first_of_each).labelled(", one of each layer"),
         through(inner).labelled(", all interior ones"),
         through(&all),
     ];
-    cases.extend([1, 2, 32, 63].map(|at| through(&layer(at)).labelled(", a layer")));
+    cases.extend([1, 32, 63].map(|at| through(&layer(at)).labelled(", a layer")));
     cases.push(plan.through((128, 0), &all));
-    cases.push(plan.through((0, 127), &layer(40)));
     cases.push(plan.through((0, 64), &layer(31)));
     cases.push(plan.through((0, 64), &layer(33)));
     let longer = on(64, ", longer").through((0, 128), &layer(9));
@@ -65,9 +62,7 @@ fn too_many() -> Vec<Case> {
     let mut cases = vec![
         plan.through((0, 130), &[]),
         plan.through((0, 130), &layer(20)),
-        plan.through((0, 130), &[1]),
         plan.through((0, 1), &[]),
-        plan.through((0, 64), &layer(3)),
     ];
     let longer = on(65, ", longer").through((0, 130), &layer(9));
     cases.push(longer.behind(&[2, 1, 255]).marked(4321, 8));
@@ -88,12 +83,33 @@ fn other_sources() -> Vec<Case> {
     cases.into_iter().map(|case| case.stating(0)).collect()
 }
 
-/// Ladders of other widths, the last accepted one and the first that is not.
+/// 64 and 65 layers of two whose stations send to the next layer alone.
+fn one_way() -> Vec<Case> {
+    let mut cases = Vec::new();
+    for (layers, number) in [(64, 0), (65, 9)] {
+        let last = 2 * layers as u16;
+        for (name, builder, end) in [
+            ("sent", sent_ladder(layers, 2), last),
+            ("falling", falling_ladder(layers), 1),
+        ] {
+            let label = format!("{name} ladder of {layers} layers");
+            let plan = LabelledPlan::built(&label, &builder);
+            for members in [&layer(9)[..], &[5]] {
+                cases.push(plan.through((0, end), members).stating(number));
+            }
+            cases.push(plan.through((end, 0), &[5]).stating(0));
+        }
+    }
+    cases
+}
+
+/// Ladders of other widths whose stations send to the next layer alone, the last accepted one and the
+/// first that is not.
 fn other_widths() -> Vec<Case> {
     let mut cases = Vec::new();
     for (width, layers, number) in [(3, 41, 0), (3, 42, 9), (7, 23, 0), (7, 24, 9)] {
-        let label = format!("ladder of {layers} layers, {width} wide");
-        let plan = LabelledPlan::built(&label, &ladder(layers, width));
+        let label = format!("sent ladder of {layers} layers, {width} wide");
+        let plan = LabelledPlan::built(&label, &sent_ladder(layers, width));
         let end = (width * layers) as u16;
         let layer: Vec<usize> = (1..=width).collect();
         let sets = [layer.as_slice(), &layer[1..], &[1, 1 + width]];

@@ -1,9 +1,9 @@
-//! Through set at n 256 and T 255, with few records and with 4,096; and sizes with a small scratch.
+//! Through set at n 256 and T 255, with few records and with 8,192; and sizes with a small scratch.
 
 use super::Case;
-use crate::cases::{Record, PLAN_A};
+use crate::cases::{doubled, Record, PLAN_A};
 use crate::pair_cases::{dense, LabelledPlan};
-use crate::reach_cases::{every_slot, star, CORNERS};
+use crate::reach_cases::{falling_row, rising_row, star, CORNERS};
 
 pub fn cases() -> Vec<Case> {
     let mut cases = few_records();
@@ -28,8 +28,8 @@ fn few_records() -> Vec<Case> {
     let empty = on("empty plan", &[]);
     let corners = on("corners", &CORNERS);
     let plan_a = on("plan A", &PLAN_A);
-    let row: Vec<Record> = (1..=255).map(|slot| (slot, slot - 1, slot)).collect();
-    let row = on("row", &row);
+    let row = on("row", &rising_row());
+    let falling = on("falling row", &falling_row());
     let mut cases = vec![
         empty.through((0, 255), &from_to(0, 255)),
         plan_a.through((0, 4), &[2, 255]),
@@ -37,10 +37,12 @@ fn few_records() -> Vec<Case> {
         row.through((0, 255), &from_to(0, 255)),
         row.through((0, 255), &[254]),
         row.through((0, 255), &[0, 255]),
-        row.through((100, 200), &from_to(0, 100)),
-        row.through((100, 200), &from_to(200, 255)),
-        row.through((100, 200), &[199, 255]),
         row.through((255, 0), &from_to(0, 255)),
+        falling.through((255, 0), &from_to(0, 255)),
+        falling.through((200, 100), &from_to(0, 100)),
+        falling.through((200, 100), &from_to(200, 255)),
+        falling.through((200, 100), &[199, 255]),
+        falling.through((0, 255), &from_to(0, 255)),
     ];
     for pair in [(0, 254), (254, 0), (1, 254), (254, 1), (255, 1)] {
         cases.push(corners.through(pair, &[0, 255]));
@@ -50,24 +52,21 @@ fn few_records() -> Vec<Case> {
 }
 
 fn many_records() -> Vec<Case> {
-    let star = on("4096 records, star", &star()).counted();
-    let spread = on("4096 records in every slot", &every_slot());
-    let dense = LabelledPlan::of_records("n 64, T 127, 4096 records", (64, 127), &dense());
+    let star = on("8192 records, star", &star()).counted();
+    let dense = LabelledPlan::of_records("n 64, T 127, 8192 records", (64, 127), &dense());
     let dense = dense.counted();
     let cases = vec![
         star.through((1, 255), &[0]),
-        star.through((1, 255), &from_to(1, 255)),
-        spread.through((240, 239), &from_to(0, 255)),
         dense.through((0, 63), &from_to(0, 31)),
     ];
-    assert!(cases.iter().all(|case| case.bytes.len() == 6 * 4096));
+    assert!(cases.iter().all(|case| case.bytes.len() == 6 * 8192));
     cases
 }
 
 /// Many stations in one slot and in two, where the scratch is smallest for its set.
 fn narrow() -> Vec<Case> {
     let first: Vec<Record> = (1..256).map(|b| (1, 0, b)).collect();
-    let one = LabelledPlan::of_records("n 256, T 1", (256, 1), &first);
+    let one = LabelledPlan::of_records("n 256, T 1", (256, 1), &doubled(&first));
     let mut second = first[..254].to_vec();
     second.extend((1..255).map(|a| (2, a, 255)));
     let two = LabelledPlan::of_records("n 256, T 2", (256, 2), &second);

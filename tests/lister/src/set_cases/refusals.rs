@@ -6,7 +6,7 @@ use crate::cases::PLAN_A;
 use crate::lent::scratch_length;
 use crate::pair_cases::LabelledPlan;
 use crate::plan::within_limits;
-use crate::reach_cases::{bytes_with_cause, ladder, plan_faults};
+use crate::reach_cases::{bytes_with_cause, plan_faults, sent_ladder};
 
 pub fn cases() -> Vec<Case> {
     [
@@ -189,10 +189,10 @@ fn two_in_the_call() -> Vec<Case> {
     cases
 }
 
-/// Causes 6, 7, 8 and 11 with 9: the ladder of 65 layers.
+/// Causes 6, 7, 8 and 11 with 9: a ladder of 65 layers.
 fn before_too_many() -> Vec<Case> {
     let on = |label: &str, ends: (u16, u16)| {
-        let plan = LabelledPlan::built(&format!("{label} before 9"), &ladder(65, 2));
+        let plan = LabelledPlan::built(&format!("{label} before 9"), &sent_ladder(65, 2));
         plan.through(ends, &[1, 2])
     };
     let set = on("", (0, 130)).set;

@@ -49,7 +49,7 @@ pub fn assert_lines(made: &Made, lines: &[(&str, &str)]) {
 /// Asserts that standard input, read back, has the cases; `lengths` are those in the head of a case.
 pub fn assert_stdin(made: &Made, lengths: fn(&Case) -> Vec<usize>) {
     let stdin = stdin_bytes(&all(made));
-    assert!(stdin.len() < 1_000_000, "{}", stdin.len());
+    assert!(stdin.len() < 1_300_000, "{}", stdin.len());
     let mut rest = stdin.as_slice();
     for (case, _) in made {
         let kind = case.operation.kind().map(usize::from);

@@ -4,7 +4,7 @@ use super::read_back::{assert_labels, take, take_number};
 use crate::answer::number;
 use crate::cases::{all_cases, generated_cases, LONGEST_LABEL};
 use crate::files::{stdin_bytes, stdout_text};
-use crate::plan::{check, PlanInput};
+use crate::plan::{check, contacts, Contact, PlanInput};
 use crate::random::Random;
 
 #[test]
@@ -28,6 +28,33 @@ fn generated_cases_meet_every_number() {
     }
     assert!(seen.iter().all(|count| *count >= 10), "{seen:?}");
     assert!(seen[0] >= 200 && seen[0] < 300, "{seen:?}");
+}
+
+/// The generated plans have records that come with their other direction, and records that do not; in some
+/// plans all do, in some none.
+#[test]
+fn generated_plans_have_one_direction_or_both() {
+    let mut seen = [0; 3];
+    let mut falling = 0;
+    let valid = generated_cases();
+    for case in valid.iter().filter(|case| case.number() == 0) {
+        let records: Vec<Contact> = contacts(&case.bytes).collect();
+        let turned = |contact: &Contact| Contact {
+            slot: contact.slot,
+            sender: contact.hearer,
+            hearer: contact.sender,
+        };
+        let both = |contact: &&Contact| records.contains(&turned(contact));
+        let with_both = records.iter().filter(both).count();
+        falling += records.iter().filter(|c| c.sender > c.hearer).count();
+        if records.len() > 3 {
+            seen[0] += usize::from(with_both == 0);
+            seen[1] += usize::from(0 < with_both && with_both < records.len());
+            seen[2] += usize::from(with_both == records.len());
+        }
+    }
+    assert!(seen.iter().all(|count| *count > 20), "{seen:?}");
+    assert!(falling > 300, "{falling}");
 }
 
 #[test]
@@ -68,14 +95,14 @@ fn stdin_read_back_gives_stdout() {
 fn sizes_of_the_files() {
     let cases = all_cases();
     assert!(stdin_bytes(&cases).len() < 400_000);
-    assert!(cases.iter().all(|case| case.bytes.len() <= 24_588));
+    assert!(cases.iter().all(|case| case.bytes.len() <= 49_158));
     let at_limit = |length: usize| {
         cases
             .iter()
             .filter(|case| case.bytes.len() == length)
             .count()
     };
-    assert!([24_575, 24_576, 24_577, 24_581, 24_582]
+    assert!([49_151, 49_152, 49_153, 49_158]
         .iter()
         .all(|length| at_limit(*length) > 0));
 }

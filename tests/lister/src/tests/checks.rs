@@ -11,7 +11,7 @@ fn smallest_fault(stations: u16, slots: u16, records: &[Record]) -> u8 {
         if !(1..=slots).contains(slot) {
             faults.push((at, 3));
         }
-        if !(a < b && *b < stations) {
+        if a == b || *a >= stations || *b >= stations {
             faults.push((at, 4));
         }
         if at > 0 && records[at - 1] >= records[at] {

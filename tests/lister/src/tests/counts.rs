@@ -24,7 +24,7 @@ fn ladder_counts() {
         let count = 1 << (layers - 1);
         let reached = owned.reach(count, 0).unwrap();
         assert_eq!(reached.station(last), (layers, count));
-        assert_eq!(owned.plan().contacts.len(), 4 * usize::from(layers) - 2);
+        assert_eq!(owned.plan().contacts.len(), 8 * usize::from(layers) - 4);
         if layers > 1 {
             assert!(refused(owned.reach(count - 1, 0)));
             assert!(refused(owned.pair(count - 1, 0, last)));
@@ -66,7 +66,7 @@ fn return_to_the_source_counts() {
         (2, 0, 2),
         (2, 0, 3),
     ];
-    let owned = Owned::new(4, 2, &records);
+    let owned = Owned::doubled(4, 2, &records);
     let reached = owned.reach(3, 0).unwrap();
     assert_eq!(reached.appearance(0, 2), (2, 3));
     assert!((1..4).all(|station| reached.station(station) == (1, 2)));
@@ -76,7 +76,7 @@ fn return_to_the_source_counts() {
 
 #[test]
 fn station_total_counts_without_its_appearances() {
-    let owned = Owned::new(2, 3, &[(1, 0, 1), (2, 0, 1), (3, 0, 1)]);
+    let owned = Owned::doubled(2, 3, &[(1, 0, 1), (2, 0, 1), (3, 0, 1)]);
     let reached = owned.reach(3, 0).unwrap();
     assert_eq!(reached.station(1), (1, 3));
     assert!((1..=3).all(|slot| reached.appearance(1, slot) == (1, 1)));
@@ -95,7 +95,7 @@ fn undercut_totals_do_not_count() {
         (5, 0, 1),
         (5, 0, 3),
     ];
-    let reached = Owned::new(5, 5, &records).reach(2, 0).unwrap();
+    let reached = Owned::doubled(5, 5, &records).reach(2, 0).unwrap();
     assert_eq!(reached.station(3), (1, 1));
     let early: Vec<(u16, u64)> = (2..5).map(|slot| reached.appearance(3, slot)).collect();
     assert_eq!(early, [(2, 1), (2, 1), (2, 1)]);

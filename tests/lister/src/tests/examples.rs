@@ -2,9 +2,10 @@
 
 use super::support::Owned;
 use crate::answer::number;
-use crate::cases::PLAN_A;
+use crate::cases::{doubled, PLAN_A};
 use crate::loads::Load;
 use crate::means::{COUNT_LIMIT, LISTED};
+use crate::one_way::ONE_WAY_PLANS;
 use crate::pair::PairValues;
 use crate::plan::check;
 use crate::shortest::walks_to_appearance;
@@ -43,12 +44,23 @@ fn listed(owned: &Owned, source: usize, destination: usize) -> Vec<Vec<u16>> {
 
 #[test]
 fn plan_a_bytes() {
-    let hexadecimal = "000100000001 000100000002 000200010003 \
-                       000200020003 000300020003 000400030004";
+    let hexadecimal = "000100000001 000100000002 000100010000 000100020000 \
+                       000200010003 000200020003 000200030001 000200030002 \
+                       000300020003 000300030002 000400030004 000400040003";
     let digits: String = hexadecimal.split_whitespace().collect();
     let byte = |at: usize| u8::from_str_radix(&digits[at..at + 2], 16).unwrap();
     let bytes: Vec<u8> = (0..digits.len()).step_by(2).map(byte).collect();
     assert_eq!(Owned::plan_a().bytes, bytes);
+    assert_eq!(bytes, include_bytes!("../../../plans/a.plan"));
+    let contacts = [
+        (1, 0, 1),
+        (1, 0, 2),
+        (2, 1, 3),
+        (2, 2, 3),
+        (3, 2, 3),
+        (4, 3, 4),
+    ];
+    assert_eq!(doubled(&contacts), PLAN_A);
 }
 
 #[test]
@@ -83,7 +95,7 @@ fn p3_appearance() {
 #[test]
 fn p4_paths() {
     let list = listed(&Owned::plan_a(), 0, 4);
-    assert_eq!(list, [[0, 2, 5], [1, 3, 5], [1, 4, 5]]);
+    assert_eq!(list, [[0, 4, 10], [1, 5, 10], [1, 8, 10]]);
 }
 
 #[test]
@@ -116,10 +128,10 @@ fn p7_next_way() {
         let answer = LISTED.way(Way::Next, input, (0, 4), &mut buffer, &mut scratch);
         (answer, buffer)
     };
-    assert_eq!(next([1, 4, 5, 77]), (Ok(Found::Last), [1, 4, 5, 77]));
-    assert_eq!(next([1, 3, 5, 77]), (Ok(Found::Path(3)), [1, 4, 5, 77]));
-    let (answer, buffer) = next([0, 3, 5, 77]);
-    assert_eq!((number(&answer), buffer), (10, [0, 3, 5, 77]));
+    assert_eq!(next([1, 8, 10, 77]), (Ok(Found::Last), [1, 8, 10, 77]));
+    assert_eq!(next([1, 5, 10, 77]), (Ok(Found::Path(3)), [1, 8, 10, 77]));
+    let (answer, buffer) = next([0, 5, 10, 77]);
+    assert_eq!((number(&answer), buffer), (10, [0, 5, 10, 77]));
 }
 
 #[test]
@@ -146,7 +158,7 @@ fn p9_loads() {
     ];
     assert_eq!(loads, expected);
     assert_eq!(owned.busiest(COUNT_LIMIT), Ok(3));
-    let printed = "stations 5 slots 4 contacts 6\n\
+    let printed = "stations 5 slots 4 contacts 12\n\
                    0 0 0\n\
                    1 2 2863311530\n\
                    2 2 5726623060\n\
@@ -157,15 +169,33 @@ fn p9_loads() {
 
 #[test]
 fn p10_one_slot() {
-    let owned = Owned::new(3, 1, &[(1, 0, 1), (1, 1, 2)]);
+    let owned = Owned::doubled(3, 1, &[(1, 0, 1), (1, 1, 2)]);
     assert!(listed(&owned, 0, 2).is_empty());
     assert_eq!(owned.pair(COUNT_LIMIT, 0, 2).unwrap().values.hops, 65535);
 }
 
 #[test]
+fn one_record_leads_one_way() {
+    let owned = Owned::new(2, 1, &[(1, 0, 1)]);
+    assert_eq!(listed(&owned, 0, 1), [[0]]);
+    assert!(listed(&owned, 1, 0).is_empty());
+    let reached = owned.reach(COUNT_LIMIT, 1).unwrap();
+    assert_eq!(reached.station(0), (65535, 0));
+}
+
+#[test]
+fn one_way_plans_have_the_paths_stated() {
+    for plan in ONE_WAY_PLANS {
+        let (owned, last) = (plan.owned(), plan.last().into());
+        assert_eq!(listed(&owned, 0, last), plan.there, "{}", plan.label);
+        assert_eq!(listed(&owned, last, 0), plan.back, "{}", plan.label);
+    }
+}
+
+#[test]
 fn shown_pair() {
     let owned = Owned::plan_a();
-    let shown = "hops 3\ncount 3\nthrough 0 1 2 3 0\npath 0 2 5\npath 1 3 5\npath 1 4 5\n";
+    let shown = "hops 3\ncount 3\nthrough 0 1 2 3 0\npath 0 4 10\npath 1 5 10\npath 1 8 10\n";
     assert_eq!(text_of(pair_text(owned.input(), (0, 4))), shown);
     assert_eq!(text_of(pair_text(owned.input(), (0, 5))), "refused 6\n");
     let none = "hops 65535\ncount 0\nthrough 0 0 0 0 0\n";

@@ -5,9 +5,9 @@ use crate::answer::{number, Answer};
 use crate::means::{Means, COUNTED, COUNT_LIMIT, LISTED};
 use crate::plan::Ends;
 use crate::random::Random;
-use crate::reach_cases::Builder;
+use crate::reach_cases::{ladder, sent_ladder, Builder};
 use crate::traces::contents;
-use crate::way_cases::ladder_path;
+use crate::way_cases::{ladder_path, sent_ladder_path};
 use crate::ways::{Found, Way};
 
 /// Answer, buffer and scratch of a call; two entries more than named are lent of the scratch.
@@ -96,24 +96,25 @@ fn refused_calls_are_answered_alike() {
     assert_eq!(next(&few_slots, (5, 5), 3), 3);
 }
 
-#[test]
-fn paths_of_a_ladder() {
-    let mut builder = Builder::start();
-    let last = builder.ladder(64, 2)[0];
-    let owned = Owned::built(&builder);
+/// Asserts that a ladder of 64 layers has these paths, by their indices, to the first of its last two.
+fn assert_ladder(ladder: &Builder, path: fn(usize, usize, u64) -> Vec<u16>) {
+    let owned = Owned::built(ladder);
     let answer = |way: Way, offered: &[u16]| {
-        let (answer, buffer, _) = outcome(COUNTED, way, &owned, (0, last), offered);
+        let (answer, buffer, _) = outcome(COUNTED, way, &owned, (0, 127), offered);
         (answer, buffer)
     };
-    let given = |index: u64| (Ok(Found::Path(64)), ladder_path(64, 0, index));
+    let given = |index: u64| (Ok(Found::Path(64)), path(64, 0, index));
     assert_eq!(answer(Way::First, &[9; 64]), given(0));
     let (half, end) = (1 << 62, (1 << 63) - 1);
     for index in [0, 1, 2, 12345, half - 1, half, end - 1] {
-        assert_eq!(
-            answer(Way::Next, &ladder_path(64, 0, index)),
-            given(index + 1)
-        );
+        assert_eq!(answer(Way::Next, &path(64, 0, index)), given(index + 1));
     }
-    let path = ladder_path(64, 0, end);
-    assert_eq!(answer(Way::Next, &path), (Ok(Found::Last), path));
+    let last = path(64, 0, end);
+    assert_eq!(answer(Way::Next, &last), (Ok(Found::Last), last));
+}
+
+#[test]
+fn paths_of_ladders() {
+    assert_ladder(&ladder(64, 2), ladder_path);
+    assert_ladder(&sent_ladder(64, 2), sent_ladder_path);
 }

@@ -32,7 +32,7 @@ fn pairs_of_plan_a() {
 
 #[test]
 fn earliest_before_fewest_hops() {
-    let owned = Owned::new(3, 3, &[(1, 0, 1), (2, 1, 2), (3, 0, 2)]);
+    let owned = Owned::doubled(3, 3, &[(1, 0, 1), (2, 1, 2), (3, 0, 2)]);
     assert_eq!(values(&owned, (0, 2)), (2, 2, 1));
     assert_eq!(owned.pair(COUNT_LIMIT, 0, 2).unwrap().values.hops, 1);
     assert_eq!(
@@ -44,7 +44,7 @@ fn earliest_before_fewest_hops() {
 #[test]
 fn fewest_hops_in_the_earliest_slot() {
     let records = [(1, 0, 1), (2, 1, 2), (3, 1, 3), (3, 2, 3), (4, 0, 3)];
-    let owned = Owned::new(4, 4, &records);
+    let owned = Owned::doubled(4, 4, &records);
     assert_eq!(values(&owned, (0, 3)), (3, 2, 1));
     assert_eq!(
         owned.foremost(COUNT_LIMIT, (0, 3)).unwrap().through,
@@ -131,7 +131,7 @@ fn foremost_and_pair() {
 
 #[test]
 fn a_stations_sum_is_no_cause() {
-    let owned = Owned::new(2, 3, &[(1, 0, 1), (2, 0, 1), (3, 0, 1)]);
+    let owned = Owned::doubled(2, 3, &[(1, 0, 1), (2, 0, 1), (3, 0, 1)]);
     assert_eq!(number(&owned.pair(2, 0, 1)), 9);
     let foremost = owned.foremost(2, (0, 1)).unwrap();
     let ForemostValues { slot, hops, count } = foremost.values;
@@ -141,7 +141,7 @@ fn a_stations_sum_is_no_cause() {
 #[test]
 fn appearances_after_the_arrival_are_a_cause() {
     let records = [(1, 0, 1), (1, 0, 2), (1, 0, 3), (2, 1, 3), (2, 2, 3)];
-    let owned = Owned::new(4, 2, &records);
+    let owned = Owned::doubled(4, 2, &records);
     assert_eq!(values(&owned, (0, 3)), (1, 1, 1));
     assert_eq!(
         owned.reach(COUNT_LIMIT, 0).unwrap().appearance(3, 2),
@@ -184,7 +184,7 @@ fn nine_is_a_count_of_some_appearance_over_the_limit() {
 fn shown_foremost() {
     let owned = Owned::plan_a();
     let shown = |ends| text_of(foremost_text(owned.input(), ends));
-    let text = "slot 2\nhops 2\ncount 2\nthrough 0 1 1 0 0\npath 0 2\npath 1 3\n";
+    let text = "slot 2\nhops 2\ncount 2\nthrough 0 1 1 0 0\npath 0 4\npath 1 5\n";
     assert_eq!(shown((0, 3)), text);
     let none = "slot 65535\nhops 65535\ncount 0\nthrough 0 0 0 0 0\n";
     assert_eq!(shown((2, 1)), none);

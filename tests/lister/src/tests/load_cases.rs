@@ -41,7 +41,7 @@ fn lines_of(text: &str) -> Vec<[u64; 3]> {
 
 #[test]
 fn stated_numbers_are_those_of_the_texts() {
-    let mut seen = [0; 6];
+    let mut seen = [0; 10];
     for (case, text) in cases() {
         let number = number_of(text);
         if let Some(stated) = case.stated {
@@ -49,7 +49,8 @@ fn stated_numbers_are_those_of_the_texts() {
             seen[usize::from(stated)] += 1;
         }
     }
-    assert!(seen.iter().all(|count| *count > 20), "{seen:?}");
+    assert!(seen[..6].iter().all(|count| *count > 20), "{seen:?}");
+    assert!(seen[9] == 2, "{seen:?}");
 }
 
 #[test]
@@ -83,10 +84,10 @@ fn labels_are_short_printable_and_distinct() {
 fn lengths_of_the_inputs() {
     let lengths: BTreeSet<usize> = cases().iter().map(|case| case.0.bytes.len()).collect();
     assert!(lengths.iter().all(|length| *length <= LONGEST_INPUT));
-    for length in [0, 1, 5, 6, 7, 3_072, 3_073, 3_078, LONGEST_INPUT] {
+    for length in [0, 1, 5, 6, 7, 6_144, 6_145, 6_150, LONGEST_INPUT] {
         assert!(lengths.contains(&length), "{length}");
     }
-    let at_limits = |text: &str| text.starts_with("stations 32 slots 63 contacts 512\n");
+    let at_limits = |text: &str| text.starts_with("stations 32 slots 63 contacts 1024\n");
     assert!(cases().iter().any(|case| at_limits(&case.1)));
 }
 
@@ -154,7 +155,7 @@ fn listed_and_counted_cases() {
 fn stdin_read_back_gives_stdout() {
     let all = all_cases();
     let stdin = stdin_bytes(&all);
-    assert!(stdin.len() < 400_000);
+    assert!(stdin.len() < 600_000);
     let mut rest = stdin.as_slice();
     let mut stdout = Vec::new();
     let mut read = 0;

@@ -14,7 +14,7 @@ fn text(records: &[Record]) -> String {
 
 #[test]
 fn plan_a_is_printed_as_document_01_does() {
-    let whole = "stations 5 slots 4 contacts 6\n\
+    let whole = "stations 5 slots 4 contacts 12\n\
                  0 0 0\n\
                  1 2 2863311530\n\
                  2 2 5726623060\n\
@@ -36,6 +36,7 @@ fn n_and_t_come_from_the_records() {
     };
     assert_eq!(named(&[(1, 0, 1)]), (2, 1));
     assert_eq!(named(&[(63, 3, 31)]), (32, 63));
+    assert_eq!(named(&[(63, 31, 3)]), (32, 63));
     assert_eq!(named(&[(2, 0, 9), (5, 1, 2), (6, 0, 3)]), (10, 6));
     assert_eq!(named(&[]), (1, 1));
 }
@@ -47,10 +48,12 @@ fn refusals_are_one_line() {
     assert_eq!(text(&[(1, 65535, 65535)]), "refused 1\n");
     assert_eq!(text(&[(0, 0, 1)]), "refused 1\n");
     assert_eq!(text(&[(2, 0, 1), (1, 0, 1)]), "refused 3\n");
-    assert_eq!(text(&[(1, 1, 0)]), "refused 4\n");
+    assert_eq!(text(&[(1, 65535, 0)]), "refused 1\n");
+    assert_eq!(text(&[(1, 1, 1)]), "refused 4\n");
+    assert!(text(&[(1, 1, 0)]).starts_with("stations 2 slots 1 contacts 1\n"));
     assert_eq!(text(&[(1, 0, 1), (1, 0, 1)]), "refused 5\n");
-    assert_eq!(load_text(&[0; 3_072]), "refused 1\n");
-    assert_eq!(load_text(&[0; 3_078]), "refused 2\n");
+    assert_eq!(load_text(&[0; 6_144]), "refused 1\n");
+    assert_eq!(load_text(&[0; 6_150]), "refused 2\n");
     assert_eq!(load_text(&[0; 100_000]), "refused 2\n");
 }
 
@@ -62,8 +65,8 @@ fn walks_are_numbered_as_listed() {
         let listed = (0..plan.stations).map(|source| walks_from(&plan, source).len());
         assert_eq!(number_of_walks(&plan), listed.sum::<usize>() as u128);
     }
-    let meeting: Vec<Record> = (1..=250).map(|slot| (slot, 0, 1)).collect();
-    let plan = Owned::new(2, 250, &meeting).plan();
+    let meetings: Vec<Record> = (1..=250).map(|slot| (slot, 0, 1)).collect();
+    let plan = Owned::doubled(2, 250, &meetings).plan();
     assert_eq!(number_of_walks(&plan), u128::MAX);
     assert!(!is_listed(&plan));
 }

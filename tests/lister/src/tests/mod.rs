@@ -23,5 +23,6 @@ mod sets;
 mod support;
 mod tiny;
 mod traces;
+mod two_way;
 mod walks;
 mod way_cases;

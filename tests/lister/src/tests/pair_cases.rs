@@ -168,7 +168,7 @@ fn cases_fit_the_program() {
     }
     assert!((0..3).all(|table| longest[table] <= LONGEST_TABLES[table]));
     assert_eq!([longest[0], longest[2]], [320, 262_200]);
-    for full in [4096, 4097] {
+    for full in [8192, 8193] {
         let seen = records[&full];
         assert!(seen.iter().all(|count| *count > 0), "{full}: {seen:?}");
     }
@@ -194,7 +194,7 @@ fn walks_are_listed_but_for_large_plans() {
             Counting::Fast => assert!(is_named, "{}", case.label),
         }
     }
-    assert!(listed > 6500, "{listed}");
+    assert!(listed > 5500, "{listed}");
 }
 
 #[test]
@@ -258,16 +258,16 @@ fn small_numbers(prefix: &str) -> (BTreeMap<String, [usize; 3]>, [usize; 10]) {
 #[test]
 fn small_plans_have_every_pair() {
     let (calls, numbers) = small_numbers("small ");
-    assert_eq!(calls.len(), 300);
+    assert_eq!(calls.len(), 240);
     for (plan, calls) in calls {
         let words: Vec<&str> = plan.split(' ').collect();
         let stations: usize = words[3].parse().unwrap();
         assert_eq!(calls, [stations * (stations - 1), 1, 1], "{plan}");
     }
-    assert!(numbers[0] > 4000 && numbers[8] > 100, "{numbers:?}");
+    assert!(numbers[0] > 3500 && numbers[8] > 100, "{numbers:?}");
     let (generated, _) = small_numbers("generated ");
     let every = |calls: &&[usize; 3]| calls[1] == 1 && calls[2] == 1;
-    assert!(generated.values().filter(every).count() > 100);
+    assert!(generated.values().filter(every).count() > 80);
 }
 
 #[test]

@@ -125,7 +125,7 @@ fn assert_line(stdin: &mut &[u8], line: &str, counting: Counting) {
 fn stdin_read_back_gives_stdout() {
     let cases = cases();
     let (stdin, stdout) = (stdin_bytes(cases), stdout_text(cases));
-    assert!(stdin.len() < 500_000 && stdout.len() < 400_000);
+    assert!(stdin.len() < 600_000 && stdout.len() < 400_000);
     let mut rest = stdin.as_slice();
     for (case, line) in cases.iter().zip(stdout.lines()) {
         assert_line(&mut rest, line, case.counting);
@@ -151,7 +151,7 @@ fn cases_fit_the_program() {
             .iter()
             .filter(move |case| case.bytes.len() == 6 * count)
     };
-    assert!(records(4096).count() > 4 && records(4097).count() > 0);
+    assert!(records(8192).count() > 3 && records(8193).count() > 0);
 }
 
 #[test]
@@ -184,14 +184,14 @@ fn small_plans_vary() {
         .iter()
         .filter(|case| case.label.starts_with("small "));
     let small: Vec<&Case> = small.collect();
-    assert_eq!(small.len(), 300);
+    assert_eq!(small.len(), 240);
     let refused = small
         .iter()
         .filter(|case| case.outcome().number() == 8)
         .count();
     assert!((5..60).contains(&refused), "{refused}");
     let marks: BTreeSet<u16> = small.iter().map(|case| case.mark).collect();
-    assert!(marks.len() > 250);
+    assert!(marks.len() > 200);
     let largest = |case: &&Case| match case.outcome() {
         Outcome::Reached(_, tables) => tables.station_counts.into_iter().max(),
         Outcome::Part(..) => None,

@@ -10,6 +10,8 @@ use crate::ways::{Found, Way};
 
 /// n and T of plan A.
 const SIZES: (usize, usize) = (5, 4);
+/// The record of plan A that a fault of the plan is in; it is the first of slot 2.
+const CHANGED: usize = 4;
 
 impl Operation {
     /// The named lengths of its 16-bit tables, of its 64-bit tables, and of its sets.
@@ -69,11 +71,11 @@ impl Arguments {
         let (a, b) = match (has(4), has(5)) {
             (true, true) => (0, 0),
             (true, false) => (1, 1),
-            (false, true) => (0, 2),
+            (false, true) => (2, 0),
             (false, false) => (1, 3),
         };
         let mut records: Vec<Record> = PLAN_A.to_vec();
-        records[2] = (slot, a, b);
+        records[CHANGED] = (slot, a, b);
         let mut bytes = plan_bytes(&records);
         bytes.extend(has(2).then_some(0));
         let (source, destination) = match (has(6), has(7)) {
@@ -194,9 +196,9 @@ fn every_set_of_causes_gives_its_first() {
     for causes in sets_of_causes() {
         let arguments = Arguments::with(&causes);
         let offered = if causes.contains(&10) {
-            [0, 3, 5]
+            [0, 5, 10]
         } else {
-            [0, 2, 5]
+            [0, 4, 10]
         };
         for operation in OPERATIONS {
             let known = operation.causes().iter();
@@ -224,7 +226,7 @@ fn every_set_of_causes_gives_its_first() {
 fn accepted_calls_leave_unnamed_parts() {
     let arguments = Arguments::with(&[]);
     for operation in OPERATIONS {
-        let before = lend(operation, None, &[0, 2, 5], 1);
+        let before = lend(operation, None, &[0, 4, 10], 1);
         let mut after = before.clone();
         assert_eq!(run(operation, &arguments, &mut after).0, 0);
         assert_eq!(after.sets, before.sets);
@@ -287,9 +289,9 @@ fn none_and_last_leave_the_way_buffer() {
     assert_eq!(buffer, [9; 6]);
     assert!(scratch[..100].iter().all(|entry| *entry == 0));
     assert_eq!(scratch[100..], [9; 3]);
-    let (mut buffer, mut scratch) = ([1, 4, 5, 9, 9, 9], [9; 103]);
+    let (mut buffer, mut scratch) = ([1, 8, 10, 9, 9, 9], [9; 103]);
     assert!(next(&owned, (0, 4), &mut buffer, &mut scratch).is_ok());
-    assert_eq!(buffer, [1, 4, 5, 9, 9, 9]);
+    assert_eq!(buffer, [1, 8, 10, 9, 9, 9]);
     assert!(scratch[..100].iter().all(|entry| *entry == 0));
 }
 

@@ -27,7 +27,7 @@ fn a_path_through_two_members_counts_once() {
     let owned = Owned::plan_a();
     assert_eq!(owned.touched((0, 4), &[1, 3]), 3);
     assert_eq!(owned.touched((0, 4), &[2, 3]), 3);
-    let row = Owned::new(5, 4, &[(1, 0, 1), (2, 1, 2), (3, 2, 3), (4, 3, 4)]);
+    let row = Owned::doubled(5, 4, &[(1, 0, 1), (2, 1, 2), (3, 2, 3), (4, 3, 4)]);
     assert_eq!(row.touched((0, 4), &[1, 2, 3]), 1);
     assert_eq!(row.touched((0, 4), &[1, 3]), 1);
 }
@@ -50,12 +50,9 @@ fn avoiding(owned: &Owned, ends: Ends, members: &[usize]) -> u64 {
     let contacts = owned.plan().contacts;
     let is_member = |station: usize| station != ends.1 && members.contains(&station);
     let avoids = |path: &&Vec<u16>| {
-        let mut station = ends.0;
-        path.iter().all(|position| {
-            let contact = contacts[usize::from(*position)];
-            station = contact.a + contact.b - station;
-            !is_member(station)
-        })
+        let reached = path.iter();
+        let mut reached = reached.map(|position| contacts[usize::from(*position)].hearer);
+        reached.all(|station| !is_member(station))
     };
     owned.list(ends.0, ends.1).iter().filter(avoids).count() as u64
 }
@@ -63,7 +60,7 @@ fn avoiding(owned: &Owned, ends: Ends, members: &[usize]) -> u64 {
 #[test]
 fn touched_and_avoiding_paths_are_all_paths() {
     let mut some = 0;
-    for owned in tiny_plans().into_iter().step_by(5) {
+    for owned in tiny_plans().into_iter().step_by(4) {
         for ends in pairs(owned.stations) {
             let count = owned.list(ends.0, ends.1).len() as u64;
             for members in all_sets(owned.stations) {

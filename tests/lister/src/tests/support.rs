@@ -1,21 +1,28 @@
 //! Plans and calls that several tests share.
 
 use crate::answer::Answer;
-use crate::cases::PLAN_A;
+use crate::cases::{doubled, Record, PLAN_A};
 use crate::foremost::Foremost;
 use crate::loads::Load;
 use crate::means::{COUNT_LIMIT, LISTED};
 use crate::pair::Paired;
 use crate::plan::{read, Ends, Plan};
+use crate::plans::possible_records;
+use crate::random::Random;
 use crate::reach::{reach_named, Tables};
 use crate::reach_cases::{exact_plans, Exact};
 use crate::sets::set_of;
 
-pub use crate::plans::{all_plans, pairs, random_plan, Owned};
+pub use crate::plans::{all_doubled_plans, all_plans, pairs, random_plan, Owned};
 
 impl Owned {
     pub fn plan_a() -> Owned {
         Owned::new(5, 4, &PLAN_A)
+    }
+
+    /// The plan in which the stations of each record hear each other.
+    pub fn doubled(stations: usize, slots: usize, meetings: &[Record]) -> Owned {
+        Owned::new(stations, slots, &doubled(meetings))
     }
 
     pub fn plan(&self) -> Plan {
@@ -123,15 +130,35 @@ pub fn lowest_of_the_largest(loads: &[Load]) -> usize {
     station.unwrap()
 }
 
-/// All plans with n up to 3 and T up to 3, and those with n 4 and T 2.
+/// The seed of the drawn plans among the tiny ones.
+const SEED: u64 = 16;
+/// The number of drawn plans of each size.
+pub const DRAWN: usize = 1500;
+
+/// Drawn plans of a size, with each possible record at even odds.
+fn drawn_plans(stations: usize, slots: usize) -> impl Iterator<Item = Owned> {
+    let mut random = Random::new(SEED);
+    let possible = possible_records(stations, slots);
+    (0..DRAWN).map(move |_| {
+        let mut records = possible.clone();
+        records.retain(|_| random.below(2) == 0);
+        Owned::new(stations, slots, &records)
+    })
+}
+
+/// All plans with n up to 3 and T up to 2 and with n 2 and T 3. Of those with n 3 and T 3 and with n 4
+/// and T 2 drawn ones; of these sizes too all, and every other one, in which stations hear each other.
 pub fn tiny_plans() -> Vec<Owned> {
-    let mut plans = Vec::new();
+    let mut plans = all_plans(2, 3);
     for stations in 1..=3 {
-        for slots in 1..=3 {
+        for slots in 1..=2 {
             plans.extend(all_plans(stations, slots));
         }
     }
-    plans.extend(all_plans(4, 2));
+    plans.extend(drawn_plans(3, 3));
+    plans.extend(drawn_plans(4, 2));
+    plans.extend(all_doubled_plans(3, 3));
+    plans.extend(all_doubled_plans(4, 2).into_iter().step_by(2));
     plans
 }
 

@@ -1,6 +1,6 @@
 //! Properties of all tiny plans.
 
-use super::support::{lowest_of_the_largest, pairs, tiny_plans, Owned};
+use super::support::{lowest_of_the_largest, pairs, tiny_plans, Owned, DRAWN};
 use crate::answer::number;
 use crate::means::{COUNT_LIMIT, LISTED};
 use crate::plans::all_lists;
@@ -19,8 +19,9 @@ fn for_all_pairs(property: impl Fn(&Owned, usize, usize)) {
 
 #[test]
 fn number_of_tiny_plans() {
-    let up_to_three = (1 + 2 + 8) + (1 + 4 + 64) + (1 + 8 + 512);
-    assert_eq!(tiny_plans().len(), up_to_three + 4096);
+    let one_way = (1 + 1) + (4 + 16 + 64) + (64 + 4096);
+    let doubled = 512 + 4096 / 2;
+    assert_eq!(tiny_plans().len(), one_way + 2 * DRAWN + doubled);
 }
 
 #[test]
@@ -231,7 +232,7 @@ fn next_way_takes_the_shortest_paths_alone() {
     let owned = Owned::plan_a();
     let list = owned.list(0, 4);
     let mut accepted = Vec::new();
-    for offered in all_lists(3, 7) {
+    for offered in all_lists(3, 13) {
         let mut buffer = [offered.as_slice(), &[65535]].concat();
         let mut scratch = vec![9; owned.scratch_length()];
         let input = owned.input();

@@ -61,23 +61,23 @@ fn cursor_on_plan_a() {
     let owned = Owned::plan_a();
     let call = owned.path_call(0, 4);
     let list = owned.list(0, 4);
-    let mut cursor = Cursor::start(COUNT_LIMIT, list.clone(), &[1, 3, 5, 8]);
+    let mut cursor = Cursor::start(COUNT_LIMIT, list.clone(), &[1, 5, 10, 8]);
     assert_eq!(cursor.call(Way::Next, &call), Ok(Found::Path(3)));
-    assert_eq!(cursor.buffer(), [1, 4, 5, 8]);
+    assert_eq!(cursor.buffer(), [1, 8, 10, 8]);
     assert_eq!(cursor.call(Way::Next, &call), Ok(Found::Last));
     assert_eq!(cursor.call(Way::Next, &call), Ok(Found::Last));
-    assert_eq!(cursor.buffer(), [1, 4, 5, 8]);
+    assert_eq!(cursor.buffer(), [1, 8, 10, 8]);
     cursor.write(3, 9);
     assert_eq!(cursor.call(Way::First, &call), Ok(Found::Path(3)));
-    assert_eq!(cursor.buffer(), [0, 2, 5, 9]);
+    assert_eq!(cursor.buffer(), [0, 4, 10, 9]);
     let mut short = call;
     short.buffer_length = 3;
     assert_eq!(number(&cursor.call(Way::Next, &short)), 8);
     assert_eq!(cursor.call(Way::Next, &call), Ok(Found::Path(3)));
-    assert_eq!(cursor.buffer(), [1, 3, 5, 9]);
-    let mut off = Cursor::start(COUNT_LIMIT, list, &[0, 3, 5, 8]);
+    assert_eq!(cursor.buffer(), [1, 5, 10, 9]);
+    let mut off = Cursor::start(COUNT_LIMIT, list, &[0, 5, 10, 8]);
     assert_eq!(number(&off.call(Way::Next, &call)), 10);
-    assert_eq!(off.buffer(), [0, 3, 5, 8]);
+    assert_eq!(off.buffer(), [0, 5, 10, 8]);
 }
 
 #[test]

@@ -1,6 +1,7 @@
 //! The list of walks against a filter of all position sequences.
 
-use super::support::{all_plans, Owned};
+use super::support::{all_doubled_plans, all_plans, Owned};
+use crate::one_way::{OneWayPlan, ONE_WAY_PLANS};
 use crate::plan::Plan;
 use crate::walk::walks_from;
 
@@ -10,11 +11,10 @@ fn is_walk(plan: &Plan, source: usize, positions: &[u16]) -> bool {
     let mut slot = 0;
     for position in positions {
         let contact = plan.contacts[usize::from(*position)];
-        let contains = contact.a == station || contact.b == station;
-        if !contains || contact.slot <= slot {
+        if contact.sender != station || contact.slot <= slot {
             return false;
         }
-        station = contact.a + contact.b - station;
+        station = contact.hearer;
         slot = contact.slot;
     }
     true
@@ -44,8 +44,10 @@ fn listed(plan: &Plan, source: usize) -> Vec<Vec<u16>> {
 
 #[test]
 fn walks_are_the_filtered_sequences() {
-    let mut plans = all_plans(3, 3);
-    plans.extend(all_plans(4, 1));
+    let mut plans = all_plans(3, 2);
+    plans.extend(all_plans(2, 3));
+    plans.extend(all_doubled_plans(3, 3).into_iter().step_by(9));
+    plans.extend(ONE_WAY_PLANS.iter().map(OneWayPlan::owned));
     plans.push(Owned::plan_a());
     for owned in plans {
         let plan = owned.plan();
@@ -60,7 +62,7 @@ fn walks_are_the_filtered_sequences() {
 fn walks_carry_their_stations() {
     let plan = Owned::plan_a().plan();
     let walks = walks_from(&plan, 0);
-    let walk = walks.iter().find(|walk| walk.positions == [1, 3, 4]);
+    let walk = walks.iter().find(|walk| walk.positions == [1, 5, 9]);
     let walk = walk.unwrap();
     assert_eq!(walk.stations, [0, 2, 3, 2]);
     assert_eq!((walk.source(), walk.end(), walk.slot), (0, 2, 3));

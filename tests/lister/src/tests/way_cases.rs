@@ -9,10 +9,10 @@ use crate::answer::number;
 use crate::cursor::first_difference;
 use crate::files::{stdin_bytes, stdout_text, Filed};
 use crate::means::{Counting, COUNT_LIMIT, LISTED};
-use crate::reach_cases::ladder;
+use crate::reach_cases::{ladder, sent_ladder, Builder};
 use crate::way_cases::{
-    all_cases, ladder_path, Arguments, Case, Outcome, Step, LONGEST_BUFFER, LONGEST_LABEL,
-    LONGEST_PLAN, LONGEST_SCRATCH,
+    all_cases, ladder_path, sent_ladder_path, Arguments, Case, Outcome, Step, LONGEST_BUFFER,
+    LONGEST_LABEL, LONGEST_PLAN, LONGEST_SCRATCH,
 };
 use crate::ways::{paths_of_call, Found, Way};
 
@@ -87,34 +87,34 @@ fn labels_are_short_printable_and_distinct() {
 fn texts_by_hand() {
     for text in [
         "P4 plan A, 0 to 4, then last twice\n\
-         path 3 | 0 2 5 63 |\n\
-         path 3 | 1 3 5 63 |\n\
-         path 3 | 1 4 5 63 |\n\
-         last | 1 4 5 63 |\n\
-         last | 1 4 5 63 |\n",
+         path 3 | 0 4 10 63 |\n\
+         path 3 | 1 5 10 63 |\n\
+         path 3 | 1 8 10 63 |\n\
+         last | 1 8 10 63 |\n\
+         last | 1 8 10 63 |\n",
         "P6 plan A, 2 to 1\n\
          none | 60 61 62 63 |\n\
          refused 10 | 60 61 62 63 |\n\
          none | 60 61 62 63 |\n",
-        "P7 plan A, after 1 4 5\n\
-         last | 1 4 5 63 |\n\
-         last | 1 4 5 63 |\n",
-        "P7 plan A, offered 0 3 5\n\
-         refused 10 | 0 3 5 63 |\n\
-         refused 10 | 0 3 5 63 |\n\
-         path 3 | 0 2 5 63 |\n\
-         path 3 | 1 3 5 63 |\n",
+        "P7 plan A, after 1 8 10\n\
+         last | 1 8 10 63 |\n\
+         last | 1 8 10 63 |\n",
+        "P7 plan A, offered 0 5 10\n\
+         refused 10 | 0 5 10 63 |\n\
+         refused 10 | 0 5 10 63 |\n\
+         path 3 | 0 4 10 63 |\n\
+         path 3 | 1 5 10 63 |\n",
         "P10 two contacts in slot 1, 0 to 2\n\
          none | 60 |\n\
          refused 10 | 60 |\n\
          none | 60 |\n",
         "plan A, 0 to 3, entries behind the hops\n\
-         path 2 | 0 2 62 63 64 65 66 |\n\
-         path 2 | 1 3 65535 63 64 65 0 |\n\
-         path 2 | 1 4 5 63 64 65 0 |\n\
-         last | 1 4 5 4 2 65 0 |\n\
-         path 2 | 0 2 5 4 2 65 0 |\n\
-         path 2 | 1 3 5 4 2 3 0 |\n",
+         path 2 | 0 4 62 63 64 65 66 |\n\
+         path 2 | 1 5 65535 63 64 65 0 |\n\
+         path 2 | 1 8 5 63 64 65 0 |\n\
+         last | 1 8 5 4 2 65 0 |\n\
+         path 2 | 0 4 5 4 2 65 0 |\n\
+         path 2 | 1 5 5 4 2 3 0 |\n",
         "plan A, 0 to 1, one hop and T - 1 entries lent\n\
          refused 8 | 60 61 62 63 64 65 66 67 68 | 0 .. 99: 7\n\
          path 1 | 0 61 62 63 64 65 66 67 68 |\n\
@@ -123,14 +123,14 @@ fn texts_by_hand() {
          last | 0 61 62 63 64 65 66 67 68 |\n\
          last | 0 61 62 63 64 65 66 67 68 |\n",
         "8 between ways, scratch one short, no scratch\n\
-         path 3 | 0 2 5 63 64 65 | 100 .. 101: 31\n\
-         refused 8 | 0 2 5 63 64 65 | 0 .. 98: 31\n\
-         refused 8 | 0 2 5 63 64 65 | 0 .. 98: 31\n\
-         path 3 | 1 3 5 63 64 65 | 100 .. 101: 31\n\
-         refused 8 | 1 3 5 63 64 65 |\n\
-         refused 8 | 1 3 5 63 64 65 |\n\
-         path 3 | 1 4 5 63 64 65 | 100 .. 101: 31\n\
-         last | 1 4 5 63 64 65 | 100 .. 101: 31\n",
+         path 3 | 0 4 10 63 64 65 | 100 .. 101: 31\n\
+         refused 8 | 0 4 10 63 64 65 | 0 .. 98: 31\n\
+         refused 8 | 0 4 10 63 64 65 | 0 .. 98: 31\n\
+         path 3 | 1 5 10 63 64 65 | 100 .. 101: 31\n\
+         refused 8 | 1 5 10 63 64 65 |\n\
+         refused 8 | 1 5 10 63 64 65 |\n\
+         path 3 | 1 8 10 63 64 65 | 100 .. 101: 31\n\
+         last | 1 8 10 63 64 65 | 100 .. 101: 31\n",
     ] {
         let (label, _) = text.split_once('\n').unwrap();
         assert_eq!(text_of(label), text);
@@ -228,20 +228,28 @@ fn lists_are_complete_but_for_long_ladders() {
 
 #[test]
 fn ladder_paths_are_those_listed() {
-    assert_eq!(ladder_path(3, 1, 0), [0, 2, 7]);
-    assert_eq!(ladder_path(3, 1, 3), [1, 5, 9]);
+    assert_eq!(ladder_path(3, 1, 0), [0, 4, 13]);
+    assert_eq!(ladder_path(3, 1, 3), [1, 7, 15]);
+    assert_eq!(sent_ladder_path(3, 1, 0), [0, 2, 7]);
+    assert_eq!(sent_ladder_path(3, 1, 3), [1, 5, 9]);
     for layers in 1..=9 {
-        let owned = Owned::built(&ladder(layers, 2));
-        for end in [0, 1] {
-            let destination = 2 * layers - 1 + end;
-            let paths = (0..1 << (layers - 1)).map(|index| ladder_path(layers, end, index));
-            let paths: Vec<Vec<u16>> = paths.collect();
-            assert_eq!(paths, owned.list(0, destination));
-            if layers > 1 {
-                let from_first_layer = paths[..paths.len() / 2].iter();
-                let from_first_layer = from_first_layer.map(|path| path[1..].to_vec());
-                assert!(from_first_layer.eq(owned.list(1, destination)));
-            }
+        assert_paths(layers, &ladder(layers, 2), ladder_path);
+        assert_paths(layers, &sent_ladder(layers, 2), sent_ladder_path);
+    }
+}
+
+/// Asserts that a ladder has the paths listed, from the source and from the first layer.
+fn assert_paths(layers: usize, ladder: &Builder, path: fn(usize, usize, u64) -> Vec<u16>) {
+    let owned = Owned::built(ladder);
+    for end in [0, 1] {
+        let destination = 2 * layers - 1 + end;
+        let paths = (0..1 << (layers - 1)).map(|index| path(layers, end, index));
+        let paths: Vec<Vec<u16>> = paths.collect();
+        assert_eq!(paths, owned.list(0, destination));
+        if layers > 1 {
+            let from_first_layer = paths[..paths.len() / 2].iter();
+            let from_first_layer = from_first_layer.map(|path| path[1..].to_vec());
+            assert!(from_first_layer.eq(owned.list(1, destination)));
         }
     }
 }
@@ -255,10 +263,14 @@ fn parts_of_lists_are_not_left() {
         };
         let layers = usize::from(case.pair.slots);
         let end = usize::from(case.pair.destination) - (2 * layers - 1);
-        let whole = |path: Vec<u16>| path[layers - first.len()..].to_vec();
-        let is_first = *first == whole(ladder_path(layers, end, 0));
+        let path_of = match case.label.contains("sent") {
+            true => sent_ladder_path,
+            false => ladder_path,
+        };
+        let whole = |index| path_of(layers, end, index)[layers - first.len()..].to_vec();
+        let is_first = *first == whole(0);
         let last = (1 << (layers - 1).min(63)) - 1;
-        let is_last = case.list.last() == Some(&whole(ladder_path(layers, end, last)));
+        let is_last = case.list.last() == Some(&whole(last));
         let calls_first = |step: &Step| matches!(step, Step::Call(Way::First, _));
         assert!(
             is_first || !case.steps.iter().any(calls_first),
@@ -314,7 +326,7 @@ fn stdin_read_back_gives_the_cases() {
     }
     assert!(rest.is_empty());
     let stdout = stdout_text(&cases);
-    assert!(stdin.len() < 1_200_000 && stdout.len() < 1_200_000);
+    assert!(stdin.len() < 1_300_000 && stdout.len() < 1_200_000);
     let calls = |case: &Case| case.outcomes().len() + 1;
     assert_eq!(stdout.lines().count(), cases.iter().map(calls).sum());
 }
@@ -333,7 +345,7 @@ fn cases_fit_the_program() {
             }
         }
     }
-    assert!(longest[0] <= LONGEST_PLAN && longest[0] == 6 * 4097);
+    assert!(longest[0] <= LONGEST_PLAN && longest[0] == 6 * 8193);
     assert_eq!(longest[1], LONGEST_BUFFER);
     assert_eq!(longest[2], LONGEST_SCRATCH);
 }

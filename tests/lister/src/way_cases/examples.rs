@@ -1,10 +1,14 @@
-//! P4, P6, P7 and P10, and every pair of plan A.
+//! P4, P6, P7 and P10, every pair of plan A and of plans with one direction alone.
 
 use super::Case;
-use crate::cases::{plan_bytes, PLAN_A};
+use crate::cases::{doubled, plan_bytes, PLAN_A};
+use crate::one_way::{OneWayPlan, PathList, ONE_WAY_PLANS};
 
 pub fn cases() -> Vec<Case> {
-    [named_examples(), every_pair()].concat()
+    let mut cases = named_examples();
+    cases.extend(every_pair());
+    cases.extend(ONE_WAY_PLANS.iter().flat_map(one_way));
+    cases
 }
 
 /// A trace without steps on plan A.
@@ -14,7 +18,8 @@ pub fn plan_a(label: &str, stations: (u16, u16)) -> Case {
 
 fn named_examples() -> Vec<Case> {
     let p10 = |label: &str, stations: (u16, u16)| {
-        Case::on_records(label, (3, 1), &[(1, 0, 1), (1, 1, 2)], stations)
+        let two = doubled(&[(1, 0, 1), (1, 1, 2)]);
+        Case::on_records(label, (3, 1), &two, stations)
     };
     vec![
         plan_a("P4 plan A, 0 to 4, then last twice", (0, 4))
@@ -26,12 +31,12 @@ fn named_examples() -> Vec<Case> {
             .next(1)
             .first()
             .stating(&["none", "refused 10", "none"]),
-        plan_a("P7 plan A, after 1 4 5", (0, 4))
-            .beginning(&[1, 4, 5], 4)
+        plan_a("P7 plan A, after 1 8 10", (0, 4))
+            .beginning(&[1, 8, 10], 4)
             .next(2)
             .stating(&["last", "last"]),
-        plan_a("P7 plan A, offered 0 3 5", (0, 4))
-            .beginning(&[0, 3, 5], 4)
+        plan_a("P7 plan A, offered 0 5 10", (0, 4))
+            .beginning(&[0, 5, 10], 4)
             .next(2)
             .first()
             .next(1)
@@ -48,13 +53,41 @@ fn named_examples() -> Vec<Case> {
     ]
 }
 
-/// Plan A between any two stations: the whole list, "last" twice, and the first way again.
+/// The whole list, "last" twice, and the first way again.
+fn whole_list(case: Case) -> Case {
+    let times = case.list.len() + 1;
+    let length = usize::from(case.pair.slots) + 2;
+    let case = case.beginning(&[], length).longer_scratch(3);
+    case.first().next(times).first()
+}
+
+/// Plan A between any two stations.
 fn every_pair() -> Vec<Case> {
     let cases = Case::every_pair("plan A", (5, 4), &plan_bytes(&PLAN_A));
-    let listing = |case: Case| {
-        let times = case.list.len() + 1;
-        let case = case.beginning(&[], 6).longer_scratch(3);
-        case.first().next(times).first()
+    cases.into_iter().map(whole_list).collect()
+}
+
+/// A plan with one direction alone between any two stations, with the replies for its first and its
+/// last one.
+fn one_way(plan: &OneWayPlan) -> Vec<Case> {
+    let replies = |list: PathList| {
+        let Some(path) = list.first() else {
+            return ["none", "refused 10", "none"].map(str::to_string).to_vec();
+        };
+        let path = format!("path {}", path.len());
+        let mut replies = vec![path.clone(); list.len()];
+        replies.extend(["last".to_string(), "last".to_string(), path]);
+        replies
     };
-    cases.into_iter().map(listing).collect()
+    let stated = |case: Case| {
+        let list = match (case.pair.source, case.pair.destination) {
+            (0, end) if end == plan.last() => plan.there,
+            (end, 0) if end == plan.last() => plan.back,
+            _ => return case,
+        };
+        let stated = replies(list);
+        Case { stated, ..case }
+    };
+    let cases = Case::every_pair(plan.label, plan.sizes, &plan_bytes(plan.records));
+    cases.into_iter().map(whole_list).map(stated).collect()
 }

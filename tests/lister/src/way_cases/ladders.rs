@@ -1,11 +1,13 @@
 //! Ladders: few layers listed entire, parts of the list of 64 layers, and 65 layers, which give 9.
 
+use std::ops::Range;
+
 use super::{marks, Arguments, Case, Step};
 use crate::reach_cases;
 use crate::ways::Way;
 
 pub fn cases() -> Vec<Case> {
-    [whole_ladders(), neighbours(), too_many()].concat()
+    [whole_ladders(), neighbours(), too_many(), one_way()].concat()
 }
 
 /// The ladder from the source to the first (0) or second (1) station of the last layer, without its list.
@@ -20,9 +22,20 @@ pub fn ladder(layers: usize, end: usize) -> Case {
 /// Path `index` of a ladder of two stations a layer, to the first (0) or second (1) station of the last.
 ///
 /// A path visits one station of each layer; they are the binary digits of its index, the first layer's
-/// the highest, and the last layer's is given. Slot 1 has positions 0 and 1. The slot to a later layer
-/// has four positions, ordered by the station that it leaves, then by the one that it reaches.
+/// the highest, and the last layer's is given. Slot 1 leads on by positions 0 and 1 and back by 2 and 3.
+/// The slot to a later layer leads on by four positions, ordered by the station that it leaves, then by
+/// the one that it reaches, and back by the four behind them.
 pub fn ladder_path(layers: usize, end: usize, index: u64) -> Vec<u16> {
+    path_by(layers, end, index, 8)
+}
+
+/// The same of a ladder whose stations send to the next layer alone: no position leads back.
+pub fn sent_ladder_path(layers: usize, end: usize, index: u64) -> Vec<u16> {
+    path_by(layers, end, index, 4)
+}
+
+/// The same with so many positions in the slot to a later layer, and half as many in slot 1.
+fn path_by(layers: usize, end: usize, index: u64, in_slot: usize) -> Vec<u16> {
     let digit = |layer: usize| {
         if layer == layers {
             end
@@ -32,7 +45,7 @@ pub fn ladder_path(layers: usize, end: usize, index: u64) -> Vec<u16> {
     };
     let position = |layer: usize| match layer {
         1 => digit(1),
-        _ => 4 * layer - 6 + 2 * digit(layer - 1) + digit(layer),
+        _ => in_slot / 2 + in_slot * (layer - 2) + 2 * digit(layer - 1) + digit(layer),
     };
     (1..=layers).map(|layer| position(layer) as u16).collect()
 }
@@ -93,6 +106,40 @@ fn neighbours() -> Vec<Case> {
         ..other.stating(&["refused 10"])
     });
     cases
+}
+
+/// 64 layers whose stations send to the next layer alone: the first ways and the last, and none back. 65
+/// layers: 9.
+fn one_way() -> Vec<Case> {
+    let bare = |layers: usize| {
+        let builder = reach_cases::sent_ladder(layers, 2);
+        let last = 2 * layers as u16;
+        let label = format!("ladder of {layers} layers, sent");
+        Case::unlisted(&label, builder.sizes(), builder.bytes(), (0, last))
+    };
+    let part = |name: &str, indices: Range<u64>| {
+        let bare = bare(64);
+        let path = |index: u64| sent_ladder_path(64, 1, index);
+        Case {
+            label: format!("{}, {name}", bare.label),
+            list: indices.map(path).collect(),
+            ..bare
+        }
+    };
+    let all = 1 << 63;
+    let first = part("first ways", 0..5).first().next(4).first();
+    let last = part("last ways", all - 3..all);
+    let offered = last.list[0].clone();
+    let last = last.beginning(&offered, 65).next(4);
+    let mut back = part("back", 0..0);
+    (back.pair.source, back.pair.destination) = (back.pair.destination, 0);
+    let too_many = bare(65).first().next(1);
+    vec![
+        first.stating(&["path 64"; 6]),
+        last.stating(&["path 64", "path 64", "last", "last"]),
+        back.first().next(1).stating(&["none", "refused 10"]),
+        too_many.stating(&["refused 9"; 2]),
+    ]
 }
 
 /// 65 layers: every call gives 9, and the buffer stays.

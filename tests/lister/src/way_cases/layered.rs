@@ -4,7 +4,7 @@ use std::collections::BTreeSet;
 
 use super::small::{listing, mixed};
 use super::Case;
-use crate::cases::Record;
+use crate::cases::{doubled, Record};
 use crate::random::Random;
 
 /// The seed of the plans and their mixed traces; each label names it.
@@ -17,7 +17,13 @@ pub fn cases() -> Vec<Case> {
     let mut random = Random::new(SEED);
     let mut cases = Vec::new();
     for index in 0..PLANS {
-        let case = layered(&mut random, &format!("layers {index}, seed {SEED}"));
+        let directions = match index % 3 {
+            0 => Directions::Both,
+            1 => Directions::Rising,
+            _ => Directions::Falling,
+        };
+        let label = format!("layers {index}, seed {SEED}");
+        let case = layered(&mut random, &label, directions);
         let named = |name: &str| Case {
             label: format!("{}, {name}", case.label),
             ..case.clone()
@@ -28,9 +34,20 @@ pub fn cases() -> Vec<Case> {
     cases
 }
 
-/// Layers of up to three stations behind the source. Each two stations of neighbouring layers meet in up to
-/// three slots, early ones for early layers. The pair is the source and the last station.
-fn layered(random: &mut Random, label: &str) -> Case {
+/// Which directions the contacts between two layers have, and whether station numbers rise.
+#[derive(Clone, Copy, Debug)]
+enum Directions {
+    /// Stations of neighbouring layers meet.
+    Both,
+    /// Stations send to the next layer.
+    Rising,
+    /// Stations send to the next layer, and have smaller numbers there.
+    Falling,
+}
+
+/// Layers of up to three stations behind the source. Each two stations of neighbouring layers have contacts
+/// in up to three slots, early ones for early layers. The pair is the source and a station of the last layer.
+fn layered(random: &mut Random, label: &str, directions: Directions) -> Case {
     let layers = random.between(2, 4);
     let slots = random.between(layers + 1, 8);
     let mut records: BTreeSet<Record> = BTreeSet::new();
@@ -48,6 +65,15 @@ fn layered(random: &mut Random, label: &str) -> Case {
         last = next;
     }
     let records: Vec<Record> = records.into_iter().collect();
-    let sizes = (stations as u16, slots as u16);
-    Case::on_records(label, sizes, &records, (0, stations as u16 - 1))
+    let (sizes, last) = ((stations as u16, slots as u16), stations as u16 - 1);
+    match directions {
+        Directions::Both => Case::on_records(label, sizes, &doubled(&records), (0, last)),
+        Directions::Rising => Case::on_records(label, sizes, &records, (0, last)),
+        Directions::Falling => {
+            let turned = |(slot, a, b): &Record| (*slot, last - a, last - b);
+            let mut records: Vec<Record> = records.iter().map(turned).collect();
+            records.sort_unstable();
+            Case::on_records(label, sizes, &records, (last, 0))
+        }
+    }
 }

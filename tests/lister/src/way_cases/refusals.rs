@@ -64,10 +64,10 @@ fn refused_calls(case: &mut Case, number: u8) -> Vec<Refused> {
             ("T 65535", with(|call| call.slots = 65535)),
         ],
         2 => vec![
-            ("35 bytes", with(|call| call.plan_length = 35)),
+            ("71 bytes", with(|call| call.plan_length = 71)),
             ("1 byte", with(|call| call.plan_length = 1)),
             (
-                "37 bytes",
+                "73 bytes",
                 case.with_plan(&[plan_bytes(&PLAN_A).as_slice(), &[0]].concat()),
             ),
         ],
@@ -80,7 +80,7 @@ fn refused_calls(case: &mut Case, number: u8) -> Vec<Refused> {
         4 => vec![
             ("n 4", with(|call| call.stations = 4)),
             ("a = b", with_records(case, &[(1, 0, 1), (2, 3, 3)])),
-            ("a above b", with_records(case, &[(1, 1, 0)])),
+            ("a = n", with_records(case, &[(1, 5, 4)])),
             ("b = n", with_records(case, &[(1, 4, 5)])),
         ],
         5 => vec![
@@ -173,7 +173,7 @@ fn two_causes() -> Case {
     let calls = [
         (
             1,
-            with(pair, |call| (call.stations, call.plan_length) = (0, 35)),
+            with(pair, |call| (call.stations, call.plan_length) = (0, 71)),
         ),
         (
             1,
@@ -185,11 +185,11 @@ fn two_causes() -> Case {
         ),
         (
             2,
-            with(pair, |call| (call.plan_length, call.slots) = (35, 3)),
+            with(pair, |call| (call.plan_length, call.slots) = (71, 3)),
         ),
         (
             2,
-            with(pair, |call| (call.plan_length, call.source) = (35, 4)),
+            with(pair, |call| (call.plan_length, call.source) = (71, 4)),
         ),
         (3, with(pair, |call| (call.slots, call.stations) = (3, 4))),
         (3, with(pair, |call| (call.slots, call.source) = (3, 4))),

@@ -30,23 +30,23 @@ fn offered(entries: &[u16]) -> Case {
 /// Next way is the first call, and the buffer begins with a path.
 fn on_a_path() -> Vec<Case> {
     vec![
-        offered(&[0, 2, 5])
+        offered(&[0, 4, 10])
             .next(4)
             .stating(&["path 3", "path 3", "last", "last"]),
-        offered(&[1, 3, 5])
+        offered(&[1, 5, 10])
             .next(3)
             .stating(&["path 3", "last", "last"]),
-        offered(&[1, 4, 5])
+        offered(&[1, 8, 10])
             .next(1)
             .first()
             .next(3)
             .stating(&["last", "path 3", "path 3", "path 3", "last"]),
         plan_a("plan A, 0 to 3, on its second way", (0, 3))
-            .beginning(&[1, 3], 4)
+            .beginning(&[1, 5], 4)
             .next(2)
             .stating(&["path 2", "last"]),
         plan_a("plan A, 4 to 3, on its one way", (4, 3))
-            .beginning(&[5], 4)
+            .beginning(&[11], 4)
             .next(2)
             .stating(&["last", "last"]),
     ]
@@ -54,20 +54,27 @@ fn on_a_path() -> Vec<Case> {
 
 /// The buffer begins with no path of the pair: 10 each time, until the first way is given.
 fn on_no_path() -> Vec<Case> {
-    let lists: [&[u16]; 13] = [
-        &[0, 2],
-        &[0, 2, 4],
-        &[0, 3, 4],
-        &[0, 4, 5],
-        &[0, 5, 5],
-        &[1, 2, 5],
-        &[1, 3, 4, 5],
-        &[1, 5, 5],
-        &[2, 0, 5],
-        &[2, 5],
-        &[5, 2, 0],
+    let lists: [&[u16]; 19] = [
+        &[0, 4],
+        &[0, 4, 8],
+        &[0, 5, 8],
+        &[0, 8, 10],
+        &[0, 10, 10],
+        &[1, 4, 10],
+        &[1, 5, 8, 10],
+        &[1, 10, 10],
+        &[4, 0, 10],
+        &[4, 10],
+        &[10, 4, 0],
         &[0, 0, 0, 0],
-        &[61, 0, 2, 5],
+        &[61, 0, 4, 10],
+        // One record of a path in its other direction.
+        &[2, 4, 10],
+        &[3, 5, 10],
+        &[0, 6, 10],
+        &[1, 7, 10],
+        &[1, 9, 10],
+        &[0, 4, 11],
     ];
     let case = |entries: &&[u16]| {
         let case = offered(entries).next(2).first().next(1);
@@ -76,7 +83,7 @@ fn on_no_path() -> Vec<Case> {
     let mut cases: Vec<Case> = lists.iter().map(case).collect();
     cases.push(
         plan_a("plan A, 1 to 0, on no way", (1, 0))
-            .beginning(&[1], 4)
+            .beginning(&[0], 4)
             .next(1)
             .first()
             .next(1)
@@ -84,7 +91,7 @@ fn on_no_path() -> Vec<Case> {
     );
     cases.push(
         plan_a("plan A, 2 to 1, offered two contacts of one slot", (2, 1))
-            .beginning(&[1, 0], 4)
+            .beginning(&[3, 0], 4)
             .next(1)
             .first()
             .stating(&["refused 10", "none"]),
@@ -96,8 +103,8 @@ fn on_no_path() -> Vec<Case> {
 fn no_records() -> Vec<Case> {
     let mut cases = Vec::new();
     for hop in 0..3 {
-        for position in [6, 256, 4095, 4096, 32768, 65535] {
-            let mut entries = [1, 4, 5];
+        for position in [12, 256, 8191, 8192, 32768, 65535] {
+            let mut entries = [1, 8, 10];
             entries[hop] = position;
             let case = offered(&entries).next(1).first().next(1);
             cases.push(case.stating(&["refused 10", "path 3", "path 3"]));
@@ -117,14 +124,14 @@ fn parts_of_plan_a() -> Vec<Case> {
         case
     };
     vec![
-        on("plan A, its first four records, 0 to 3", 0..4, (0, 3))
-            .beginning(&[1, 4], 4)
+        on("plan A, its first eight records, 0 to 3", 0..8, (0, 3))
+            .beginning(&[1, 8], 4)
             .next(1)
             .first()
             .next(2)
             .stating(&["refused 10", "path 2", "path 2", "last"]),
-        on("plan A, its last five records, 0 to 4", 1..6, (0, 4))
-            .beginning(&[1, 3, 5], 4)
+        on("plan A, its last eleven records, 0 to 4", 1..12, (0, 4))
+            .beginning(&[1, 5, 10], 4)
             .next(1)
             .first()
             .next(2)
