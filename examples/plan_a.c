@@ -1,7 +1,8 @@
 /*
  * Plan A of document 01, doubled, through the C interface: check, reach from 0, the row of station 3, the pairs 0 to 4 and 0
- * to 3 with their ways one by one, how many ways of 0 to 4 stations 2 and 3 touch together, the earliest ways of 0 to 3, the
- * loads and the busiest station. The callers lend all memory; the example stops at a refusal.
+ * to 3 with their ways one by one, 0 to 3 again where stations need two slots between hearing and sending on, how many ways
+ * of 0 to 4 stations 2 and 3 touch together, the earliest ways of 0 to 3, the loads and the busiest station. The callers lend
+ * all memory; the example stops at a refusal.
  */
 #include <inttypes.h>
 #include <stdio.h>
@@ -11,6 +12,8 @@
 
 #define STATIONS 5
 #define SLOTS 4
+#define USUAL 1 /* the turnaround of units that send on in the slot after hearing */
+#define SLOW 2  /* and of units that need a slot more */
 #define CONTACTS 12
 #define SOURCE 0
 #define STATION_OF_ROW 3
@@ -61,7 +64,7 @@ static void print_reach(void)
     size_t length;
     size_t v;
 
-    accept_or_stop(joftaki_reach(plan, sizeof plan, STATIONS, SLOTS, SOURCE,
+    accept_or_stop(joftaki_reach(plan, sizeof plan, STATIONS, SLOTS, USUAL, SOURCE,
                                  hops, JOFTAKI_TABLE_LENGTH(STATIONS, SLOTS),
                                  counts, JOFTAKI_TABLE_LENGTH(STATIONS, SLOTS),
                                  station_hops, STATIONS, station_counts, STATIONS));
@@ -75,13 +78,13 @@ static void print_reach(void)
 }
 
 /* Operation 4: hops, count and through counts of a pair. */
-static void print_pair(size_t destination, uint64_t *work)
+static void print_pair(size_t turnaround, size_t destination, uint64_t *work)
 {
     size_t hops;
     uint64_t count;
     uint64_t through[STATIONS];
 
-    accept_or_stop(joftaki_pair(plan, sizeof plan, STATIONS, SLOTS, SOURCE, destination, &hops, &count,
+    accept_or_stop(joftaki_pair(plan, sizeof plan, STATIONS, SLOTS, turnaround, SOURCE, destination, &hops, &count,
                                 through, STATIONS, work, JOFTAKI_WORK_LENGTH(STATIONS, SLOTS)));
     printf("hops %zu\ncount %" PRIu64 "\n", hops, count);
     print_counts("through", through, STATIONS);
@@ -98,15 +101,15 @@ static void print_way(const uint16_t *way, size_t hops)
 }
 
 /* Operations 7 and 8: every way of a pair, one a line. The way buffer alone says where the listing stands. */
-static void print_ways(size_t destination, uint64_t *work)
+static void print_ways(size_t turnaround, size_t destination, uint64_t *work)
 {
     uint16_t way[SLOTS];
     size_t hops;
-    uint32_t number = joftaki_first_way(plan, sizeof plan, STATIONS, SLOTS, SOURCE, destination, &hops,
+    uint32_t number = joftaki_first_way(plan, sizeof plan, STATIONS, SLOTS, turnaround, SOURCE, destination, &hops,
                                         way, SLOTS, work, JOFTAKI_WORK_LENGTH(STATIONS, SLOTS));
     while (number == JOFTAKI_ACCEPTED) {
         print_way(way, hops);
-        number = joftaki_next_way(plan, sizeof plan, STATIONS, SLOTS, SOURCE, destination, &hops,
+        number = joftaki_next_way(plan, sizeof plan, STATIONS, SLOTS, turnaround, SOURCE, destination, &hops,
                                   way, SLOTS, work, JOFTAKI_WORK_LENGTH(STATIONS, SLOTS));
     }
     if (number != JOFTAKI_NONE && number != JOFTAKI_LAST)
@@ -119,7 +122,7 @@ static void print_set(size_t destination, uint64_t *work)
     static const uint8_t set[STATIONS] = {0, 0, 1, 1, 0};
     uint64_t count;
 
-    accept_or_stop(joftaki_through_set(plan, sizeof plan, STATIONS, SLOTS, SOURCE, destination, &count,
+    accept_or_stop(joftaki_through_set(plan, sizeof plan, STATIONS, SLOTS, USUAL, SOURCE, destination, &count,
                                        set, STATIONS, work, JOFTAKI_WORK_LENGTH(STATIONS, SLOTS)));
     printf("set 2 3 count %" PRIu64 "\n", count);
 }
@@ -133,8 +136,8 @@ static void print_foremost(size_t destination, uint64_t *work)
     uint64_t count;
     uint64_t through[STATIONS];
 
-    accept_or_stop(joftaki_foremost(plan, sizeof plan, STATIONS, SLOTS, SOURCE, destination, &arrival, &hops, &count,
-                                    through, STATIONS, work, JOFTAKI_WORK_LENGTH(STATIONS, SLOTS)));
+    accept_or_stop(joftaki_foremost(plan, sizeof plan, STATIONS, SLOTS, USUAL, SOURCE, destination,
+                                    &arrival, &hops, &count, through, STATIONS, work, JOFTAKI_WORK_LENGTH(STATIONS, SLOTS)));
     printf("slot %zu\nhops %zu\ncount %" PRIu64 "\n", arrival, hops, count);
     print_counts("through", through, STATIONS);
 }
@@ -146,7 +149,7 @@ static void print_loads(uint64_t *work)
     uint64_t loads[STATIONS];
     size_t v;
 
-    accept_or_stop(joftaki_loads(plan, sizeof plan, STATIONS, SLOTS, pairs, STATIONS, loads, STATIONS,
+    accept_or_stop(joftaki_loads(plan, sizeof plan, STATIONS, SLOTS, USUAL, pairs, STATIONS, loads, STATIONS,
                                  work, JOFTAKI_WORK_LENGTH(STATIONS, SLOTS)));
     printf("stations %d slots %d contacts %d\n", STATIONS, SLOTS, CONTACTS);
     for (v = 0; v < STATIONS; v++)
@@ -158,7 +161,7 @@ static void print_busiest(uint64_t *work)
 {
     size_t station;
 
-    accept_or_stop(joftaki_busiest(plan, sizeof plan, STATIONS, SLOTS, &station,
+    accept_or_stop(joftaki_busiest(plan, sizeof plan, STATIONS, SLOTS, USUAL, &station,
                                    work, JOFTAKI_WORK_LENGTH(STATIONS, SLOTS)));
     printf("busiest %zu\n", station);
 }
@@ -171,11 +174,13 @@ int main(void)
     accept_or_stop(number);
     printf("check %" PRIu32 "\n", number);
     print_reach();
-    print_pair(4, work);
-    print_ways(4, work);
+    print_pair(USUAL, 4, work);
+    print_ways(USUAL, 4, work);
     print_set(4, work);
-    print_pair(3, work);
-    print_ways(3, work);
+    print_pair(USUAL, 3, work);
+    print_ways(USUAL, 3, work);
+    print_pair(SLOW, 3, work);
+    print_ways(SLOW, 3, work);
     print_foremost(3, work);
     print_loads(work);
     print_busiest(work);

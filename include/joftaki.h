@@ -3,26 +3,28 @@
  *
  * Words. The comments have document 01's words; in names a walk is a chain, hops are legs, a path is a way, and shortest is
  * least, with the fewest legs. A contact leads from its sender to its hearer, and from no other station. A chain from s is a
- * run of contacts: s sends the first, the hearer of each sends the next, and slots rise strictly. An appearance (v, u) is
- * station v reached by a chain whose last contact is in slot u.
+ * run of contacts: s sends the first, in any slot, and the hearer of each sends the next, g slots after hearing or later. An
+ * appearance (v, u) is station v reached by a chain whose last contact is in slot u.
  *
  * Arguments. plan: 0 to 8,192 records of 6 bytes, so up to 49,152 bytes, no header: slot, a, b, each 16 bits, high byte first.
  * A record is a contact: in this slot a sends and b hears (document 02, C-16; document 002's directed edge (a, b, slot),
  * Definition 2.1). a and b are different, and either may be the larger. Two stations that hear each other in a slot have two
  * records there, (slot, a, b) and (slot, b, a). Records rise strictly by (slot, a, b). A record's place, counted from 0, is
  * its position, at most 8,191. n: the number of stations, 1 to 256; they are numbered from 0. t: the number of slots, 1 to
- * 255; they are numbered from 1. s, z, v: stations. Every function but row and row_number reads the plan anew and trusts no
- * earlier table.
+ * 255; they are numbered from 1. g: the turnaround, 1 to 16 slots (document 02, C-17); what a station hears in slot u goes
+ * out in slot u + g or later, so with 1 the slots of a chain rise strictly, and that is all. g may be above t. The calls of
+ * one listing have one g. s, z, v: stations. Every function but row and row_number reads the plan anew and trusts no earlier
+ * table.
  *
  * Answers. Every function gives a number: 0 where the call is accepted, else the number of the papers' first cause that
- * holds, in their order: 1, 2, then 3, 4, 5 record by record, then 6, 7, 8, 11, 9, 10. First way and next way have two more
+ * holds, in their order: 1, 2, then 3, 4, 5 record by record, then 12, 6, 7, 8, 11, 9, 10. First way and next way have two more
  * numbers, JOFTAKI_NONE and JOFTAKI_LAST, which are acceptances. A slot (arrival, hops, count, station, offset, length) is
  * always written: its value on acceptance; 0 on every refusal, and 0 beside JOFTAKI_NONE and JOFTAKI_LAST.
  *
- * Lent memory. Tables, buffers, sets and work areas may hold anything at entry. Numbers 1 to 8 and 11 leave all of them as
- * they were. 9 sets the named parts of the tables and of the work area to 0 and leaves the way buffer. 10 sets the named part
- * of the work area to 0 and leaves the way buffer. Every acceptance leaves the named part of the work area 0. The named part
- * is the length said at each prototype; entries past it are never touched, and longer is always fine.
+ * Lent memory. Tables, buffers, sets and work areas may hold anything at entry. Numbers 1 to 8, 11 and 12 leave all of them
+ * as they were. 9 sets the named parts of the tables and of the work area to 0 and leaves the way buffer. 10 sets the named
+ * part of the work area to 0 and leaves the way buffer. Every acceptance leaves the named part of the work area 0. The named
+ * part is the length said at each prototype, whatever g is; entries past it are never touched, and longer is always fine.
  *
  * Proved. For every call that lends memory as said below, the number, the slots and every lent entry at exit are those of
  * the definitions in crates/temporal/specs, and the function ends. The contracts stand in crates/joftaki_c/src/lib.rt, with
@@ -56,7 +58,7 @@
 extern "C" {
 #endif
 
-/* The numbers. 12 to 17 are kept for later causes; no function gives one of them. */
+/* The numbers. 13 to 17 are kept for later causes; no function gives one of them. */
 #define JOFTAKI_ACCEPTED 0u
 /* A fault of the plan. */
 #define JOFTAKI_LIMITS 1u /* n or t outside its limits */
@@ -72,13 +74,15 @@ extern "C" {
                                         foremost: an appearance */
 #define JOFTAKI_NOT_SHORTEST_PATH 10u /* next way: the offered positions are no least way of the pair, or it has none */
 #define JOFTAKI_SET_BYTE 11u          /* through_set: one of the first n bytes of the set is neither 0 nor 1 */
+#define JOFTAKI_TURNAROUND 12u        /* g outside 1 to 16 */
 /* First way and next way: acceptances that give no way. */
 #define JOFTAKI_NONE 100u /* the pair has no way */
 #define JOFTAKI_LAST 101u /* there is no way after the one in the buffer */
 
-/* The limits of n, of t and of the records of a plan. */
+/* The limits of n, of t, of g and of the records of a plan. */
 #define JOFTAKI_MOST_STATIONS 256
 #define JOFTAKI_MOST_SLOTS 255
+#define JOFTAKI_MOST_TURNAROUND 16
 #define JOFTAKI_MOST_RECORDS 8192
 #define JOFTAKI_RECORD_BYTES 6
 
@@ -109,12 +113,12 @@ uint32_t joftaki_check(const uint8_t *plan, size_t plan_length, size_t n, size_t
  * station_counts: the same for each station v, at place v; s has 0 legs and count 1.
  *
  * Lend: hops and counts JOFTAKI_TABLE_LENGTH(n, t) entries each, station_hops and station_counts n entries each.
- * Gives 0, or the first of 1, 2, 3, 4, 5, 6, 8, 9. 9 sets the named parts of all four tables to 0.
+ * Gives 0, or the first of 1, 2, 3, 4, 5, 12, 6, 8, 9. 9 sets the named parts of all four tables to 0.
  * Proved: the number and every entry of the four tables at exit.
  * Not covered: each pointer is valid for its length, aligned and not null, also where its length is 0; the four tables and
  * the plan do not overlap.
  */
-uint32_t joftaki_reach(const uint8_t *plan, size_t plan_length, size_t n, size_t t, size_t s,
+uint32_t joftaki_reach(const uint8_t *plan, size_t plan_length, size_t n, size_t t, size_t g, size_t s,
                        uint16_t *hops, size_t hops_length,
                        uint64_t *counts, size_t counts_length,
                        uint16_t *station_hops, size_t station_hops_length,
@@ -148,13 +152,13 @@ uint32_t joftaki_row_number(const uint64_t *table, size_t table_length, size_t n
  * how many of them have v inside: visited, and neither s nor z. Where there is no way: 65535, 0 and all 0.
  *
  * Lend: through n entries, work JOFTAKI_WORK_LENGTH(n, t) entries.
- * Gives 0, or the first of 1, 2, 3, 4, 5, 6, 7, 8, 9. 9 sets the named parts of through and work to 0.
+ * Gives 0, or the first of 1, 2, 3, 4, 5, 12, 6, 7, 8, 9. 9 sets the named parts of through and work to 0.
  * Proved: the number, both slots, and every entry of through and work at exit. That the n entries of through add up to
  * count times (hops - 1) is a theorem (crates/demands/specs/Account.antt); the sum can be above 2^64 - 1.
  * Not covered: each pointer is valid for its length, aligned and not null, also where its length is 0; hops and count are
  * valid, aligned and not null; the two slots, through, work and the plan do not overlap.
  */
-uint32_t joftaki_pair(const uint8_t *plan, size_t plan_length, size_t n, size_t t, size_t s, size_t z,
+uint32_t joftaki_pair(const uint8_t *plan, size_t plan_length, size_t n, size_t t, size_t g, size_t s, size_t z,
                       size_t *hops, uint64_t *count,
                       uint64_t *through, size_t through_length,
                       uint64_t *work, size_t work_length);
@@ -167,14 +171,14 @@ uint32_t joftaki_pair(const uint8_t *plan, size_t plan_length, size_t n, size_t 
  * way: 65535, 65535, 0 and all 0.
  *
  * Lend: as for pair: through n entries, work JOFTAKI_WORK_LENGTH(n, t) entries.
- * Gives 0, or the first of 1, 2, 3, 4, 5, 6, 7, 8, 9. 9 looks at appearances alone, at every one of them, also in slots after
- * the arrival; what a station has over several slots is no cause. 9 sets the named parts of through and work to 0.
+ * Gives 0, or the first of 1, 2, 3, 4, 5, 12, 6, 7, 8, 9. 9 looks at appearances alone, at every one of them, also in slots
+ * after the arrival; what a station has over several slots is no cause. 9 sets the named parts of through and work to 0.
  * Proved: the number, the three slots, and every entry of through and work at exit. That the chains counted are ways, and that
  * no chain arrives earlier, are theorems (crates/demands/specs/Foremost.antt). The entries of through add up as pair's do.
  * Not covered: each pointer is valid for its length, aligned and not null, also where its length is 0; arrival, hops and count
  * are valid, aligned and not null; the three slots, through, work and the plan do not overlap.
  */
-uint32_t joftaki_foremost(const uint8_t *plan, size_t plan_length, size_t n, size_t t, size_t s, size_t z,
+uint32_t joftaki_foremost(const uint8_t *plan, size_t plan_length, size_t n, size_t t, size_t g, size_t s, size_t z,
                           size_t *arrival, size_t *hops, uint64_t *count,
                           uint64_t *through, size_t through_length,
                           uint64_t *work, size_t work_length);
@@ -186,13 +190,13 @@ uint32_t joftaki_foremost(const uint8_t *plan, size_t plan_length, size_t n, siz
  * place v: 1 where v is a member, 0 where not. It is only read, and only its first n bytes are.
  *
  * Lend: set n bytes, work JOFTAKI_WORK_LENGTH(n, t) entries.
- * Gives 0, or the first of 1, 2, 3, 4, 5, 6, 7, 8, 11, 9. 9 sets the named part of work to 0.
+ * Gives 0, or the first of 1, 2, 3, 4, 5, 12, 6, 7, 8, 11, 9. 9 sets the named part of work to 0.
  * Proved: the number, the slot, and every entry of work at exit. The cases of one station and of the empty set, and bounds by
  * the through counts, are theorems (crates/demands/specs/Sets.antt).
  * Not covered: each pointer is valid for its length, aligned and not null, also where its length is 0; count is valid,
  * aligned and not null; the slot, set, work and the plan do not overlap.
  */
-uint32_t joftaki_through_set(const uint8_t *plan, size_t plan_length, size_t n, size_t t, size_t s, size_t z,
+uint32_t joftaki_through_set(const uint8_t *plan, size_t plan_length, size_t n, size_t t, size_t g, size_t s, size_t z,
                              uint64_t *count,
                              const uint8_t *set, size_t set_length,
                              uint64_t *work, size_t work_length);
@@ -203,12 +207,12 @@ uint32_t joftaki_through_set(const uint8_t *plan, size_t plan_length, size_t n, 
  * part of 2^32 * through / count; one unit is 1 / 2^32.
  *
  * Lend: pairs and loads n entries each, work JOFTAKI_WORK_LENGTH(n, t) entries.
- * Gives 0, or the first of 1, 2, 3, 4, 5, 8, 9; every source is worked on. 9 sets the named parts of all three to 0.
+ * Gives 0, or the first of 1, 2, 3, 4, 5, 12, 8, 9; every source is worked on. 9 sets the named parts of all three to 0.
  * Proved: the number and every entry of pairs, loads and work at exit.
  * Not covered: each pointer is valid for its length, aligned and not null, also where its length is 0; pairs, loads, work
  * and the plan do not overlap.
  */
-uint32_t joftaki_loads(const uint8_t *plan, size_t plan_length, size_t n, size_t t,
+uint32_t joftaki_loads(const uint8_t *plan, size_t plan_length, size_t n, size_t t, size_t g,
                        uint64_t *pairs, size_t pairs_length,
                        uint64_t *loads, size_t loads_length,
                        uint64_t *work, size_t work_length);
@@ -218,13 +222,13 @@ uint32_t joftaki_loads(const uint8_t *plan, size_t plan_length, size_t n, size_t
  * Where all loads are 0 that is station 0.
  *
  * Lend: work JOFTAKI_WORK_LENGTH(n, t) entries.
- * Gives 0, or the first of 1, 2, 3, 4, 5, 8, 9; every source is worked on. 9 sets the named part of work to 0.
+ * Gives 0, or the first of 1, 2, 3, 4, 5, 12, 8, 9; every source is worked on. 9 sets the named part of work to 0.
  * Proved: the number, the slot, and every entry of work at exit. No load exceeds the load of the station given, and every
  * lower-numbered station's is smaller (crates/temporal/proofs/BusiestLaws.antt).
  * Not covered: each pointer is valid for its length, aligned and not null, also where its length is 0; station is valid,
  * aligned and not null; the slot, work and the plan do not overlap.
  */
-uint32_t joftaki_busiest(const uint8_t *plan, size_t plan_length, size_t n, size_t t,
+uint32_t joftaki_busiest(const uint8_t *plan, size_t plan_length, size_t n, size_t t, size_t g,
                          size_t *station,
                          uint64_t *work, size_t work_length);
 
@@ -234,13 +238,13 @@ uint32_t joftaki_busiest(const uint8_t *plan, size_t plan_length, size_t n, size
  *
  * Lend: way t entries, even if the pair has fewer legs or no way; work JOFTAKI_WORK_LENGTH(n, t) entries.
  * Gives 0; JOFTAKI_NONE where the pair has no way, which leaves the whole way buffer as it was; or the first of 1, 2, 3, 4,
- * 5, 6, 7, 8, 9. Entries of way behind the legs are never touched.
+ * 5, 12, 6, 7, 8, 9. Entries of way behind the legs are never touched.
  * Proved: the number, the slot, and every entry of way and work at exit. For a listing as a whole, any list of calls of
- * first way and next way on one buffer, document 01's demand 3 is proved (crates/trace, crates/listing/proofs/Demand3.antt).
+ * first way and next way on one buffer, document 01's demand 3 is proved (crates/trace, crates/demands/proofs/Demand3.antt).
  * Not covered: each pointer is valid for its length, aligned and not null, also where its length is 0; hops is valid,
  * aligned and not null; the slot, way, work and the plan do not overlap.
  */
-uint32_t joftaki_first_way(const uint8_t *plan, size_t plan_length, size_t n, size_t t, size_t s, size_t z,
+uint32_t joftaki_first_way(const uint8_t *plan, size_t plan_length, size_t n, size_t t, size_t g, size_t s, size_t z,
                            size_t *hops,
                            uint16_t *way, size_t way_length,
                            uint64_t *work, size_t work_length);
@@ -251,12 +255,12 @@ uint32_t joftaki_first_way(const uint8_t *plan, size_t plan_length, size_t n, si
  *
  * Lend: as for first way.
  * Gives 0; JOFTAKI_LAST where way begins with the pair's last way, which leaves the whole way buffer as it was; or the
- * first of 1, 2, 3, 4, 5, 6, 7, 8, 9, 10. 10: way begins with no least way of the pair, or it has none.
+ * first of 1, 2, 3, 4, 5, 12, 6, 7, 8, 9, 10. 10: way begins with no least way of the pair, or it has none.
  * Proved: as for first way.
  * Not covered: as for first way: each pointer is valid for its length, aligned and not null, also where its length is 0;
  * hops is valid, aligned and not null; the slot, way, work and the plan do not overlap.
  */
-uint32_t joftaki_next_way(const uint8_t *plan, size_t plan_length, size_t n, size_t t, size_t s, size_t z,
+uint32_t joftaki_next_way(const uint8_t *plan, size_t plan_length, size_t n, size_t t, size_t g, size_t s, size_t z,
                           size_t *hops,
                           uint16_t *way, size_t way_length,
                           uint64_t *work, size_t work_length);

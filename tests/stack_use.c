@@ -26,31 +26,31 @@ static size_t offset, length, arrival, hops, station;
 static uint32_t run_check(void) { return joftaki_check(plan, sizeof plan, N, T); }
 static uint32_t run_reach(void)
 {
-    return joftaki_reach(plan, sizeof plan, N, T, 0, hops_table, TABLE, counts, TABLE, near_hops, N, near_counts, N);
+    return joftaki_reach(plan, sizeof plan, N, T, 1, 0, hops_table, TABLE, counts, TABLE, near_hops, N, near_counts, N);
 }
 static uint32_t run_row(void) { return joftaki_row(counts, TABLE, N, T, 255, &offset, &length); }
 static uint32_t run_row_number(void) { return joftaki_row_number(counts, TABLE, N, T, 255); }
 static uint32_t run_pair(void)
 {
-    return joftaki_pair(plan, sizeof plan, N, T, 0, 255, &hops, &count, through, N, work, WORK);
+    return joftaki_pair(plan, sizeof plan, N, T, 1, 0, 255, &hops, &count, through, N, work, WORK);
 }
 static uint32_t run_foremost(void)
 {
-    return joftaki_foremost(plan, sizeof plan, N, T, 0, 255, &arrival, &hops, &count, through, N, work, WORK);
+    return joftaki_foremost(plan, sizeof plan, N, T, 1, 0, 255, &arrival, &hops, &count, through, N, work, WORK);
 }
 static uint32_t run_through_set(void)
 {
-    return joftaki_through_set(plan, sizeof plan, N, T, 0, 255, &count, set, N, work, WORK);
+    return joftaki_through_set(plan, sizeof plan, N, T, 1, 0, 255, &count, set, N, work, WORK);
 }
-static uint32_t run_loads(void) { return joftaki_loads(plan, sizeof plan, N, T, pairs, N, loads, N, work, WORK); }
-static uint32_t run_busiest(void) { return joftaki_busiest(plan, sizeof plan, N, T, &station, work, WORK); }
+static uint32_t run_loads(void) { return joftaki_loads(plan, sizeof plan, N, T, 1, pairs, N, loads, N, work, WORK); }
+static uint32_t run_busiest(void) { return joftaki_busiest(plan, sizeof plan, N, T, 1, &station, work, WORK); }
 static uint32_t run_first_way(void)
 {
-    return joftaki_first_way(plan, sizeof plan, N, T, 0, 255, &hops, way, T, work, WORK);
+    return joftaki_first_way(plan, sizeof plan, N, T, 1, 0, 255, &hops, way, T, work, WORK);
 }
 static uint32_t run_next_way(void)
 {
-    return joftaki_next_way(plan, sizeof plan, N, T, 0, 255, &hops, way, T, work, WORK);
+    return joftaki_next_way(plan, sizeof plan, N, T, 1, 0, 255, &hops, way, T, work, WORK);
 }
 
 static const struct {

@@ -1,6 +1,6 @@
 // Document 02's operation on the shortest foremost paths of a pair, foremost, on cases from standard input.
 //
-// A case is a head of 22 bytes, a label and a plan. The head's first seven numbers have 16 bits, high byte first: n, T, the
+// A case is a head of 24 bytes, a label and a plan. The head's first eight numbers have 16 bits, high byte first: n, T, g, the
 // source, the destination, the length of the plan, the length of the label, a mark. Two numbers of 32 bits follow: the lent
 // entries of the through table and of the work area. Both hold the mark before the call.
 //
@@ -29,23 +29,24 @@ fn write_answer(answer: ForemostAnswer) {
 
 // Calls the operation on the lent parts, and writes its answer.
 fn run_foremost(head: &[u8], plan: &[u8], through: &mut [u64], work: &mut [u64]) {
-    let mark = cases::word(head, 12) as u64;
+    let mark = cases::word(head, 14) as u64;
     cases::mark64(through, mark);
     cases::mark64(work, mark);
     let n = cases::word(head, 0);
     let t = cases::word(head, 2);
-    let s = cases::word(head, 4);
-    let z = cases::word(head, 6);
-    write_answer(foremost::foremost(plan, n, t, s, z, through, work));
+    let g = cases::word(head, 4);
+    let s = cases::word(head, 6);
+    let z = cases::word(head, 8);
+    write_answer(foremost::foremost(plan, n, t, g, s, z, through, work));
     cases::write64(through);
     cases::write64(work);
 }
 
 // Lends what the head names, and runs the case.
 fn run_named(head: &[u8], plan: &[u8], through: &mut [u64], work: &mut [u64]) {
-    let size = cases::least(cases::word(head, 8), plan.len());
-    let table = cases::lent(head, 14, through.len());
-    let area = cases::lent(head, 18, work.len());
+    let size = cases::least(cases::word(head, 10), plan.len());
+    let table = cases::lent(head, 16, through.len());
+    let area = cases::lent(head, 20, work.len());
     run_foremost(
         head,
         &plan[..size],
@@ -62,10 +63,10 @@ fn run_case(
     through: &mut [u64],
     work: &mut [u64],
 ) -> bool {
-    if !cases::read_case(head, label, plan, 10, 8) {
+    if !cases::read_case(head, label, plan, 12, 10) {
         return false;
     }
-    cases::write_part(label, cases::word(head, 10));
+    cases::write_part(label, cases::word(head, 12));
     cases::write_part(b":", 1);
     run_named(head, plan, through, work);
     cases::end_line();
@@ -73,7 +74,7 @@ fn run_case(
 }
 
 fn main() {
-    let mut head = [0u8; 22];
+    let mut head = [0u8; 24];
     let mut label = [0u8; 64];
     let mut plan = [0u8; 49200];
     let mut through = [0u64; 320];

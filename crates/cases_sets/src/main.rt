@@ -1,8 +1,8 @@
 // Document 02's operation on a pair and a set of stations, through_set, on cases from standard input.
 //
-// A case is a head of 20 bytes, a label, a plan and a set. The head's first eight numbers have 16 bits, high byte first: n, T,
-// the source, the destination, the length of the plan, the length of the label, a mark, the length of the set. A number of 32
-// bits follows: the lent entries of the work area, which all hold the mark before the call.
+// A case is a head of 22 bytes, a label, a plan and a set. The head's first nine numbers have 16 bits, high byte first: n, T,
+// g, the source, the destination, the length of the plan, the length of the label, a mark, the length of the set. A number of
+// 32 bits follows: the lent entries of the work area, which all hold the mark before the call.
 //
 // For each case a line: the label, a colon, a space, the number of the answer and the count, 0 where it refuses; then, behind
 // " |", the work area after the call. A run of one value is written " i: x" or " i .. j: x"; entries of 0 are left out.
@@ -24,20 +24,21 @@ fn write_answer(answer: SetAnswer) {
 
 // Calls the operation on the lent parts, and writes its answer.
 fn run_set(head: &[u8], plan: &[u8], set: &[u8], work: &mut [u64]) {
-    cases::mark64(work, cases::word(head, 12) as u64);
+    cases::mark64(work, cases::word(head, 14) as u64);
     let n = cases::word(head, 0);
     let t = cases::word(head, 2);
-    let s = cases::word(head, 4);
-    let z = cases::word(head, 6);
-    write_answer(sets::through_set(plan, n, t, s, z, set, work));
+    let g = cases::word(head, 4);
+    let s = cases::word(head, 6);
+    let z = cases::word(head, 8);
+    write_answer(sets::through_set(plan, n, t, g, s, z, set, work));
     cases::write64(work);
 }
 
 // Lends what the head names, and runs the case.
 fn run_named(head: &[u8], plan: &[u8], set: &[u8], work: &mut [u64]) {
-    let size = cases::least(cases::word(head, 8), plan.len());
-    let members = cases::least(cases::word(head, 14), set.len());
-    let area = cases::lent(head, 16, work.len());
+    let size = cases::least(cases::word(head, 10), plan.len());
+    let members = cases::least(cases::word(head, 16), set.len());
+    let area = cases::lent(head, 18, work.len());
     run_set(head, &plan[..size], &set[..members], &mut work[..area]);
 }
 
@@ -49,13 +50,13 @@ fn run_case(
     set: &mut [u8],
     work: &mut [u64],
 ) -> bool {
-    if !cases::read_case(head, label, plan, 10, 8) {
+    if !cases::read_case(head, label, plan, 12, 10) {
         return false;
     }
-    if !cases::read_part(set, cases::word(head, 14)) {
+    if !cases::read_part(set, cases::word(head, 16)) {
         return false;
     }
-    cases::write_part(label, cases::word(head, 10));
+    cases::write_part(label, cases::word(head, 12));
     cases::write_part(b":", 1);
     run_named(head, plan, set, work);
     cases::end_line();
@@ -63,7 +64,7 @@ fn run_case(
 }
 
 fn main() {
-    let mut head = [0u8; 20];
+    let mut head = [0u8; 22];
     let mut label = [0u8; 80];
     let mut plan = [0u8; 49200];
     let mut set = [0u8; 320];

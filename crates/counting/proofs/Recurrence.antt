@@ -1,25 +1,24 @@
 -- The recurrence by the last leg: how many walks reach an appearance over each contact, and how many reach a station in
 -- the slots that a contact may follow. All from the start of a source s, under a permission g.
 -- Assumes nothing.
-use Prim.Native.Nat.{ℕ, zero, suc, _+_, _≤_, _<_}
+use Prim.Native.Nat.{ℕ, zero, suc, _+_, _-_, _≤_, _<_}
 use mathlib.Core.Path.{_≡_, refl, sym, ap, _∙_, fun-ext}
 use mathlib.Core.Bool.{Bool, true, false, cond, _&&_, _||_, and-eq-true-iff, and-false, and-true}
 use mathlib.Core.List.{map}
 use mathlib.Core.Logic.{_≢_, by-cases}
 use mathlib.Core.Option.{Option, none, some}
 use native.Mathlib.Omega.{arith}
-use native.Mathlib.Numerals.{add-one}
 use native.Mathlib.Decide.{ℕ-discrete}
-use borrow.Author.Tests.{eqb-true, eqb-false, eq-eqb, ne-eqb}
-use lib.Dec.{eqb}
+use borrow.Author.Tests.{eqb-true, eqb-false, eq-eqb, ne-eqb, leb-true, leb-false, le-leb, lt-leb}
+use lib.Dec.{leb, eqb}
 use lib.ListN.{length, getElem?}
 use Rattle.temporal.specs.Lists.{below, sum}
 use Rattle.temporal.specs.Plan.{Contact, Plan, Appearance, start, mayFollow}
 use Rattle.temporal.specs.Walk.{step, isAppearance, isAt}
 use Rattle.temporal.specs.Foremost.{arrivesBy}
-use Rattle.temporal.proofs.ListLaws.{not-both, not-true-false, mem-below, sum-ext, sum-zero}
+use Rattle.temporal.proofs.ListLaws.{not-both, mem-below, sum-ext, sum-zero}
 use Rattle.temporal.proofs.RuleLaws.{comesFrom, leads-comes, comes-to-hearer, comes-none}
-use Rattle.temporal.proofs.RuleLaws.{follows-later, follows-settled, follows-after, follows-by}
+use Rattle.temporal.proofs.RuleLaws.{Waits}
 use Rattle.temporal.proofs.WalkLaws.{StepBy, step-inv, step-intro, step-later, SlotsWithin}
 use Rattle.counting.proofs.SumLaws.{sum-less, sum-below-suc}
 use Rattle.counting.proofs.Weights.{worth, behind, total, positions, cond-zero, cond-less, worth-zero}
@@ -34,6 +33,10 @@ atAppearance v t y = cond (isAppearance v t y) 1 0
 -- 1 at the appearances of station v that a contact in slot u may follow
 unfoldable pub before : Plan → ℕ → ℕ → Appearance → ℕ
 before p v u y = cond (isAt v y && mayFollow p (y .slot) u) 1 0
+
+-- 1 at the appearances of station v by slot e
+abbrev pub heard : ℕ → ℕ → Appearance → ℕ
+heard v e y = cond (arrivesBy v e y) 1 0
 
 -- the walks to the appearance (w, u) that end with contact c, by their hops
 unfoldable pub inflow : Plan → ℕ → (ℕ → Bool) → Contact → ℕ → ℕ → ℕ → ℕ
@@ -201,27 +204,6 @@ module _ (p : Plan) (s : ℕ) (g : ℕ → Bool) where
       last-leg p g (start s) (atAppearance w u) k
       ∙ sum-ext (positions p) (λ i m. by-position w u k i (getElem? (p .contacts) i) refl)
 
-  -- a contact in slot 0 may follow no walk
-  pub before-zero : (v k : ℕ) → total p g (start s) (before p v 0) k ≡ 0
-  unfolding before
-  before-zero v k = total-none p g (λ y. rw (none-before (y .slot), and-false (isAt v y))) (start s) k
-    where
-      none-before : (t : ℕ) → mayFollow p t 0 ≡ false
-      none-before t = not-true-false (mayFollow p t 0) (λ q. let h = follows-later p t 0 q in omega arith)
-
-  -- (turnaround) the walks to v that slot u + 1 may follow are those that slot u may follow, and those to (v, u)
-  pub settle : (v u k : ℕ)
-      → total p g (start s) (before p v (suc u)) k
-      ≡ total p g (start s) (before p v u) k + total p g (start s) (atAppearance v u) k
-  unfolding before atAppearance
-  settle v u k =
-      total-ext p g (λ y.
-      rw follows-settled (one-of-two (isAt v y) (mayFollow p (y .slot) u) (eqb (y .slot) u) (λ q r.
-      let later = follows-later p (y .slot) u q in
-      let same = eqb-true (y .slot) u r in
-      omega arith)))
-      (start s) k ∙ total-add p g (before p v u) (atAppearance v u) (start s) k
-
   -- the empty walk ends in the source's start
   pub start-here : total p g (start s) (atAppearance s 0) 0 ≡ 1
   unfolding atAppearance
@@ -242,21 +224,60 @@ module _ (p : Plan) (s : ℕ) (g : ℕ → Bool) where
   start-other v zero n = total-zero p g (start s) (atAppearance v 0) ∙ rw (ne-eqb s v (λ e. n (sym e)))
   start-other v (suc k) n = start-later v k
 
-  -- (turnaround) the walks to station v by slot e are those that the slot past e may follow
-  pub station-by : (v e k : ℕ)
-      → total p g (start s) (λ y. cond (arrivesBy v e y) 1 0) k ≡ total p g (start s) (before p v (e + 1)) k
-  unfolding before arrivesBy
-  station-by v e k = total-ext p g (λ y. rw (add-one, follows-by p (y .slot) e)) (start s) k
+  -- ---- the walks to a station by a slot
 
-  -- (turnaround) the walks to station v are those that the slot past the plan's last may follow
-  pub whole-station : SlotsWithin p → (v k : ℕ)
-      → total p g (start s) (λ y. cond (isAt v y) 1 0) k ≡ total p g (start s) (before p v (p .slots + 1)) k
-  unfolding before
-  whole-station fits v k =
+  -- by slot 0 there is the start
+  pub heard-zero : (v k : ℕ) → total p g (start s) (heard v 0) k ≡ total p g (start s) (atAppearance v 0) k
+  unfolding arrivesBy atAppearance
+  heard-zero v k = total-ext p g (λ y. ap (λ b. cond (isAt v y && b) 1 0) (at-zero (y .slot))) (start s) k
+    where
+      at-zero : (t : ℕ) → leb t 0 ≡ eqb t 0
+      at-zero t = go (eqb t 0) refl
+        where
+          go : (b : Bool) → eqb t 0 ≡ b → leb t 0 ≡ b
+          go true q = let here = eqb-true t 0 q in le-leb t 0 (omega arith)
+          go false q = let other : t ≡ 0 → ⊥ = eqb-false t 0 q in lt-leb t 0 (omega arith)
+
+  -- by one slot more there are those of that slot besides
+  pub heard-more : (v e k : ℕ)
+      → total p g (start s) (heard v (suc e)) k
+      ≡ total p g (start s) (heard v e) k + total p g (start s) (atAppearance v (suc e)) k
+  unfolding arrivesBy atAppearance
+  heard-more v e k =
+      total-ext p g (λ y. ap (λ b. cond (isAt v y && b) 1 0) (by-more (y .slot))
+      ∙ one-of-two (isAt v y) (leb (y .slot) e) (eqb (y .slot) (suc e)) (λ q r.
+      let by = leb-true (y .slot) e q in
+      let same = eqb-true (y .slot) (suc e) r in
+      omega arith))
+      (start s) k ∙ total-add p g (heard v e) (atAppearance v (suc e)) (start s) k
+    where
+      by-more : (t : ℕ) → leb t (suc e) ≡ (leb t e || eqb t (suc e))
+      by-more t = go (leb t e) refl (eqb t (suc e)) refl
+        where
+          go : (b : Bool) → leb t e ≡ b → (c : Bool) → eqb t (suc e) ≡ c → leb t (suc e) ≡ (b || c)
+          go true q c r = let by = leb-true t e q in le-leb t (suc e) (omega arith)
+          go false q true r = let same = eqb-true t (suc e) r in le-leb t (suc e) (omega arith)
+          go false q false r =
+              let past = leb-false t e q in
+              let other : t ≡ suc e → ⊥ = eqb-false t (suc e) r in
+              lt-leb t (suc e) (omega arith)
+
+  -- (kept) in a slot of the plan they may go on that were there q slots before
+  pub heard-ready : (q : ℕ) → Waits p q → (v u k : ℕ) → 0 < u → u ≤ p .slots
+      → total p g (start s) (before p v u) k ≡ total p g (start s) (heard v (u - q)) k
+  unfolding before arrivesBy
+  heard-ready q w v u k low high =
+      total-ext p g (λ y. ap (λ b. cond (isAt v y && b) 1 0) (w .follows (y .slot) u low high)) (start s) k
+
+  -- by the last slot there are all
+  pub heard-all : SlotsWithin p → (v k : ℕ)
+      → total p g (start s) (λ y. cond (isAt v y) 1 0) k ≡ total p g (start s) (heard v (p .slots)) k
+  unfolding arrivesBy
+  heard-all fits v k =
       total-ext-along p g (λ y. y .slot ≤ p .slots)
       (λ x i y h steps. let b = step-inv p x i steps in
       let within = fits .within i (b .contact) (b .at-position) in omega arith)
-      (λ y h. rw (add-one, follows-after p (y .slot) (p .slots) h, and-true (isAt v y))) (start s) k (omega arith)
+      (λ y h. rw (le-leb (y .slot) (p .slots) h, and-true (isAt v y))) (start s) k (omega arith)
 
 module _ (p : Plan) (s : ℕ) (g g′ : ℕ → Bool) (wider : (v : ℕ) → g v ≡ true → g′ v ≡ true) where
   -- under a wider permission a contact brings no less

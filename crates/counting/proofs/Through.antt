@@ -11,7 +11,7 @@ use borrow.Author.Tests.{eqb-true, eq-eqb, ne-eqb}
 use lib.Dec.{eqb}
 use lib.ListN.{length, getElem?}
 use Rattle.temporal.specs.Lists.{below, any, member, distinct, select, tuples}
-use Rattle.temporal.specs.Plan.{Contact, Plan, Appearance, start}
+use Rattle.temporal.specs.Plan.{Contact, Plan, Terms, Appearance, start}
 use Rattle.temporal.specs.Walk.{run, lastOr, stationsOf, holds, endsIn, isPath, isInterior}
 use Rattle.temporal.specs.Definition3.{startingPoints}
 use Rattle.temporal.specs.Shortest.{ofHops, shortest, hops, count}
@@ -192,18 +192,18 @@ module _ (p : Plan) (within : (i : ℕ) (c : Contact) → getElem? (p .contacts)
           ∙ sum-ext all (λ w i. one-or-other m w (is-path w i))
           ∙ sym (ap length listed ∙ length-select (endsIn p (start s) t) all)
 
-module _ (bs : List ℕ) (n t : ℕ) (ok : planFault bs n t ≡ 0) where
+module _ (bs : List ℕ) (n t : ℕ) (terms : Terms) (ok : planFault bs n t ≡ 0) where
   -- (kept) In an accepted plan, for every s, z and slot e and every set, the shortest walks from s that reach z by slot e and
   -- have a member inside and those that never go on from one are together all.
   pub touched-avoiding : (s z e : ℕ) (m : ℕ → Bool)
-      → touchedIn (planOf bs n t) s z (walksBy (planOf bs n t) s z e) m
-      + total (planOf bs n t) (avoidingSet s m) (start s) (λ y. cond (arrivesBy z e y) 1 0)
-      (hops (walksBy (planOf bs n t) s z e))
-      ≡ count (walksBy (planOf bs n t) s z e)
+      → touchedIn (planOf bs n t terms) s z (walksBy (planOf bs n t terms) s z e) m
+      + total (planOf bs n t terms) (avoidingSet s m) (start s) (λ y. cond (arrivesBy z e y) 1 0)
+      (hops (walksBy (planOf bs n t terms) s z e))
+      ≡ count (walksBy (planOf bs n t terms) s z e)
   unfolding planOf walksBy
   touched-avoiding s z e m =
-      touched-or-avoiding (planOf bs n t) (λ i c there. contact-within bs n t ok i c there .hearer-station) s z (arrivesBy z e)
-      (slots-within bs n t ok) (walks-by-are-paths (planOf bs n t) (slots-within bs n t ok) s z e) m
+      touched-or-avoiding (planOf bs n t terms) (λ i c there. contact-within bs n t terms ok i c there .hearer-station) s z (arrivesBy z e)
+      (slots-within bs n t terms ok) (walks-by-are-paths (planOf bs n t terms) (slots-within bs n t terms ok) s z e) m
 
 -- ---- sets that touch the same paths
 

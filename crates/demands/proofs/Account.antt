@@ -9,6 +9,7 @@ use mathlib.Core.Logic.{_≢_}
 use borrow.Author.Tests.{eqb-false}
 use lib.Dec.{eqb}
 use lib.ListN.{take}
+use Rattle.temporal.specs.Plan.{Terms}
 use Rattle.temporal.specs.Lists.{below, sum}
 use Rattle.temporal.specs.Shortest.{through}
 use Rattle.temporal.specs.Bytes.{planOf}
@@ -31,50 +32,50 @@ first-entries f n old = ap sum (take-over (map f (below n)) old n (length-made f
 
 -- a call for a pair without a cause: the plan is accepted, and the two stations are different
 without-cause :
-    (bs : List ℕ) (n t s z : ℕ) (short : Bool) → first (planCauses bs n t ++ pairCauses n s z short) ≡ 0 →
+    (bs : List ℕ) (n t : ℕ) (terms : Terms) (s z : ℕ) (short : Bool) → first (planCauses bs n t ++ pairCauses terms n s z short) ≡ 0 →
     (planFault bs n t ≡ 0) × (s ≢ z)
 unfolding planFault pairCauses
-without-cause bs n t s z short none =
+without-cause bs n t terms s z short none =
     let call = first-append-right (planCauses bs n t) _ none in
-    (first-append-left (planCauses bs n t) _ none, eqb-false s z (first-head 6 (eqb s z) _ (first-tail 5 _ _ call)))
+    (first-append-left (planCauses bs n t) _ none, eqb-false s z (first-head 6 (eqb s z) _ (first-tail 5 _ _ (first-tail 11 _ _ call))))
 
 -- pair, of its contract's own equation where the number is 0
 pair-accounted :
-    (bs : List ℕ) (n t s z : ℕ) (old b : PairBuffers) (x : PairValues) →
-    _≡_ {A = Outcome PairValues PairBuffers} (record { number = 0; values = x; buffers = b }) (pair bs n t s z old) →
+    (bs : List ℕ) (n t : ℕ) (terms : Terms) (s z : ℕ) (old b : PairBuffers) (x : PairValues) →
+    _≡_ {A = Outcome PairValues PairBuffers} (record { number = 0; values = x; buffers = b }) (pair bs n t terms s z old) →
     sum (take n (b .throughTable)) ≡ x .count * (x .hops - 1)
 unfolding pair
-pair-accounted bs n t s z old b x e =
-    let (ok, other) = without-cause bs n t s z _ (no-first _ _ x old b (paired (planOf bs n t) s z old) e) in
-    let (values, table) = pair-stored bs n t s z ok old b x (no-cause _ _ x old b (paired (planOf bs n t) s z old) e) in
+pair-accounted bs n t terms s z old b x e =
+    let (ok, other) = without-cause bs n t terms s z _ (no-first _ _ x old b (paired (planOf bs n t terms) s z old) e) in
+    let (values, table) = pair-stored bs n t terms s z ok old b x (no-cause _ _ x old b (paired (planOf bs n t terms) s z old) e) in
     rw (values, table)
-    (first-entries (through (planOf bs n t) s z) n (old .throughTable) ∙ shortest-accounted bs n t ok s z other)
+    (first-entries (through (planOf bs n t terms) s z) n (old .throughTable) ∙ shortest-accounted bs n t terms ok s z other)
 
 -- (kept) the operation on shortest foremost paths, likewise
 foremost-paths-accounted :
-    (bs : List ℕ) (n t s z : ℕ) (old b : PairBuffers) (x : ForemostValues) →
-    _≡_ {A = Outcome ForemostValues PairBuffers} (record { number = 0; values = x; buffers = b }) (foremost bs n t s z old) →
+    (bs : List ℕ) (n t : ℕ) (terms : Terms) (s z : ℕ) (old b : PairBuffers) (x : ForemostValues) →
+    _≡_ {A = Outcome ForemostValues PairBuffers} (record { number = 0; values = x; buffers = b }) (foremost bs n t terms s z old) →
     sum (take n (b .throughTable)) ≡ x .count * (x .hops - 1)
 unfolding foremost
-foremost-paths-accounted bs n t s z old b x e =
-    let (ok, other) = without-cause bs n t s z _ (no-first _ _ x old b (foremostPaired (planOf bs n t) s z old) e) in
-    let (values, table) = foremost-stored bs n t s z ok old b x (no-cause _ _ x old b (foremostPaired (planOf bs n t) s z old) e) in
+foremost-paths-accounted bs n t terms s z old b x e =
+    let (ok, other) = without-cause bs n t terms s z _ (no-first _ _ x old b (foremostPaired (planOf bs n t terms) s z old) e) in
+    let (values, table) = foremost-stored bs n t terms s z ok old b x (no-cause _ _ x old b (foremostPaired (planOf bs n t terms) s z old) e) in
     rw (values, table)
-    (first-entries (foremostThrough (planOf bs n t) s z) n (old .throughTable) ∙ foremost-accounted bs n t ok s z other)
+    (first-entries (foremostThrough (planOf bs n t terms) s z) n (old .throughTable) ∙ foremost-accounted bs n t terms ok s z other)
 
 -- (kept) C-15.
 pub account-demand : AccountDemand
 unfolding through foremostThrough planOf
 account-demand =
     record {
-      of-shortest = λ bs n t s z ok other. record {
-        inside = shortest-interior bs n t ok s z other;
-        total = shortest-accounted bs n t ok s z other;
+      of-shortest = λ bs n t terms s z ok other. record {
+        inside = shortest-interior bs n t terms ok s z other;
+        total = shortest-accounted bs n t terms ok s z other;
       };
-      of-shortest-foremost = λ bs n t s z ok other. record {
-        inside = foremost-interior bs n t ok s z other;
-        total = foremost-accounted bs n t ok s z other;
+      of-shortest-foremost = λ bs n t terms s z ok other. record {
+        inside = foremost-interior bs n t terms ok s z other;
+        total = foremost-accounted bs n t terms ok s z other;
       };
-      of-pair = λ bs n t s z old new r e q. pair-accounted bs n t s z old new _ (rw q at e);
-      of-foremost = λ bs n t s z old new r e q. foremost-paths-accounted bs n t s z old new _ (rw q at e);
+      of-pair = λ bs n t terms s z old new r e q. pair-accounted bs n t terms s z old new _ (rw q at e);
+      of-foremost = λ bs n t terms s z old new r e q. foremost-paths-accounted bs n t terms s z old new _ (rw q at e);
     }

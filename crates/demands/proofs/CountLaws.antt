@@ -6,6 +6,7 @@ use mathlib.Core.Path.{_≡_, refl, sym, ap, subst, _∙_}
 use mathlib.Core.Logic.{⊎-elim}
 use mathlib.Core.List.{List}
 use lib.ListN.{getD}
+use Rattle.temporal.specs.Plan.{Terms}
 use Rattle.temporal.specs.Shortest.{hops, through}
 use Rattle.temporal.specs.Load.{pairs, load, busiestOf, Busiest}
 use Rattle.temporal.specs.Bytes.{planOf}
@@ -29,7 +30,7 @@ module _ (q : Question) (old : PairBuffers) (r : PairAnswer) (new : PairBuffers)
   -- pair's work without cause 9 counts the complete list
   pair-counted :
       _≡_ {A = Outcome PairValues PairBuffers} (record { number = 0; values = pairValues r; buffers = new })
-      (paired (planOf (q .bytes) (q .stations) (q .slots)) (q .source) (q .destination) old) →
+      (paired (planOf (q .bytes) (q .stations) (q .slots) (q .terms)) (q .source) (q .destination) old) →
       CountedByPair q (listOf q) r new × (pairValues r .hops ≡ hops (listOf q))
   unfolding paired through planOf listOf
   pair-counted e =
@@ -41,13 +42,13 @@ module _ (q : Question) (old : PairBuffers) (r : PairAnswer) (new : PairBuffers)
           count = ap (λ o. o .values .count) (sym here);
           through = λ v h.
               sym
-              (written (through (planOf (q .bytes) (q .stations) (q .slots)) (q .source) (q .destination)) (q .stations) v
+              (written (through (planOf (q .bytes) (q .stations) (q .slots) (q .terms)) (q .source) (q .destination)) (q .stations) v
               (old .throughTable) h) ∙
               ap (λ o. getD (o .buffers .throughTable) v 0) (sym here);
         },
         ap (λ o. o .values .hops) here,
       ))
-      (true-or-false (tooMany (planOf (q .bytes) (q .stations) (q .slots)) (q .source)))
+      (true-or-false (tooMany (planOf (q .bytes) (q .stations) (q .slots) (q .terms)) (q .source)))
 
 -- Pair: where it is accepted, its work was done.
 pub pair-demand : PairDemand
@@ -55,12 +56,12 @@ unfolding pair
 pair-demand q old r new a =
     pair-counted q old r new (no-cause _ _ (pairValues r) old new _ (rw (a .accepted) at (a .contract)))
 
-module _ (bs : List ℕ) (n t : ℕ) (old new : LoadBuffers) where
+module _ (bs : List ℕ) (n t : ℕ) (terms : Terms) (old new : LoadBuffers) where
   -- loads' work without cause 9 leaves each station's pairs and load
   loads-summed :
       _≡_ {A = Outcome (Unit {0}) LoadBuffers} (record { number = 0; values = tt; buffers = new })
-      (loaded (planOf bs n t) old) →
-      (v : ℕ) → v < n → Loaded bs n t new v
+      (loaded (planOf bs n t terms) old) →
+      (v : ℕ) → v < n → Loaded bs n t terms new v
   unfolding loaded planOf
   loads-summed e v h =
       ⊎-elim
@@ -68,37 +69,37 @@ module _ (bs : List ℕ) (n t : ℕ) (old new : LoadBuffers) where
       (λ few.
       let here = rw few at e in
       record {
-        pairs-of = ap (λ o. getD (o .buffers .pairsTable) v 0) here ∙ written (pairs (planOf bs n t)) n v (old .pairsTable) h;
-        load-of = ap (λ o. getD (o .buffers .loadTable) v 0) here ∙ written (load (planOf bs n t)) n v (old .loadTable) h;
-        near = within-exact-sum (planOf bs n t) v;
+        pairs-of = ap (λ o. getD (o .buffers .pairsTable) v 0) here ∙ written (pairs (planOf bs n t terms)) n v (old .pairsTable) h;
+        load-of = ap (λ o. getD (o .buffers .loadTable) v 0) here ∙ written (load (planOf bs n t terms)) n v (old .loadTable) h;
+        near = within-exact-sum (planOf bs n t terms) v;
       })
-      (true-or-false (tooManyAnywhere (planOf bs n t)))
+      (true-or-false (tooManyAnywhere (planOf bs n t terms)))
 
 -- Loads: where it is accepted, its work was done.
 pub loads-demand : LoadsDemand
 unfolding loads
-loads-demand bs n t old r new a =
-    loads-summed bs n t old new (no-cause _ tt tt old new _ (rw (a .accepted) at (a .contract)))
+loads-demand bs n t terms old r new a =
+    loads-summed bs n t terms old new (no-cause _ tt tt old new _ (rw (a .accepted) at (a .contract)))
 
-module _ (bs : List ℕ) (n t : ℕ) (old new : List ℕ) (v : ℕ) where
+module _ (bs : List ℕ) (n t : ℕ) (terms : Terms) (old new : List ℕ) (v : ℕ) where
   -- busiest's work without cause 9 gives the busiest station
   station-compared :
-      _≡_ {A = Outcome ℕ (List ℕ)} (record { number = 0; values = v; buffers = new }) (compared (planOf bs n t) old) →
-      v ≡ busiestOf (planOf bs n t)
+      _≡_ {A = Outcome ℕ (List ℕ)} (record { number = 0; values = v; buffers = new }) (compared (planOf bs n t terms) old) →
+      v ≡ busiestOf (planOf bs n t terms)
   unfolding compared
   station-compared e =
       ⊎-elim
       (λ many. absurd (let z : _≡_ {A = ℕ} 0 9 = ap (λ o. o .number) (rw many at e) in omega arith))
       (λ few. ap (λ o. o .values) (rw few at e))
-      (true-or-false (tooManyAnywhere (planOf bs n t)))
+      (true-or-false (tooManyAnywhere (planOf bs n t terms)))
 
 -- Busiest: where it is accepted, its work was done, and an accepted plan has a station.
 pub busiest-demand : BusiestDemand
 unfolding busiest planFault planOf
-busiest-demand bs n t old new r e z =
+busiest-demand bs n t terms old new r e z =
     let here = rw z at e in
     let ok : planFault bs n t ≡ 0 =
     first-append-left (planCauses bs n t) _ (no-first _ 0 (busiestStation r) old new _ here) in
-    subst (λ v. Busiest (planOf bs n t) v)
-    (sym (station-compared bs n t old new (busiestStation r) (no-cause _ 0 (busiestStation r) old new _ here)))
-    (busiest-is (planOf bs n t) (accepted bs n t ok .some-station))
+    subst (λ v. Busiest (planOf bs n t terms) v)
+    (sym (station-compared bs n t terms old new (busiestStation r) (no-cause _ 0 (busiestStation r) old new _ here)))
+    (busiest-is (planOf bs n t terms) (accepted bs n t ok .some-station))

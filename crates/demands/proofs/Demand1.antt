@@ -7,6 +7,7 @@ use mathlib.Core.Bool.{Bool, true, false}
 use mathlib.Core.List.{List, [], _∷_, append-assoc}
 use mathlib.Core.Logic.{_↔_, _≢_}
 use lib.ListN.{length, take, drop, length-take, length-drop}
+use Rattle.temporal.specs.Plan.{Terms}
 use Rattle.temporal.specs.Bytes.{planOf}
 use Rattle.temporal.specs.Cause.{cause, first, planFault, planCauses, appearanceTooMany, tooMany, tooManyAnywhere}
 use Rattle.temporal.specs.Outcome.{cleared, workSize, ReachTables, reached, reach, rowNumber, row}
@@ -70,12 +71,12 @@ check-judged bs n t r e =
 
 -- ---- reach and row
 
-reach-judged : (bs : List ℕ) (n t s : ℕ) (old : ReachTables)
-    → Judged (reachCauses bs n t s old) tt old (reachEmptied n t old) (reach bs n t s old)
+reach-judged : (bs : List ℕ) (n t : ℕ) (terms : Terms) (s : ℕ) (old : ReachTables)
+    → Judged (reachCauses bs n t terms s old) tt old (reachEmptied n t old) (reach bs n t terms s old)
 unfolding reach reached reachCauses reachEmptied planOf
-reach-judged bs n t s old =
-    judged-entered tt old (reachEmptied n t old) _ _ _ (plain-station bs n t _ s)
-    (judged-work tt old (reachEmptied n t old) (tooMany (planOf bs n t) s) _ refl)
+reach-judged bs n t terms s old =
+    judged-entered tt old (reachEmptied n t old) _ _ _ (plain-station bs n t terms _ s)
+    (judged-work tt old (reachEmptied n t old) (tooMany (planOf bs n t terms) s) _ refl)
 
 row-judged : (n t v : ℕ) (table part : List ℕ) (k : ℕ) → k ≡ rowNumber n t v table → part ≡ row n t v table
     → RowJudged n t v table k part
@@ -101,45 +102,45 @@ row-judged n t v table part k number is-row =
 
 -- ---- pair, loads and busiest
 
-pair-judged : (bs : List ℕ) (n t s z : ℕ) (old : PairBuffers)
-    → Judged (pairAllCauses bs n t s z old) (record { hops = 0; count = 0 }) old (pairEmptied n t old) (pair bs n t s z old)
+pair-judged : (bs : List ℕ) (n t : ℕ) (terms : Terms) (s z : ℕ) (old : PairBuffers)
+    → Judged (pairAllCauses bs n t terms s z old) (record { hops = 0; count = 0 }) old (pairEmptied n t old) (pair bs n t terms s z old)
 unfolding pair paired pairAllCauses pairEmptied planOf
-pair-judged bs n t s z old =
-    judged-entered (record { hops = 0; count = 0 }) old (pairEmptied n t old) _ _ _ (plain-pair bs n t _ s z)
-    (judged-work (record { hops = 0; count = 0 }) old (pairEmptied n t old) (tooMany (planOf bs n t) s) _ refl)
+pair-judged bs n t terms s z old =
+    judged-entered (record { hops = 0; count = 0 }) old (pairEmptied n t old) _ _ _ (plain-pair bs n t terms _ s z)
+    (judged-work (record { hops = 0; count = 0 }) old (pairEmptied n t old) (tooMany (planOf bs n t terms) s) _ refl)
 
-loads-judged : (bs : List ℕ) (n t : ℕ) (old : LoadBuffers)
-    → Judged (loadsCauses bs n t old) tt old (loadsEmptied n t old) (loads bs n t old)
+loads-judged : (bs : List ℕ) (n t : ℕ) (terms : Terms) (old : LoadBuffers)
+    → Judged (loadsCauses bs n t terms old) tt old (loadsEmptied n t old) (loads bs n t terms old)
 unfolding loads loaded loadsCauses loadsEmptied planOf
-loads-judged bs n t old =
-    subst (λ l. Judged l tt old (loadsEmptied n t old) (loads bs n t old))
-    (append-assoc (planCauses bs n t) (_ ∷ []) (_ ∷ []))
-    (judged-entered tt old (loadsEmptied n t old) _ _ _ (plain-short bs n t _)
-    (judged-work tt old (loadsEmptied n t old) (tooManyAnywhere (planOf bs n t)) _ refl))
+loads-judged bs n t terms old =
+    subst (λ l. Judged l tt old (loadsEmptied n t old) (loads bs n t terms old))
+    (append-assoc (planCauses bs n t) (_ ∷ _ ∷ []) (_ ∷ []))
+    (judged-entered tt old (loadsEmptied n t old) _ _ _ (plain-short bs n t terms _)
+    (judged-work tt old (loadsEmptied n t old) (tooManyAnywhere (planOf bs n t terms)) _ refl))
 
-busiest-judged : (bs : List ℕ) (n t : ℕ) (old : List ℕ)
-    → Judged (busiestCauses bs n t old) 0 old (cleared (workSize n t) old) (busiest bs n t old)
+busiest-judged : (bs : List ℕ) (n t : ℕ) (terms : Terms) (old : List ℕ)
+    → Judged (busiestCauses bs n t terms old) 0 old (cleared (workSize n t) old) (busiest bs n t terms old)
 unfolding busiest compared busiestCauses planOf
-busiest-judged bs n t old =
-    subst (λ l. Judged l 0 old (cleared (workSize n t) old) (busiest bs n t old))
-    (append-assoc (planCauses bs n t) (_ ∷ []) (_ ∷ []))
-    (judged-entered 0 old (cleared (workSize n t) old) _ _ _ (plain-short bs n t _)
-    (judged-work 0 old (cleared (workSize n t) old) (tooManyAnywhere (planOf bs n t)) _ refl))
+busiest-judged bs n t terms old =
+    subst (λ l. Judged l 0 old (cleared (workSize n t) old) (busiest bs n t terms old))
+    (append-assoc (planCauses bs n t) (_ ∷ _ ∷ []) (_ ∷ []))
+    (judged-entered 0 old (cleared (workSize n t) old) _ _ _ (plain-short bs n t terms _)
+    (judged-work 0 old (cleared (workSize n t) old) (tooManyAnywhere (planOf bs n t terms)) _ refl))
 
-set-judged : (bs : List ℕ) (n t s z : ℕ) (set old : List ℕ)
-    → Judged (throughSetCauses bs n t s z set old) 0 old (cleared (workSize n t) old) (throughSet bs n t s z set old)
+set-judged : (bs : List ℕ) (n t : ℕ) (terms : Terms) (s z : ℕ) (set old : List ℕ)
+    → Judged (throughSetCauses bs n t terms s z set old) 0 old (cleared (workSize n t) old) (throughSet bs n t terms s z set old)
 unfolding throughSet setCounted throughSetCauses planOf
-set-judged bs n t s z set old =
-    judged-entered 0 old (cleared (workSize n t) old) _ _ _ (plain-set bs n t s z set old)
-    (judged-work 0 old (cleared (workSize n t) old) (tooMany (planOf bs n t) s) _ refl)
+set-judged bs n t terms s z set old =
+    judged-entered 0 old (cleared (workSize n t) old) _ _ _ (plain-set bs n t terms s z set old)
+    (judged-work 0 old (cleared (workSize n t) old) (tooMany (planOf bs n t terms) s) _ refl)
 
-foremost-judged : (bs : List ℕ) (n t s z : ℕ) (old : PairBuffers)
-    → Judged (foremostCauses bs n t s z old) (record { slot = 0; hops = 0; count = 0 }) old (pairEmptied n t old)
-    (foremost bs n t s z old)
+foremost-judged : (bs : List ℕ) (n t : ℕ) (terms : Terms) (s z : ℕ) (old : PairBuffers)
+    → Judged (foremostCauses bs n t terms s z old) (record { slot = 0; hops = 0; count = 0 }) old (pairEmptied n t old)
+    (foremost bs n t terms s z old)
 unfolding foremost foremostPaired foremostCauses pairEmptied planOf
-foremost-judged bs n t s z old =
-    judged-entered (record { slot = 0; hops = 0; count = 0 }) old (pairEmptied n t old) _ _ _ (plain-pair bs n t _ s z)
-    (judged-work (record { slot = 0; hops = 0; count = 0 }) old (pairEmptied n t old) (appearanceTooMany (planOf bs n t) s) _ refl)
+foremost-judged bs n t terms s z old =
+    judged-entered (record { slot = 0; hops = 0; count = 0 }) old (pairEmptied n t old) _ _ _ (plain-pair bs n t terms _ s z)
+    (judged-work (record { slot = 0; hops = 0; count = 0 }) old (pairEmptied n t old) (appearanceTooMany (planOf bs n t terms) s) _ refl)
 
 -- ---- the theorem
 
@@ -148,27 +149,27 @@ demand1 =
     record {
       limits = within-limits;
       of-check = check-judged;
-      of-reach = λ bs n t s old x r e.
-          subst (Judged (reachCauses bs n t s old) tt old (reachEmptied n t old)) (sym e) (reach-judged bs n t s old);
+      of-reach = λ bs n t terms s old x r e.
+          subst (Judged (reachCauses bs n t terms s old) tt old (reachEmptied n t old)) (sym e) (reach-judged bs n t terms s old);
       of-row = λ n t v table part k e is. row-judged n t v (table .now) (part .now) k e (is .entries);
-      of-pair = λ bs n t s z old x r e.
-          subst (Judged (pairAllCauses bs n t s z old) (record { hops = 0; count = 0 }) old (pairEmptied n t old)) (sym e)
-          (pair-judged bs n t s z old);
-      of-loads = λ bs n t old x r e.
-          subst (Judged (loadsCauses bs n t old) tt old (loadsEmptied n t old)) (sym e) (loads-judged bs n t old);
-      of-busiest = λ bs n t old x r e.
-          subst (Judged (busiestCauses bs n t old) 0 old (cleared (workSize n t) old)) (sym e) (busiest-judged bs n t old);
-      of-set = λ bs n t s z set old x r e.
-          subst (Judged (throughSetCauses bs n t s z set old) 0 old (cleared (workSize n t) old)) (sym e)
-          (set-judged bs n t s z set old);
-      of-foremost = λ bs n t s z old x r e.
+      of-pair = λ bs n t terms s z old x r e.
+          subst (Judged (pairAllCauses bs n t terms s z old) (record { hops = 0; count = 0 }) old (pairEmptied n t old)) (sym e)
+          (pair-judged bs n t terms s z old);
+      of-loads = λ bs n t terms old x r e.
+          subst (Judged (loadsCauses bs n t terms old) tt old (loadsEmptied n t old)) (sym e) (loads-judged bs n t terms old);
+      of-busiest = λ bs n t terms old x r e.
+          subst (Judged (busiestCauses bs n t terms old) 0 old (cleared (workSize n t) old)) (sym e) (busiest-judged bs n t terms old);
+      of-set = λ bs n t terms s z set old x r e.
+          subst (Judged (throughSetCauses bs n t terms s z set old) 0 old (cleared (workSize n t) old)) (sym e)
+          (set-judged bs n t terms s z set old);
+      of-foremost = λ bs n t terms s z old x r e.
           subst
-          (Judged (foremostCauses bs n t s z old) (record { slot = 0; hops = 0; count = 0 }) old (pairEmptied n t old))
-          (sym e) (foremost-judged bs n t s z old);
-      of-first-way = λ bs n t s z old x r e.
-          subst (Judged (firstWayCauses (question bs n t s z) old) 0 old (wayEmptied n t old)) (sym (ap outcomeOf e))
-          (first-way-judged (question bs n t s z) old);
-      of-next-way = λ bs n t s z old x r e.
-          subst (Judged (nextWayCauses (question bs n t s z) old) 0 old (wayEmptied n t old)) (sym (ap outcomeOf e))
-          (next-way-judged (question bs n t s z) old);
+          (Judged (foremostCauses bs n t terms s z old) (record { slot = 0; hops = 0; count = 0 }) old (pairEmptied n t old))
+          (sym e) (foremost-judged bs n t terms s z old);
+      of-first-way = λ bs n t g s z old x r e.
+          subst (Judged (firstWayCauses (question bs n t g s z) old) 0 old (wayEmptied n t old)) (sym (ap outcomeOf e))
+          (first-way-judged (question bs n t g s z) old);
+      of-next-way = λ bs n t g s z old x r e.
+          subst (Judged (nextWayCauses (question bs n t g s z) old) 0 old (wayEmptied n t old)) (sym (ap outcomeOf e))
+          (next-way-judged (question bs n t g s z) old);
     }

@@ -10,6 +10,7 @@ use borrow.Author.Tests.{leb-false, eq-eqb}
 use lib.Arith.{digits-lt, digits-div, digits-mod}
 use lib.Dec.{leb}
 use lib.ListN.{length, getD}
+use Rattle.temporal.specs.Plan.{Terms}
 use Rattle.temporal.specs.Lists.{below, select}
 use Rattle.temporal.specs.Walk.{isWalk}
 use Rattle.temporal.specs.Shortest.{shortestWalks, shortestPaths, hops, count, through}
@@ -26,7 +27,7 @@ use Rattle.temporal.specs.Outcome.{
 }
 use Rattle.temporal.specs.OutcomePair.{PairValues, PairBuffers, paired, pair}
 use Rattle.temporal.proofs.Adequacy.{in-complete-list}
-use Rattle.temporal.proofs.CauseLaws.{first-append-left, first-append-right, first-head}
+use Rattle.temporal.proofs.CauseLaws.{first-append-left, first-append-right, first-head, first-tail}
 use Rattle.temporal.proofs.EnteredLaws.{no-first, no-cause}
 use Rattle.temporal.proofs.ListLaws.{true-or-false, select-ext}
 use Rattle.temporal.proofs.PathLaws.{path-self-empty, path-meets-definition3}
@@ -38,60 +39,60 @@ use Rattle.demands.proofs.BetweenLaws.{between-is-interior}
 
 -- ---- reach
 
-module _ (bs : List ℕ) (n t s : ℕ) (ok : planFault bs n t ≡ 0) (inside : s < n) (old x : ReachTables)
+module _ (bs : List ℕ) (n t : ℕ) (terms : Terms) (s : ℕ) (ok : planFault bs n t ≡ 0) (inside : s < n) (old x : ReachTables)
     (e : _≡_ {A = Outcome (Unit {0}) ReachTables} (record { number = 0; values = tt; buffers = x })
-    (reached (planOf bs n t) s old)) where
+    (reached (planOf bs n t terms) s old)) where
   -- what the four tables hold where 9 is no cause either
   tables :
       x ≡ record {
-        hopsTable = over (appearanceTable (planOf bs n t) s hops) (old .hopsTable);
-        countTable = over (appearanceTable (planOf bs n t) s count) (old .countTable);
-        stationHops = over (stationTable (planOf bs n t) s hops) (old .stationHops);
-        stationCounts = over (stationTable (planOf bs n t) s count) (old .stationCounts);
+        hopsTable = over (appearanceTable (planOf bs n t terms) s hops) (old .hopsTable);
+        countTable = over (appearanceTable (planOf bs n t terms) s count) (old .countTable);
+        stationHops = over (stationTable (planOf bs n t terms) s hops) (old .stationHops);
+        stationCounts = over (stationTable (planOf bs n t terms) s count) (old .stationCounts);
       }
   unfolding reached
   tables =
       ⊎-elim
       (λ many. absurd (let z : _≡_ {A = ℕ} 0 9 = ap (λ o. o .number) (rw many at e) in omega arith))
       (λ few. ap (λ o. o .buffers) (rw few at e))
-      (true-or-false (tooMany (planOf bs n t) s))
+      (true-or-false (tooMany (planOf bs n t terms) s))
 
   -- an entry of a station, and of an appearance
   station-entry :
       (f : List (List ℕ) → ℕ) (before : List ℕ) (v : ℕ) → v < n →
-      getD (over (stationTable (planOf bs n t) s f) before) v 0 ≡ f (shortestPaths (planOf bs n t) s v)
+      getD (over (stationTable (planOf bs n t terms) s f) before) v 0 ≡ f (shortestPaths (planOf bs n t terms) s v)
   unfolding stationTable planOf
   station-entry f before v h = written _ n v before h
 
   appearance-entry :
       (f : List (List ℕ) → ℕ) (before : List ℕ) (v u : ℕ) → v < n → u < t + 1 →
-      getD (over (appearanceTable (planOf bs n t) s f) before) (v * (t + 1) + u) 0 ≡
-      f (shortestWalks (planOf bs n t) s v u)
+      getD (over (appearanceTable (planOf bs n t terms) s f) before) (v * (t + 1) + u) 0 ≡
+      f (shortestWalks (planOf bs n t terms) s v u)
   unfolding appearanceTable planOf
   appearance-entry f before v u h k =
       written _ (n * (t + 1)) (v * (t + 1) + u) before (digits-lt h k) ∙
-      ap₂ (λ a b. f (shortestWalks (planOf bs n t) s a b)) (digits-div v k) (digits-mod v k)
+      ap₂ (λ a b. f (shortestWalks (planOf bs n t terms) s a b)) (digits-div v k) (digits-mod v k)
 
   -- (kept)
-  station : (v : ℕ) → v < n → StationList (planOf bs n t) s v (getD (x .stationHops) v 0) (getD (x .stationCounts) v 0)
+  station : (v : ℕ) → v < n → StationList (planOf bs n t terms) s v (getD (x .stationHops) v 0) (getD (x .stationCounts) v 0)
   station v h =
       rw (tables, station-entry hops (old .stationHops) v h, station-entry count (old .stationCounts) v h)
-      (station-listed bs n t ok s v)
+      (station-listed bs n t terms ok s v)
 
   appearance :
       (v u : ℕ) → v < n → u < t + 1 →
-      AppearanceList (planOf bs n t) s v u (getD (x .hopsTable) (v * (t + 1) + u) 0)
+      AppearanceList (planOf bs n t terms) s v u (getD (x .hopsTable) (v * (t + 1) + u) 0)
       (getD (x .countTable) (v * (t + 1) + u) 0)
   appearance v u h k =
       rw (tables, appearance-entry hops (old .hopsTable) v u h k, appearance-entry count (old .countTable) v u h k)
-      (appearance-listed bs n t ok s v u)
+      (appearance-listed bs n t terms ok s v u)
 
-  start-walk : isWalk (planOf bs n t) s s 0 [] ≡ true
+  start-walk : isWalk (planOf bs n t terms) s s 0 [] ≡ true
   unfolding isWalk
   start-walk = rw (ends-nil, eq-eqb s s refl)
 
   -- (kept)
-  reach-told : ReachTold (planOf bs n t) s x
+  reach-told : ReachTold (planOf bs n t terms) s x
   unfolding planOf
   reach-told =
       record {
@@ -99,7 +100,7 @@ module _ (bs : List ℕ) (n t s : ℕ) (ok : planFault bs n t ≡ 0) (inside : s
         appearance = appearance;
         source =
             only-empty (station s inside)
-            (path-meets-definition3 (planOf bs n t) s s [] (path-self-empty (planOf bs n t) s));
+            (path-meets-definition3 (planOf bs n t terms) s s [] (path-self-empty (planOf bs n t terms) s));
         at-start =
             let place : s * (t + 1) + 0 ≡ s * (t + 1) = omega arith in
             rw place at (only-empty (appearance s 0 inside (omega arith)) start-walk);
@@ -107,69 +108,69 @@ module _ (bs : List ℕ) (n t s : ℕ) (ok : planFault bs n t ≡ 0) (inside : s
 
 -- (kept) reach, of its contract's own equation where the number is 0
 reach-accepted :
-    (bs : List ℕ) (n t s : ℕ) (old x : ReachTables) →
-    _≡_ {A = Outcome (Unit {0}) ReachTables} (record { number = 0; values = tt; buffers = x }) (reach bs n t s old) →
-    ReachTold (planOf bs n t) s x
+    (bs : List ℕ) (n t : ℕ) (terms : Terms) (s : ℕ) (old x : ReachTables) →
+    _≡_ {A = Outcome (Unit {0}) ReachTables} (record { number = 0; values = tt; buffers = x }) (reach bs n t terms s old) →
+    ReachTold (planOf bs n t terms) s x
 unfolding reach planFault stationCauses
-reach-accepted bs n t s old x e =
-    let none = no-first _ tt tt old x (reached (planOf bs n t) s old) e in
-    let no-six = first-head 5 (leb n s) _ (first-append-right (planCauses bs n t) _ none) in
-    reach-told bs n t s (first-append-left (planCauses bs n t) _ none) (leb-false n s no-six) old x
-    (no-cause _ tt tt old x (reached (planOf bs n t) s old) e)
+reach-accepted bs n t terms s old x e =
+    let none = no-first _ tt tt old x (reached (planOf bs n t terms) s old) e in
+    let no-six = first-head 5 (leb n s) _ (first-tail 11 _ _ (first-append-right (planCauses bs n t) _ none)) in
+    reach-told bs n t terms s (first-append-left (planCauses bs n t) _ none) (leb-false n s no-six) old x
+    (no-cause _ tt tt old x (reached (planOf bs n t terms) s old) e)
 
 -- ---- pair
 
-module _ (bs : List ℕ) (n t s z : ℕ) (ok : planFault bs n t ≡ 0) (old b : PairBuffers) (x : PairValues)
+module _ (bs : List ℕ) (n t : ℕ) (terms : Terms) (s z : ℕ) (ok : planFault bs n t ≡ 0) (old b : PairBuffers) (x : PairValues)
     (e : _≡_ {A = Outcome PairValues PairBuffers} (record { number = 0; values = x; buffers = b })
-    (paired (planOf bs n t) s z old)) where
+    (paired (planOf bs n t terms) s z old)) where
   -- the members that have v strictly between their ends are those that have it inside
   through-between :
       (v : ℕ) →
-      through (planOf bs n t) s z v ≡ length (select (isBetween (planOf bs n t) s v) (shortestPaths (planOf bs n t) s z))
+      through (planOf bs n t terms) s z v ≡ length (select (isBetween (planOf bs n t terms) s v) (shortestPaths (planOf bs n t terms) s z))
   unfolding through
   through-between v =
       ap length
-      (select-ext (shortestPaths (planOf bs n t) s z) (λ w m.
-      between-is-interior (planOf bs n t) s z v w (in-complete-list bs n t ok s z w .0 m .0)))
+      (select-ext (shortestPaths (planOf bs n t terms) s z) (λ w m.
+      between-is-interior (planOf bs n t terms) s z v w (in-complete-list bs n t terms ok s z w .0 m .0)))
 
   -- what is answered and stored where 9 is no cause either
   pub stored :
       (x ≡ record {
-        hops = hops (shortestPaths (planOf bs n t) s z);
-        count = count (shortestPaths (planOf bs n t) s z);
+        hops = hops (shortestPaths (planOf bs n t terms) s z);
+        count = count (shortestPaths (planOf bs n t terms) s z);
       }) ×
-      (b .throughTable ≡ over (map (through (planOf bs n t) s z) (below n)) (old .throughTable))
+      (b .throughTable ≡ over (map (through (planOf bs n t terms) s z) (below n)) (old .throughTable))
   unfolding paired planOf
   stored =
       ⊎-elim
       (λ many. absurd (let z : _≡_ {A = ℕ} 0 9 = ap (λ o. o .number) (rw many at e) in omega arith))
       (λ few. let here = rw few at e in (ap (λ o. o .values) here, ap (λ o. o .buffers .throughTable) here))
-      (true-or-false (tooMany (planOf bs n t) s))
+      (true-or-false (tooMany (planOf bs n t terms) s))
 
   -- (kept)
-  pair-told : PairTold (planOf bs n t) s z x b
+  pair-told : PairTold (planOf bs n t terms) s z x b
   unfolding planOf
   pair-told =
       record {
-        list = rw (stored .0) (station-listed bs n t ok s z);
-        between = λ v h. rw (stored .1) (written (through (planOf bs n t) s z) n v (old .throughTable) h ∙ through-between v);
+        list = rw (stored .0) (station-listed bs n t terms ok s z);
+        between = λ v h. rw (stored .1) (written (through (planOf bs n t terms) s z) n v (old .throughTable) h ∙ through-between v);
       }
 
 -- (kept) pair, of its contract's own equation where the number is 0
 pair-accepted :
-    (bs : List ℕ) (n t s z : ℕ) (old b : PairBuffers) (x : PairValues) →
-    _≡_ {A = Outcome PairValues PairBuffers} (record { number = 0; values = x; buffers = b }) (pair bs n t s z old) →
-    PairTold (planOf bs n t) s z x b
+    (bs : List ℕ) (n t : ℕ) (terms : Terms) (s z : ℕ) (old b : PairBuffers) (x : PairValues) →
+    _≡_ {A = Outcome PairValues PairBuffers} (record { number = 0; values = x; buffers = b }) (pair bs n t terms s z old) →
+    PairTold (planOf bs n t terms) s z x b
 unfolding pair planFault
-pair-accepted bs n t s z old b x e =
-    let none = no-first _ _ x old b (paired (planOf bs n t) s z old) e in
-    pair-told bs n t s z (first-append-left (planCauses bs n t) _ none) old b x
-    (no-cause _ _ x old b (paired (planOf bs n t) s z old) e)
+pair-accepted bs n t terms s z old b x e =
+    let none = no-first _ _ x old b (paired (planOf bs n t terms) s z old) e in
+    pair-told bs n t terms s z (first-append-left (planCauses bs n t) _ none) old b x
+    (no-cause _ _ x old b (paired (planOf bs n t terms) s z old) e)
 
 -- (kept) Demand 2.
 pub demand2 : Demand2
 demand2 =
     record {
-      of-reach = λ bs n t s old new r e q. reach-accepted bs n t s old new (rw q at e);
-      of-pair = λ bs n t s z old new r e q. pair-accepted bs n t s z old new _ (rw q at e);
+      of-reach = λ bs n t terms s old new r e q. reach-accepted bs n t terms s old new (rw q at e);
+      of-pair = λ bs n t terms s z old new r e q. pair-accepted bs n t terms s z old new _ (rw q at e);
     }

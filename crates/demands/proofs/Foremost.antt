@@ -7,7 +7,7 @@ use mathlib.Core.List.{List, map, List·Memᴰ}
 use mathlib.Core.Logic.{_↔_, _≢_, ⊎-elim}
 use lib.ListN.{length, getD}
 use Rattle.temporal.specs.Lists.{below, select}
-use Rattle.temporal.specs.Plan.{Plan}
+use Rattle.temporal.specs.Plan.{Plan, Terms}
 use Rattle.temporal.specs.Walk.{isAppearance, isWalk, isWalkTo}
 use Rattle.temporal.specs.Definition3.{isPath000}
 use Rattle.temporal.specs.Shortest.{shortestWalks, hops, count}
@@ -35,106 +35,106 @@ use Rattle.demands.specs.Foremost.{arrivesIn, ForemostTold, ForemostDema
 use Rattle.demands.proofs.BetweenLaws.{between-is-interior}
 use Rattle.demands.proofs.ListedLaws.{listed}
 
-module _ (bs : List ℕ) (n t s z : ℕ) (ok : planFault bs n t ≡ 0) where
-  few-slots : planOf bs n t .slots < 65535
+module _ (bs : List ℕ) (n t : ℕ) (terms : Terms) (s z : ℕ) (ok : planFault bs n t ≡ 0) where
+  few-slots : planOf bs n t terms .slots < 65535
   unfolding planOf
   few-slots = let most = accepted bs n t ok .slots in omega arith
 
   -- (kept) the list is what document 000's Definition 11 says
   foremost-listed :
-      ShortestList (arrivesIn (planOf bs n t) s z (arrival (planOf bs n t) s z))
-      (isWalk (planOf bs n t) s z (arrival (planOf bs n t) s z)) (foremostPaths (planOf bs n t) s z)
-      (hops (foremostPaths (planOf bs n t) s z)) (count (foremostPaths (planOf bs n t) s z))
+      ShortestList (arrivesIn (planOf bs n t terms) s z (arrival (planOf bs n t terms) s z))
+      (isWalk (planOf bs n t terms) s z (arrival (planOf bs n t terms) s z)) (foremostPaths (planOf bs n t terms) s z)
+      (hops (foremostPaths (planOf bs n t terms) s z)) (count (foremostPaths (planOf bs n t terms) s z))
   unfolding foremostPaths shortestWalks isWalk
   foremost-listed =
-      let p = planOf bs n t in
-      let b = bounded-ends p (slots-within bs n t ok) s (isAppearance z (arrival p s z)) in
+      let p = planOf bs n t terms in
+      let b = bounded-ends p (slots-within bs n t terms ok) s (isAppearance z (arrival p s z)) in
       listed b few-slots (λ w e. and-eq-true-iff (isPath000 p s z w) _ .0 e .1)
       (λ w m. and-eq-true-iff (isPath000 p s z w) _ .1
-      (path-meets-definition3 p s z w (foremost-walks-are-paths bs n t ok s z w m), shortest-mem b .0 m .0))
+      (path-meets-definition3 p s z w (foremost-walks-are-paths bs n t terms ok s z w m), shortest-mem b .0 m .0))
 
   -- some walk arrives in the slot, where it is one
-  reached : arrival (planOf bs n t) s z ≢ 65535 → (w : List ℕ) × (isWalk (planOf bs n t) s z (arrival (planOf bs n t) s z) w ≡ true)
+  reached : arrival (planOf bs n t terms) s z ≢ 65535 → (w : List ℕ) × (isWalk (planOf bs n t terms) s z (arrival (planOf bs n t terms) s z) w ≡ true)
   unfolding foremostPaths
-  reached d = go (arrival-or-never (planOf bs n t) (slots-within bs n t ok) s z)
+  reached d = go (arrival-or-never (planOf bs n t terms) (slots-within bs n t terms ok) s z)
     where
       go :
-          Arrival (planOf bs n t) (slots-within bs n t ok) s z →
-          (w : List ℕ) × (isWalk (planOf bs n t) s z (arrival (planOf bs n t) s z) w ≡ true)
+          Arrival (planOf bs n t terms) (slots-within bs n t terms ok) s z →
+          (w : List ℕ) × (isWalk (planOf bs n t terms) s z (arrival (planOf bs n t terms) s z) w ≡ true)
       go (never e none-there) = absurd (d e)
       go (arrives h some) =
           ⊎-elim
-          (λ empty. absurd (let zero = count-zero (foremostPaths (planOf bs n t) s z) .1 empty in omega arith))
-          (λ m. (m .0, in-shortest-walks bs n t ok s z (arrival (planOf bs n t) s z) (m .0) .0 (m .1) .0))
-          (empty-or-member (foremostPaths (planOf bs n t) s z))
+          (λ empty. absurd (let zero = count-zero (foremostPaths (planOf bs n t terms) s z) .1 empty in omega arith))
+          (λ m. (m .0, in-shortest-walks bs n t terms ok s z (arrival (planOf bs n t terms) s z) (m .0) .0 (m .1) .0))
+          (empty-or-member (foremostPaths (planOf bs n t terms) s z))
 
   -- it is none exactly where no walk reaches z
-  no-slot : (arrival (planOf bs n t) s z ≡ 65535) ↔ ((w : List ℕ) → isWalkTo (planOf bs n t) s z w ≡ true → ⊥)
-  no-slot = go (arrival-or-never (planOf bs n t) (slots-within bs n t ok) s z)
+  no-slot : (arrival (planOf bs n t terms) s z ≡ 65535) ↔ ((w : List ℕ) → isWalkTo (planOf bs n t terms) s z w ≡ true → ⊥)
+  no-slot = go (arrival-or-never (planOf bs n t terms) (slots-within bs n t terms ok) s z)
     where
       go :
-          Arrival (planOf bs n t) (slots-within bs n t ok) s z →
-          (arrival (planOf bs n t) s z ≡ 65535) ↔ ((w : List ℕ) → isWalkTo (planOf bs n t) s z w ≡ true → ⊥)
+          Arrival (planOf bs n t terms) (slots-within bs n t terms ok) s z →
+          (arrival (planOf bs n t terms) s z ≡ 65535) ↔ ((w : List ℕ) → isWalkTo (planOf bs n t terms) s z w ≡ true → ⊥)
       go (never e none-there) = (λ q. none-there, λ q. e)
       go (arrives h some) = (
         λ e. absurd (let few = few-slots in omega arith),
         λ none-there. ⊎-elim
-            (λ empty. absurd (let zero = count-zero (foremostPaths (planOf bs n t) s z) .1 empty in omega arith))
-            (λ m. absurd (none-there (m .0) (path-is-walk (planOf bs n t) s z (m .0) (foremost-walks-are-paths bs n t ok s z (m .0) (m .1)))))
-            (empty-or-member (foremostPaths (planOf bs n t) s z)),
+            (λ empty. absurd (let zero = count-zero (foremostPaths (planOf bs n t terms) s z) .1 empty in omega arith))
+            (λ m. absurd (none-there (m .0) (path-is-walk (planOf bs n t terms) s z (m .0) (foremost-walks-are-paths bs n t terms ok s z (m .0) (m .1)))))
+            (empty-or-member (foremostPaths (planOf bs n t terms) s z)),
       )
 
   module _ (old b : PairBuffers) (x : ForemostValues)
       (e : _≡_ {A = Outcome ForemostValues PairBuffers} (record { number = 0; values = x; buffers = b })
-      (foremostPaired (planOf bs n t) s z old)) where
+      (foremostPaired (planOf bs n t terms) s z old)) where
     -- (kept) the members that have v strictly between their ends are those that have it inside
     through-between :
         (v : ℕ) →
-        foremostThrough (planOf bs n t) s z v ≡
-        length (select (isBetween (planOf bs n t) s v) (foremostPaths (planOf bs n t) s z))
+        foremostThrough (planOf bs n t terms) s z v ≡
+        length (select (isBetween (planOf bs n t terms) s v) (foremostPaths (planOf bs n t terms) s z))
     unfolding foremostThrough
     through-between v =
         ap length
-        (select-ext (foremostPaths (planOf bs n t) s z) (λ w m.
-        between-is-interior (planOf bs n t) s z v w (foremost-walks-are-paths bs n t ok s z w m)))
+        (select-ext (foremostPaths (planOf bs n t terms) s z) (λ w m.
+        between-is-interior (planOf bs n t terms) s z v w (foremost-walks-are-paths bs n t terms ok s z w m)))
 
     -- what is answered and stored where 9 is no cause either
     pub stored :
         (x ≡ record {
-          slot = arrival (planOf bs n t) s z;
-          hops = hops (foremostPaths (planOf bs n t) s z);
-          count = count (foremostPaths (planOf bs n t) s z);
+          slot = arrival (planOf bs n t terms) s z;
+          hops = hops (foremostPaths (planOf bs n t terms) s z);
+          count = count (foremostPaths (planOf bs n t terms) s z);
         }) ×
-        (b .throughTable ≡ over (map (foremostThrough (planOf bs n t) s z) (below n)) (old .throughTable))
+        (b .throughTable ≡ over (map (foremostThrough (planOf bs n t terms) s z) (below n)) (old .throughTable))
     unfolding foremostPaired planOf
     stored =
         ⊎-elim
         (λ many. absurd (let z : _≡_ {A = ℕ} 0 9 = ap (λ o. o .number) (rw many at e) in omega arith))
         (λ few. let here = rw few at e in (ap (λ o. o .values) here, ap (λ o. o .buffers .throughTable) here))
-        (true-or-false (appearanceTooMany (planOf bs n t) s))
+        (true-or-false (appearanceTooMany (planOf bs n t terms) s))
 
     -- (kept)
-    foremost-told : ForemostTold (planOf bs n t) s z x b
+    foremost-told : ForemostTold (planOf bs n t terms) s z x b
     unfolding planOf
     foremost-told =
         let is = stored .0 in
         record {
-          earliest = rw is (arrival-earliest bs n t ok s z);
+          earliest = rw is (arrival-earliest bs n t terms ok s z);
           reached = rw is reached;
           no-slot = rw is no-slot;
           list = rw is foremost-listed;
-          rising = foremost-paths-rise (planOf bs n t) s z;
+          rising = foremost-paths-rise (planOf bs n t terms) s z;
           between = λ v h. rw (stored .1)
-              (written (foremostThrough (planOf bs n t) s z) n v (old .throughTable) h ∙ through-between v);
-          at-least = rw is (foremost-hops-at-least bs n t ok s z);
-          among = rw is (foremost-among-shortest bs n t ok s z);
+              (written (foremostThrough (planOf bs n t terms) s z) n v (old .throughTable) h ∙ through-between v);
+          at-least = rw is (foremost-hops-at-least bs n t terms ok s z);
+          among = rw is (foremost-among-shortest bs n t terms ok s z);
         }
 
 -- (kept) C-14.
 pub foremost-demand : ForemostDemand
 unfolding foremost planFault
-foremost-demand bs n t s z old new r e q =
+foremost-demand bs n t terms s z old new r e q =
     let here = rw q at e in
-    let none = no-first _ _ (foremostValues r) old new (foremostPaired (planOf bs n t) s z old) here in
-    foremost-told bs n t s z (first-append-left (planCauses bs n t) _ none) old new (foremostValues r)
-    (no-cause _ _ (foremostValues r) old new (foremostPaired (planOf bs n t) s z old) here)
+    let none = no-first _ _ (foremostValues r) old new (foremostPaired (planOf bs n t terms) s z old) here in
+    foremost-told bs n t terms s z (first-append-left (planCauses bs n t) _ none) old new (foremostValues r)
+    (no-cause _ _ (foremostValues r) old new (foremostPaired (planOf bs n t terms) s z old) here)

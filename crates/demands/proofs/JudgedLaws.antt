@@ -6,8 +6,9 @@ use mathlib.Core.Bool.{Bool, true, false, cond}
 use mathlib.Core.List.{List, [], _∷_, _++_, flatMap, append-assoc}
 use mathlib.Core.Logic.{_↔_, _≢_}
 use Rattle.temporal.specs.Lists.{below}
+use Rattle.temporal.specs.Plan.{Terms}
 use Rattle.temporal.specs.Bytes.{records}
-use Rattle.temporal.specs.Cause.{cause, first, unless, recordCauses, planCauses, stationCauses, pairCauses}
+use Rattle.temporal.specs.Cause.{cause, first, unless, wrongTurnaround, recordCauses, planCauses, stationCauses, pairCauses}
 use Rattle.temporal.specs.Outcome.{Outcome, entered}
 use Rattle.temporal.specs.OutcomeSet.{setCauses}
 use Rattle.temporal.proofs.CauseLaws.{first-append-none, first-append-some}
@@ -69,29 +70,34 @@ plain-plan bs n t =
     (plain-cause 4 _ _ (omega arith) (omega arith) (plain-cause 5 _ [] (omega arith) (omega arith) plain-none)))))
 
 -- the causes of a plan with those of a call that names a station, a pair, or nothing
-module _ (bs : List ℕ) (n t : ℕ) (lacking : Bool) where
-  pub plain-station : (s : ℕ) → Plain (planCauses bs n t ++ stationCauses n s lacking)
+module _ (bs : List ℕ) (n t : ℕ) (terms : Terms) (lacking : Bool) where
+  pub plain-station : (s : ℕ) → Plain (planCauses bs n t ++ cause 12 (wrongTurnaround terms) ∷ stationCauses n s lacking)
   unfolding stationCauses
   plain-station s =
       plain-append _ _ (plain-plan bs n t)
-      (plain-cause 6 _ _ (omega arith) (omega arith) (plain-cause 8 _ [] (omega arith) (omega arith) plain-none))
+      (plain-cause 12 _ _ (omega arith) (omega arith)
+      (plain-cause 6 _ _ (omega arith) (omega arith) (plain-cause 8 _ [] (omega arith) (omega arith) plain-none)))
 
-  pub plain-pair : (s z : ℕ) → Plain (planCauses bs n t ++ pairCauses n s z lacking)
+  pub plain-pair : (s z : ℕ) → Plain (planCauses bs n t ++ pairCauses terms n s z lacking)
   unfolding pairCauses
   plain-pair s z =
       plain-append _ _ (plain-plan bs n t)
+      (plain-cause 12 _ _ (omega arith) (omega arith)
       (plain-cause 6 _ _ (omega arith) (omega arith)
-      (plain-cause 7 _ _ (omega arith) (omega arith) (plain-cause 8 _ [] (omega arith) (omega arith) plain-none)))
+      (plain-cause 7 _ _ (omega arith) (omega arith) (plain-cause 8 _ [] (omega arith) (omega arith) plain-none))))
 
-  pub plain-short : Plain (planCauses bs n t ++ cause 8 lacking ∷ [])
-  plain-short = plain-append _ _ (plain-plan bs n t) (plain-cause 8 _ [] (omega arith) (omega arith) plain-none)
+  pub plain-short : Plain (planCauses bs n t ++ cause 12 (wrongTurnaround terms) ∷ cause 8 lacking ∷ [])
+  plain-short =
+      plain-append _ _ (plain-plan bs n t)
+      (plain-cause 12 _ _ (omega arith) (omega arith) (plain-cause 8 _ [] (omega arith) (omega arith) plain-none))
 
 -- and with those of a call that names a pair and a set
-pub plain-set : (bs : List ℕ) (n t s z : ℕ) (set old : List ℕ) → Plain (planCauses bs n t ++ setCauses n t s z set old)
+pub plain-set : (bs : List ℕ) (n t : ℕ) (terms : Terms) (s z : ℕ) (set old : List ℕ)
+    → Plain (planCauses bs n t ++ setCauses n t terms s z set old)
 unfolding setCauses
-plain-set bs n t s z set old =
+plain-set bs n t terms s z set old =
     subst Plain (append-assoc (planCauses bs n t) _ _)
-    (plain-append _ _ (plain-pair bs n t _ s z) (plain-cause 11 _ [] (omega arith) (omega arith) plain-none))
+    (plain-append _ _ (plain-pair bs n t terms _ s z) (plain-cause 11 _ [] (omega arith) (omega arith) plain-none))
 
 -- ---- the call
 

@@ -8,7 +8,7 @@ use mathlib.Core.List.{List, [], _∷_, List·Memᴰ, List·Memᴰ·head, List·
 use mathlib.Core.Logic.{_↔_}
 use lib.ListN.{length}
 use Rattle.temporal.specs.Lists.{NoneTwice}
-use Rattle.temporal.specs.Plan.{Plan}
+use Rattle.temporal.specs.Plan.{Plan, Terms}
 use Rattle.temporal.specs.Walk.{isAt, isAppearance, isWalk}
 use Rattle.temporal.specs.Shortest.{shortest, shortestWalks, shortestPaths, hops, count}
 use Rattle.temporal.specs.Bytes.{planOf}
@@ -111,28 +111,28 @@ only-empty {passes} {isAWalk} {l} {h} {c} k e =
         let same = all x (List·Memᴰ·head refl) ∙ sym (all y (List·Memᴰ·tail (List·Memᴰ·head refl))) in
         absurd (once 0 1 (omega arith) (omega arith) same)
 
-module _ (bs : List ℕ) (n t : ℕ) (ok : planFault bs n t ≡ 0) where
-  few-slots : planOf bs n t .slots < 65535
+module _ (bs : List ℕ) (n t : ℕ) (terms : Terms) (ok : planFault bs n t ≡ 0) where
+  few-slots : planOf bs n t terms .slots < 65535
   unfolding planOf
   few-slots = let most = accepted bs n t ok .slots in omega arith
 
   -- (kept) the list of a station
   pub station-listed :
       (s v : ℕ) →
-      StationList (planOf bs n t) s v (hops (shortestPaths (planOf bs n t) s v)) (count (shortestPaths (planOf bs n t) s v))
+      StationList (planOf bs n t terms) s v (hops (shortestPaths (planOf bs n t terms) s v)) (count (shortestPaths (planOf bs n t terms) s v))
   station-listed s v =
-      let p = planOf bs n t in
-      let same = shortest-walks-are-paths bs n t ok s v in
+      let p = planOf bs n t terms in
+      let same = shortest-walks-are-paths bs n t terms ok s v in
       rw same
-      (listed (bounded-ends p (slots-within bs n t ok) s (isAt v)) few-slots (definition3-is-walk p s v)
-      (λ w m. path-meets-definition3 p s v w (in-complete-list bs n t ok s v w .0 (rw same m) .0)))
+      (listed (bounded-ends p (slots-within bs n t terms ok) s (isAt v)) few-slots (definition3-is-walk p s v)
+      (λ w m. path-meets-definition3 p s v w (in-complete-list bs n t terms ok s v w .0 (rw same m) .0)))
 
   -- the list of an appearance
   pub appearance-listed :
       (s v u : ℕ) →
-      AppearanceList (planOf bs n t) s v u (hops (shortestWalks (planOf bs n t) s v u))
-      (count (shortestWalks (planOf bs n t) s v u))
+      AppearanceList (planOf bs n t terms) s v u (hops (shortestWalks (planOf bs n t terms) s v u))
+      (count (shortestWalks (planOf bs n t terms) s v u))
   unfolding shortestWalks isWalk
   appearance-listed s v u =
-      let b = bounded-ends (planOf bs n t) (slots-within bs n t ok) s (isAppearance v u) in
+      let b = bounded-ends (planOf bs n t terms) (slots-within bs n t terms ok) s (isAppearance v u) in
       listed b few-slots (λ w e. e) (λ w m. shortest-mem b .0 m .0)

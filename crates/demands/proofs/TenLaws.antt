@@ -21,14 +21,14 @@ use Rattle.temporal.proofs.Adequacy.{in-complete-list}
 use Rattle.ways.proofs.OrderLaws.{index-inv, index-some}
 use Rattle.trace.proofs.TraceFollows.{answer-moves}
 use Rattle.demands.specs.Demand3.{NotOffered, TenWhereNotOffered}
-use Rattle.temporal.proofs.NumberLaws.{one-most, append-most, way-most, overflow-most}
+use Rattle.temporal.proofs.NumberLaws.{OtherThanTen, causes-other}
 
 -- the cursor's move at a next way answers 10 exactly where no other cause holds and the cursor is on none
-move-ten : (k : ℕ) (l : List (List ℕ)) (at : Option ℕ) (b : List ℕ) → k ≤ 9
+move-ten : (k : ℕ) (l : List (List ℕ)) (at : Option ℕ) (b : List ℕ) → OtherThanTen k
     → (move next-way k l at b .reply ≡ refused 10) ↔ ((k ≡ 0) × (at ≡ none))
 unfolding move unless go goNext stay give
 move-ten (suc k) l at b small = (
-  λ e. let same : suc k ≡ 10 = cc in absurd (omega arith),
+  λ e. let same : suc k ≡ 10 = cc in absurd (small .not-ten same),
   λ h. absurd (let z = h .0 in omega arith),
 )
 move-ten zero l none b small = (λ e. (refl, refl), λ h. refl)
@@ -45,7 +45,7 @@ module _ (q : Question) (ok : planFault (q .bytes) (q .stations) (q .slots) ≡ 
   -- the members of a complete list have the pair's hops
   member-hops : (w : List ℕ) → List·Memᴰ w (listOf q) → length w ≡ hops (listOf q)
   unfolding listOf
-  member-hops w m = in-complete-list (q .bytes) (q .stations) (q .slots) ok (q .source) (q .destination) w .0 m .1
+  member-hops w m = in-complete-list (q .bytes) (q .stations) (q .slots) (q .terms) ok (q .source) (q .destination) w .0 m .1
 
   -- the cursor is on none exactly where the buffer begins with no shortest path
   index-none : (way : List ℕ) → (indexIn (listOf q) way ≡ none) ↔ NotOffered q way
@@ -73,19 +73,13 @@ plan-accepted q wayLength workLength e =
     first-append-left (planCauses (q .bytes) (q .stations) (q .slots)) _
     (first-append-left (wayCauses q wayLength workLength) (overflow q ∷ []) e)
 
--- the causes of a call other than 10 are at most 9
-causes-most : (q : Question) (wayLength workLength : ℕ) → first (wayCauses q wayLength workLength ++ overflow q ∷ []) ≤ 9
-causes-most q wayLength workLength =
-    let eight : first (wayCauses q wayLength workLength) ≤ 9 = omega (arith, way-most q wayLength workLength) in
-    append-most 9 _ _ eight (one-most 9 (overflow q) (overflow-most q))
-
 pub ten-where-not-offered : TenWhereNotOffered
 unfolding causeOf
 ten-where-not-offered q way work r wayAfter workAfter e =
     let number = first (wayCauses q (length way) (length work) ++ overflow q ∷ []) in
     let reply : r ≡ move next-way number (listOf q) (indexIn (listOf q) way) way .reply =
     ap (λ a. a .reply) e ∙ answer-moves next-way q way work .reply in
-    let moves = move-ten number (listOf q) (indexIn (listOf q) way) way (causes-most q (length way) (length work)) in (
+    let moves = move-ten number (listOf q) (indexIn (listOf q) way) way (causes-other q (length way) (length work)) in (
       λ ten.
           let (free, off) = moves .0 (sym reply ∙ ten) in
           (free, index-none q (plan-accepted q (length way) (length work) free) way .0 off),

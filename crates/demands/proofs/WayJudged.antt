@@ -110,14 +110,14 @@ module _ (q : Question) (old : WayBuffers) where
 
   plain-way : Plain (wayCauses q (length (old .way)) (length (old .work)))
   unfolding wayCauses
-  plain-way = plain-pair (q .bytes) (q .stations) (q .slots) _ (q .source) (q .destination)
+  plain-way = plain-pair (q .bytes) (q .stations) (q .slots) (q .terms) _ (q .source) (q .destination)
 
   pub first-way-judged : Judged (firstWayCauses q old) 0 old (wayEmptied (q .stations) (q .slots) old) (answer first-way)
   unfolding firstWayCauses wayEmptied wayWork overflow
   first-way-judged =
       subst (Judged (firstWayCauses q old) 0 old (wayEmptied (q .stations) (q .slots) old)) (entered-way first-way)
       (judged-entered 0 old (wayEmptied (q .stations) (q .slots) old) _ (overflow q ∷ []) _ plain-way
-      (first-move old area (tooMany (planOf (q .bytes) (q .stations) (q .slots)) (q .source)) (listOf q)
+      (first-move old area (tooMany (planOf (q .bytes) (q .stations) (q .slots) (q .terms)) (q .source)) (listOf q)
       (indexIn (listOf q) (old .way))))
 
   pub next-way-judged : Judged (nextWayCauses q old) 0 old (wayEmptied (q .stations) (q .slots) old) (answer next-way)
@@ -127,5 +127,5 @@ module _ (q : Question) (old : WayBuffers) where
       (judged-entered 0 old (wayEmptied (q .stations) (q .slots) old) _ (overflow q ∷ cause 10 (offersNone q (old .way)) ∷ [])
       _ plain-way
       (rw (index-none (listOf q) (old .way))
-      (next-move old area (tooMany (planOf (q .bytes) (q .stations) (q .slots)) (q .source)) (listOf q)
+      (next-move old area (tooMany (planOf (q .bytes) (q .stations) (q .slots) (q .terms)) (q .source)) (listOf q)
       (indexIn (listOf q) (old .way)))))

@@ -6,7 +6,7 @@ use mathlib.Core.List.{List, map, List·Memᴰ}
 use mathlib.Core.Logic.{_≢_}
 use lib.ListN.{take}
 use Rattle.temporal.specs.Lists.{below, sum}
-use Rattle.temporal.specs.Plan.{Plan}
+use Rattle.temporal.specs.Plan.{Plan, Terms}
 use Rattle.temporal.specs.Walk.{HasInside}
 use Rattle.temporal.specs.Shortest.{shortestPaths, hops, count, throughIn}
 use Rattle.temporal.specs.Foremost.{foremostPaths}
@@ -30,18 +30,18 @@ pub record HopsAccounted (p : Plan) (s z : ℕ) (l : List (List ℕ)) : Type 0 w
 pub record AccountDemand : Type 0 where
   -- the definitions, for two different stations of an accepted plan: the complete list, and the shortest foremost paths (C-14)
   pub of-shortest :
-      (bs : List ℕ) (n t s z : ℕ) → planFault bs n t ≡ 0 → s ≢ z →
-      HopsAccounted (planOf bs n t) s z (shortestPaths (planOf bs n t) s z)
+      (bs : List ℕ) (n t : ℕ) (terms : Terms) (s z : ℕ) → planFault bs n t ≡ 0 → s ≢ z →
+      HopsAccounted (planOf bs n t terms) s z (shortestPaths (planOf bs n t terms) s z)
   pub of-shortest-foremost :
-      (bs : List ℕ) (n t s z : ℕ) → planFault bs n t ≡ 0 → s ≢ z →
-      HopsAccounted (planOf bs n t) s z (foremostPaths (planOf bs n t) s z)
+      (bs : List ℕ) (n t : ℕ) (terms : Terms) (s z : ℕ) → planFault bs n t ≡ 0 → s ≢ z →
+      HopsAccounted (planOf bs n t terms) s z (foremostPaths (planOf bs n t terms) s z)
   -- the operations, for every call that the contract allows and that is not refused: the first n entries of the through table at
   -- exit, and the count and the hops that are answered
   pub of-pair :
-      (bs : List ℕ) (n t s z : ℕ) (old new : PairBuffers) (r : PairAnswer) →
-      pairOutcome r new ≡ pair bs n t s z old → pairNumber r ≡ 0 →
+      (bs : List ℕ) (n t : ℕ) (terms : Terms) (s z : ℕ) (old new : PairBuffers) (r : PairAnswer) →
+      pairOutcome r new ≡ pair bs n t terms s z old → pairNumber r ≡ 0 →
       sum (take n (new .throughTable)) ≡ pairValues r .count * (pairValues r .hops - 1)
   pub of-foremost :
-      (bs : List ℕ) (n t s z : ℕ) (old new : PairBuffers) (r : ForemostAnswer) →
-      foremostOutcome r new ≡ foremost bs n t s z old → foremostNumber r ≡ 0 →
+      (bs : List ℕ) (n t : ℕ) (terms : Terms) (s z : ℕ) (old new : PairBuffers) (r : ForemostAnswer) →
+      foremostOutcome r new ≡ foremost bs n t terms s z old → foremostNumber r ≡ 0 →
       sum (take n (new .throughTable)) ≡ foremostValues r .count * (foremostValues r .hops - 1)

@@ -1,13 +1,14 @@
--- For each operation the one list of all its causes of refusal, in document 01's order; a cause that does not hold stands in
+-- For each operation the one list of all its causes of refusal, in document 01's order with document 02's 11 and 12; a cause that does not hold stands in
 -- it as 0. (Check's list is planCauses.) Beside it, what 9 and 10 leave in the lent buffers. Definitions only.
 -- Assumes nothing.
 use Prim.Native.Nat.{ℕ}
 use mathlib.Core.Bool.{Bool, not, _||_}
 use mathlib.Core.List.{List, [], _∷_, _++_}
 use lib.ListN.{length, take}
+use Rattle.temporal.specs.Plan.{Terms}
 use Rattle.temporal.specs.Lists.{any}
 use Rattle.temporal.specs.Bytes.{planOf}
-use Rattle.temporal.specs.Cause.{cause, outside, planCauses, pairCauses, stationCauses}
+use Rattle.temporal.specs.Cause.{cause, outside, wrongTurnaround, planCauses, pairCauses, stationCauses}
 use Rattle.temporal.specs.Cause.{appearanceTooMany, tooMany, tooManyAnywhere}
 use Rattle.temporal.specs.Outcome.{cleared, short, places, workSize, ReachTables}
 use Rattle.temporal.specs.OutcomePair.{PairBuffers, LoadBuffers}
@@ -15,15 +16,15 @@ use Rattle.temporal.specs.OutcomeSet.{setCauses}
 use Rattle.temporal.specs.Cursor.{sameNumbers}
 use Rattle.temporal.specs.FirstNext.{Question, listOf, wayCauses, overflow}
 
--- ---- Operation 2, reach: 1 to 6, 8, 9
+-- ---- Operation 2, reach: 1 to 5, 12, 6, 8, 9
 
-unfoldable pub reachCauses : List ℕ → ℕ → ℕ → ℕ → ReachTables → List ℕ
-reachCauses bs n t s old =
+unfoldable pub reachCauses : List ℕ → ℕ → ℕ → Terms → ℕ → ReachTables → List ℕ
+reachCauses bs n t terms s old =
     planCauses bs n t ++
-    stationCauses n s
+    cause 12 (wrongTurnaround terms) ∷ stationCauses n s
     (short (places n t) (old .hopsTable) || short (places n t) (old .countTable) ||
     (short n (old .stationHops) || short n (old .stationCounts))) ++
-    cause 9 (tooMany (planOf bs n t) s) ∷ []
+    cause 9 (tooMany (planOf bs n t terms) s) ∷ []
 
 -- the named parts of all four tables become 0
 unfoldable pub reachEmptied : ℕ → ℕ → ReachTables → ReachTables
@@ -40,26 +41,26 @@ reachEmptied n t old =
 unfoldable pub rowCauses : ℕ → ℕ → ℕ → List ℕ → List ℕ
 rowCauses n t v table = cause 1 (outside n t) ∷ stationCauses n v (short (places n t) table)
 
--- ---- Operation 4, pair: 1 to 9
+-- ---- Operation 4, pair: 1 to 5, 12, 6 to 9
 
-unfoldable pub pairAllCauses : List ℕ → ℕ → ℕ → ℕ → ℕ → PairBuffers → List ℕ
-pairAllCauses bs n t s z old =
+unfoldable pub pairAllCauses : List ℕ → ℕ → ℕ → Terms → ℕ → ℕ → PairBuffers → List ℕ
+pairAllCauses bs n t terms s z old =
     planCauses bs n t ++
-    pairCauses n s z (short n (old .throughTable) || short (workSize n t) (old .work)) ++
-    cause 9 (tooMany (planOf bs n t) s) ∷ []
+    pairCauses terms n s z (short n (old .throughTable) || short (workSize n t) (old .work)) ++
+    cause 9 (tooMany (planOf bs n t terms) s) ∷ []
 
 -- the named parts of the through table and of the work area become 0
 unfoldable pub pairEmptied : ℕ → ℕ → PairBuffers → PairBuffers
 pairEmptied n t old =
     record { throughTable = cleared n (old .throughTable); work = cleared (workSize n t) (old .work) }
 
--- ---- Operation 5, loads, and operation 6, busiest: 1 to 5, 8, 9; they work on every source
+-- ---- Operation 5, loads, and operation 6, busiest: 1 to 5, 12, 8, 9; they work on every source
 
-unfoldable pub loadsCauses : List ℕ → ℕ → ℕ → LoadBuffers → List ℕ
-loadsCauses bs n t old =
+unfoldable pub loadsCauses : List ℕ → ℕ → ℕ → Terms → LoadBuffers → List ℕ
+loadsCauses bs n t terms old =
     planCauses bs n t ++
-    cause 8 (short n (old .pairsTable) || (short n (old .loadTable) || short (workSize n t) (old .work))) ∷
-    cause 9 (tooManyAnywhere (planOf bs n t)) ∷ []
+    cause 12 (wrongTurnaround terms) ∷ cause 8 (short n (old .pairsTable) || (short n (old .loadTable) || short (workSize n t) (old .work))) ∷
+    cause 9 (tooManyAnywhere (planOf bs n t terms)) ∷ []
 
 -- the named parts of both tables and of the work area become 0
 unfoldable pub loadsEmptied : ℕ → ℕ → LoadBuffers → LoadBuffers
@@ -70,26 +71,28 @@ loadsEmptied n t old =
       work = cleared (workSize n t) (old .work);
     }
 
-unfoldable pub busiestCauses : List ℕ → ℕ → ℕ → List ℕ → List ℕ
-busiestCauses bs n t work =
-    planCauses bs n t ++ cause 8 (short (workSize n t) work) ∷ cause 9 (tooManyAnywhere (planOf bs n t)) ∷ []
+unfoldable pub busiestCauses : List ℕ → ℕ → ℕ → Terms → List ℕ → List ℕ
+busiestCauses bs n t terms work =
+    planCauses bs n t ++
+    cause 12 (wrongTurnaround terms) ∷ cause 8 (short (workSize n t) work) ∷
+    cause 9 (tooManyAnywhere (planOf bs n t terms)) ∷ []
 
--- ---- The operation on a pair and a set (document 02, C-12): 1 to 8, 11, 9; of what is lent it writes the work area alone
+-- ---- The operation on a pair and a set (document 02, C-12): 1 to 5, 12, 6 to 8, 11, 9; of what is lent it writes the work area alone
 
-unfoldable pub throughSetCauses : List ℕ → ℕ → ℕ → ℕ → ℕ → List ℕ → List ℕ → List ℕ
-throughSetCauses bs n t s z set old =
-    planCauses bs n t ++ setCauses n t s z set old ++ cause 9 (tooMany (planOf bs n t) s) ∷ []
+unfoldable pub throughSetCauses : List ℕ → ℕ → ℕ → Terms → ℕ → ℕ → List ℕ → List ℕ → List ℕ
+throughSetCauses bs n t terms s z set old =
+    planCauses bs n t ++ setCauses n t terms s z set old ++ cause 9 (tooMany (planOf bs n t terms) s) ∷ []
 
--- ---- The operation on shortest foremost paths (document 02, C-14): 1 to 9, where 9 looks at appearances alone; it leaves the
+-- ---- The operation on shortest foremost paths (document 02, C-14): 1 to 5, 12, 6 to 9, where 9 looks at appearances alone; it leaves the
 -- buffers as pair does
 
-unfoldable pub foremostCauses : List ℕ → ℕ → ℕ → ℕ → ℕ → PairBuffers → List ℕ
-foremostCauses bs n t s z old =
+unfoldable pub foremostCauses : List ℕ → ℕ → ℕ → Terms → ℕ → ℕ → PairBuffers → List ℕ
+foremostCauses bs n t terms s z old =
     planCauses bs n t ++
-    pairCauses n s z (short n (old .throughTable) || short (workSize n t) (old .work)) ++
-    cause 9 (appearanceTooMany (planOf bs n t) s) ∷ []
+    pairCauses terms n s z (short n (old .throughTable) || short (workSize n t) (old .work)) ++
+    cause 9 (appearanceTooMany (planOf bs n t terms) s) ∷ []
 
--- ---- Operation 7, first way: 1 to 9; operation 8, next way: 1 to 10
+-- ---- Operation 7, first way: 1 to 5, 12, 6 to 9; operation 8, next way: the same, then 10
 
 -- the two lent buffers of first way and next way
 pub record WayBuffers : Type 0 where

@@ -7,6 +7,7 @@ use mathlib.Core.Path.{_≡_}
 use mathlib.Core.Logic.{_↔_, _≢_}
 use mathlib.Core.List.{List, [], _∷_}
 use denote.Ref.{RefT}
+use Rattle.temporal.specs.Plan.{Terms}
 use Rattle.temporal.specs.Cause.{first, planCauses, planFault}
 use Rattle.temporal.specs.Outcome.{Outcome, cleared, workSize, ReachTables, reach, rowNumber}
 use Rattle.temporal.specs.OutcomePair.{PairBuffers, pair, LoadBuffers, loads, busiest}
@@ -104,25 +105,25 @@ wayResult r b = record { number = replyNumber (replyOf r); values = replyHops (r
 pub record Demand1 : Type 0 where
   pub limits : (bs : List ℕ) (n t : ℕ) → (planFault bs n t ≡ 0) ↔ WithinLimits bs n t
   pub of-check : (bs : List ℕ) (n t : ℕ) (r : CheckAnswer) → checkNumber r ≡ planFault bs n t → CheckJudged bs n t r
-  pub of-reach : (bs : List ℕ) (n t s : ℕ) (old x : ReachTables) (r : ReachAnswer) → reachOutcome r x ≡ reach bs n t s old
-      → Judged (reachCauses bs n t s old) tt old (reachEmptied n t old) (reachOutcome r x)
+  pub of-reach : (bs : List ℕ) (n t : ℕ) (terms : Terms) (s : ℕ) (old x : ReachTables) (r : ReachAnswer) → reachOutcome r x ≡ reach bs n t terms s old
+      → Judged (reachCauses bs n t terms s old) tt old (reachEmptied n t old) (reachOutcome r x)
   pub of-row : (n t v : ℕ) (table part : RefT (List ℕ)) (k : ℕ) → k ≡ rowNumber n t v (table .now) → RowPart n t v table part
       → RowJudged n t v (table .now) k (part .now)
-  pub of-pair : (bs : List ℕ) (n t s z : ℕ) (old x : PairBuffers) (r : PairAnswer) → pairOutcome r x ≡ pair bs n t s z old
-      → Judged (pairAllCauses bs n t s z old) (record { hops = 0; count = 0 }) old (pairEmptied n t old) (pairOutcome r x)
-  pub of-loads : (bs : List ℕ) (n t : ℕ) (old x : LoadBuffers) (r : LoadsAnswer) → loadsOutcome r x ≡ loads bs n t old
-      → Judged (loadsCauses bs n t old) tt old (loadsEmptied n t old) (loadsOutcome r x)
-  pub of-busiest : (bs : List ℕ) (n t : ℕ) (old x : List ℕ) (r : BusiestAnswer) → busiestOutcome r x ≡ busiest bs n t old
-      → Judged (busiestCauses bs n t old) 0 old (cleared (workSize n t) old) (busiestOutcome r x)
-  pub of-set : (bs : List ℕ) (n t s z : ℕ) (set old x : List ℕ) (r : SetAnswer) → setOutcome r x ≡ throughSet bs n t s z set old
-      → Judged (throughSetCauses bs n t s z set old) 0 old (cleared (workSize n t) old) (setOutcome r x)
-  pub of-foremost : (bs : List ℕ) (n t s z : ℕ) (old x : PairBuffers) (r : ForemostAnswer)
-      → foremostOutcome r x ≡ foremost bs n t s z old
-      → Judged (foremostCauses bs n t s z old) (record { slot = 0; hops = 0; count = 0 }) old (pairEmptied n t old)
+  pub of-pair : (bs : List ℕ) (n t : ℕ) (terms : Terms) (s z : ℕ) (old x : PairBuffers) (r : PairAnswer) → pairOutcome r x ≡ pair bs n t terms s z old
+      → Judged (pairAllCauses bs n t terms s z old) (record { hops = 0; count = 0 }) old (pairEmptied n t old) (pairOutcome r x)
+  pub of-loads : (bs : List ℕ) (n t : ℕ) (terms : Terms) (old x : LoadBuffers) (r : LoadsAnswer) → loadsOutcome r x ≡ loads bs n t terms old
+      → Judged (loadsCauses bs n t terms old) tt old (loadsEmptied n t old) (loadsOutcome r x)
+  pub of-busiest : (bs : List ℕ) (n t : ℕ) (terms : Terms) (old x : List ℕ) (r : BusiestAnswer) → busiestOutcome r x ≡ busiest bs n t terms old
+      → Judged (busiestCauses bs n t terms old) 0 old (cleared (workSize n t) old) (busiestOutcome r x)
+  pub of-set : (bs : List ℕ) (n t : ℕ) (terms : Terms) (s z : ℕ) (set old x : List ℕ) (r : SetAnswer) → setOutcome r x ≡ throughSet bs n t terms s z set old
+      → Judged (throughSetCauses bs n t terms s z set old) 0 old (cleared (workSize n t) old) (setOutcome r x)
+  pub of-foremost : (bs : List ℕ) (n t : ℕ) (terms : Terms) (s z : ℕ) (old x : PairBuffers) (r : ForemostAnswer)
+      → foremostOutcome r x ≡ foremost bs n t terms s z old
+      → Judged (foremostCauses bs n t terms s z old) (record { slot = 0; hops = 0; count = 0 }) old (pairEmptied n t old)
       (foremostOutcome r x)
-  pub of-first-way : (bs : List ℕ) (n t s z : ℕ) (old x : WayBuffers) (r : WayAnswer)
-      → WayContract first-way (question bs n t s z) (old .way) (old .work) (replyOf r) (x .way) (x .work)
-      → Judged (firstWayCauses (question bs n t s z) old) 0 old (wayEmptied n t old) (wayResult r x)
-  pub of-next-way : (bs : List ℕ) (n t s z : ℕ) (old x : WayBuffers) (r : WayAnswer)
-      → WayContract next-way (question bs n t s z) (old .way) (old .work) (replyOf r) (x .way) (x .work)
-      → Judged (nextWayCauses (question bs n t s z) old) 0 old (wayEmptied n t old) (wayResult r x)
+  pub of-first-way : (bs : List ℕ) (n t g s z : ℕ) (old x : WayBuffers) (r : WayAnswer)
+      → WayContract first-way (question bs n t g s z) (old .way) (old .work) (replyOf r) (x .way) (x .work)
+      → Judged (firstWayCauses (question bs n t g s z) old) 0 old (wayEmptied n t old) (wayResult r x)
+  pub of-next-way : (bs : List ℕ) (n t g s z : ℕ) (old x : WayBuffers) (r : WayAnswer)
+      → WayContract next-way (question bs n t g s z) (old .way) (old .work) (replyOf r) (x .way) (x .work)
+      → Judged (nextWayCauses (question bs n t g s z) old) 0 old (wayEmptied n t old) (wayResult r x)

@@ -8,7 +8,7 @@ use mathlib.Core.List.{List, List·Memᴰ}
 use mathlib.Core.Logic.{_↔_}
 use lib.ListN.{length, take, getD}
 use Rattle.temporal.specs.Lists.{member, select, NoneTwice}
-use Rattle.temporal.specs.Plan.{Plan, start}
+use Rattle.temporal.specs.Plan.{Plan, Terms, start}
 use Rattle.temporal.specs.Walk.{run, stationsOf, holds, isWalkTo, isWalk}
 use Rattle.temporal.specs.Definition3.{isPath000}
 use Rattle.temporal.specs.Shortest.{shortestWalks, shortestPaths}
@@ -71,8 +71,8 @@ pub record PairTold (p : Plan) (s z : ℕ) (x : PairValues) (b : PairBuffers) : 
 -- Demand 2, for every call of reach and of pair that its contract allows and that is not refused.
 pub record Demand2 : Type 0 where
   pub of-reach :
-      (bs : List ℕ) (n t s : ℕ) (old new : ReachTables) (r : ReachAnswer) →
-      reachOutcome r new ≡ reach bs n t s old → reachNumber r ≡ 0 → ReachTold (planOf bs n t) s new
+      (bs : List ℕ) (n t : ℕ) (terms : Terms) (s : ℕ) (old new : ReachTables) (r : ReachAnswer) →
+      reachOutcome r new ≡ reach bs n t terms s old → reachNumber r ≡ 0 → ReachTold (planOf bs n t terms) s new
   pub of-pair :
-      (bs : List ℕ) (n t s z : ℕ) (old new : PairBuffers) (r : PairAnswer) →
-      pairOutcome r new ≡ pair bs n t s z old → pairNumber r ≡ 0 → PairTold (planOf bs n t) s z (pairValues r) new
+      (bs : List ℕ) (n t : ℕ) (terms : Terms) (s z : ℕ) (old new : PairBuffers) (r : PairAnswer) →
+      pairOutcome r new ≡ pair bs n t terms s z old → pairNumber r ≡ 0 → PairTold (planOf bs n t terms) s z (pairValues r) new

@@ -7,7 +7,7 @@ use mathlib.Core.Bool.{Bool, cond}
 use mathlib.Core.Logic.{by-cases}
 use mathlib.Core.List.{List, []}
 use lib.ListN.{length}
-use Rattle.temporal.specs.Plan.{Plan, Appearance, start}
+use Rattle.temporal.specs.Plan.{Plan, Terms, Appearance, start}
 use Rattle.temporal.specs.Walk.{endsIn}
 use Rattle.temporal.specs.Shortest.{ofHops}
 use Rattle.temporal.specs.Bytes.{planOf}
@@ -34,6 +34,6 @@ walks-few p g s h t there =
     omega arith))
 
 -- an accepted plan has few slots
-pub few-slots : (bs : List ℕ) (n t : ℕ) → planFault bs n t ≡ 0 → planOf bs n t .slots < 65535
+pub few-slots : (bs : List ℕ) (n t : ℕ) (terms : Terms) → planFault bs n t ≡ 0 → planOf bs n t terms .slots < 65535
 unfolding planOf
-few-slots bs n t ok = let a = accepted bs n t ok .slots in omega arith
+few-slots bs n t terms ok = let a = accepted bs n t ok .slots in omega arith

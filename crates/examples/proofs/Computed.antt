@@ -12,7 +12,7 @@ use Rattle.temporal.specs.Walk.{isPath}
 use Rattle.temporal.specs.Shortest.{hops, count, throughIn, through}
 use Rattle.temporal.specs.Load.{load}
 use Rattle.temporal.specs.Bytes.{planOf}
-use Rattle.temporal.specs.Cause.{cause, first, planCauses, pairCauses, stationCauses}
+use Rattle.temporal.specs.Cause.{cause, first, wrongTurnaround, planCauses, pairCauses, stationCauses}
 use Rattle.temporal.specs.Outcome.{ReachTables, entered, over, short, places, workSize, appearanceTable, stationTable, reached, reach}
 use Rattle.temporal.specs.OutcomePair.{paired, pair, loaded, loads}
 use Rattle.temporal.specs.Cursor.{Reply, sameNumbers, Operation, indexIn, move}
@@ -21,18 +21,18 @@ use Rattle.temporal.proofs.EnteredLaws.{unless-none}
 use Rattle.temporal.proofs.FewLaws.{mostLists, few-walks, few-anywhere}
 use Rattle.temporal.proofs.GrownLaws.{grownWalks, grownPaths, walks-grown, paths-grown, pairsBy, loadBy, pairs-by, load-by}
 use Rattle.examples.specs.Questions.{PlanBytes, station, appearance, walks, complete, throughs, gives, loadsOf, sevens}
-use Rattle.examples.specs.Questions.{questionOf, reachedFrom, sameLists, sameReply}
+use Rattle.examples.specs.Questions.{termsOf, questionOf, reachedFrom, sameLists, sameReply}
 use Rattle.examples.specs.Table.{right}
 
 module _ (g : PlanBytes) where
   abbrev p : Plan
-  p = planOf (g .bytes) (g .stations) (g .slots)
+  p = planOf (g .bytes) (g .stations) (g .slots) (termsOf g)
 
   module _ (few : mostLists p ≤ 18446744073709551615) where
     -- ---- reach
 
     module _ (s v : ℕ)
-        (free : first (planCauses (g .bytes) (g .stations) (g .slots) ++ stationCauses (g .stations) s
+        (free : first (planCauses (g .bytes) (g .stations) (g .slots) ++ cause 12 (wrongTurnaround (termsOf g)) ∷ stationCauses (g .stations) s
         (short (places (g .stations) (g .slots)) (sevens (places (g .stations) (g .slots))) ||
         short (places (g .stations) (g .slots)) (sevens (places (g .stations) (g .slots))) ||
         (short (g .stations) (sevens (g .stations)) || short (g .stations) (sevens (g .stations))))) ≡ 0)
@@ -96,7 +96,7 @@ module _ (g : PlanBytes) where
 
     pub throughs-right :
         (s z : ℕ) (l : List ℕ) →
-        first (planCauses (g .bytes) (g .stations) (g .slots) ++ pairCauses (g .stations) s z
+        first (planCauses (g .bytes) (g .stations) (g .slots) ++ pairCauses (termsOf g) (g .stations) s z
         (short (g .stations) (sevens (g .stations)) ||
         short (workSize (g .stations) (g .slots)) (sevens (workSize (g .stations) (g .slots))))) ≡ 0 →
         sameNumbers (over (map (throughIn p s z (grownPaths p s z)) (below (g .stations))) (sevens (g .stations))) l ≡ true →
@@ -126,7 +126,7 @@ module _ (g : PlanBytes) where
 
     pub loads-right :
         (ps ls : List ℕ) →
-        first (planCauses (g .bytes) (g .stations) (g .slots) ++ cause 8
+        first (planCauses (g .bytes) (g .stations) (g .slots) ++ cause 12 (wrongTurnaround (termsOf g)) ∷ cause 8
         (short (g .stations) (sevens (g .stations)) || (short (g .stations) (sevens (g .stations)) ||
         short (workSize (g .stations) (g .slots)) (sevens (workSize (g .stations) (g .slots))))) ∷ []) ≡ 0 →
         (sameNumbers

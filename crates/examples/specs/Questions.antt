@@ -6,15 +6,17 @@ use mathlib.Core.Bool.{Bool, true, false, _&&_}
 use mathlib.Core.List.{List, [], _∷_}
 use lib.Dec.{eqb}
 use lib.ListN.{replicate}
+use Rattle.temporal.specs.Plan.{Terms, turning}
 use Rattle.temporal.specs.Outcome.{ReachTables, places, reach}
 use Rattle.temporal.specs.Cursor.{Reply, path, no-path, last-path, refused, sameNumbers, Operation}
 use Rattle.temporal.specs.FirstNext.{Question}
 
--- a plan's bytes with its numbers of stations and slots
+-- a plan's bytes with its numbers of stations and slots, and the turnaround (document 02, C-17)
 pub record PlanBytes : Type 0 where
   pub bytes : List ℕ
   pub stations : ℕ
   pub slots : ℕ
+  pub turnaround : ℕ
 
 -- plan A of document 01, doubled (document 02, C-16): each contact is a record for each direction, in the plan's order
 abbrev pub planA : PlanBytes
@@ -29,19 +31,24 @@ planA =
           0x00 ∷ 0x04 ∷ 0x00 ∷ 0x03 ∷ 0x00 ∷ 0x04 ∷ 0x00 ∷ 0x04 ∷ 0x00 ∷ 0x04 ∷ 0x00 ∷ 0x03 ∷ [];
       stations = 5;
       slots = 4;
+      turnaround = 1;
     }
 
+-- plan A where a station needs two slots between hearing and sending on (document 02, C-17)
+abbrev pub slowA : PlanBytes
+slowA = record { bytes = planA .bytes; stations = 5; slots = 4; turnaround = 2 }
+
 abbrev pub emptyPlan : PlanBytes
-emptyPlan = record { bytes = []; stations = 1; slots = 1 }
+emptyPlan = record { bytes = []; stations = 1; slots = 1; turnaround = 1 }
 
 -- the record (1, 0, 1) twice
 abbrev pub repeated : PlanBytes
 repeated =
-    record { bytes = 0 ∷ 1 ∷ 0 ∷ 0 ∷ 0 ∷ 1 ∷ 0 ∷ 1 ∷ 0 ∷ 0 ∷ 0 ∷ 1 ∷ []; stations = 2; slots = 1 }
+    record { bytes = 0 ∷ 1 ∷ 0 ∷ 0 ∷ 0 ∷ 1 ∷ 0 ∷ 1 ∷ 0 ∷ 0 ∷ 0 ∷ 1 ∷ []; stations = 2; slots = 1; turnaround = 1 }
 
 -- the record (1, 1, 1)
 abbrev pub withItself : PlanBytes
-withItself = record { bytes = 0 ∷ 1 ∷ 0 ∷ 1 ∷ 0 ∷ 1 ∷ []; stations = 2; slots = 1 }
+withItself = record { bytes = 0 ∷ 1 ∷ 0 ∷ 1 ∷ 0 ∷ 1 ∷ []; stations = 2; slots = 1; turnaround = 1 }
 
 -- the contacts (1, 0, 1) and (1, 1, 2), doubled; two slots, so that two hops are tried
 abbrev pub sameSlot : PlanBytes
@@ -52,11 +59,26 @@ sameSlot =
           0 ∷ 1 ∷ 0 ∷ 1 ∷ 0 ∷ 2 ∷ 0 ∷ 1 ∷ 0 ∷ 2 ∷ 0 ∷ 1 ∷ [];
       stations = 3;
       slots = 2;
+      turnaround = 1;
     }
 
 -- the record (1, 0, 1) alone
 abbrev pub single : PlanBytes
-single = record { bytes = 0 ∷ 1 ∷ 0 ∷ 0 ∷ 0 ∷ 1 ∷ []; stations = 2; slots = 1 }
+single = record { bytes = 0 ∷ 1 ∷ 0 ∷ 0 ∷ 0 ∷ 1 ∷ []; stations = 2; slots = 1; turnaround = 1 }
+
+-- the same with the longest turnaround (document 02, C-17)
+abbrev pub slowest : PlanBytes
+slowest = record { bytes = single .bytes; stations = 2; slots = 1; turnaround = 16 }
+
+-- the same with a turnaround below 1, and one above 16
+abbrev pub without : PlanBytes
+without = record { bytes = single .bytes; stations = 2; slots = 1; turnaround = 0 }
+
+abbrev pub tooSlow : PlanBytes
+tooSlow = record { bytes = single .bytes; stations = 2; slots = 1; turnaround = 17 }
+
+abbrev pub termsOf : PlanBytes → Terms
+termsOf g = turning (g .turnaround)
 
 -- A question with its answer, for each operation; the comment says what the numbers are.
 pub data Example : Type 0 where
@@ -75,11 +97,11 @@ sevens k = replicate k 7
 
 abbrev pub questionOf : PlanBytes → ℕ → ℕ → Question
 questionOf g s z =
-    record { bytes = g .bytes; stations = g .stations; slots = g .slots; source = s; destination = z }
+    record { bytes = g .bytes; stations = g .stations; slots = g .slots; terms = termsOf g; source = s; destination = z }
 
 unfoldable pub reachedFrom : PlanBytes → ℕ → ReachTables
 reachedFrom g s =
-    reach (g .bytes) (g .stations) (g .slots) s
+    reach (g .bytes) (g .stations) (g .slots) (termsOf g) s
     (record {
       hopsTable = sevens (places (g .stations) (g .slots));
       countTable = sevens (places (g .stations) (g .slots));

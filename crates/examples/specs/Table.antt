@@ -17,11 +17,15 @@ use Rattle.temporal.specs.Cursor.{path, no-path, last-path, refused, sameNumber
 use Rattle.temporal.specs.FirstNext.{listOf, wayAnswer}
 use Rattle.examples.specs.Questions.{
   planA,
+  slowA,
   emptyPlan,
   repeated,
   withItself,
   sameSlot,
   single,
+  slowest,
+  without,
+  tooSlow,
   Example,
   checks,
   station,
@@ -32,6 +36,7 @@ use Rattle.examples.specs.Questions.{
   gives,
   loadsOf,
   sevens,
+  termsOf,
   questionOf,
   reachedFrom,
   sameLists,
@@ -47,19 +52,19 @@ right (appearance g s v t h c) =
     eqb (getD (reachedFrom g s .hopsTable) (v * (g .slots + 1) + t) 7) h &&
     eqb (getD (reachedFrom g s .countTable) (v * (g .slots + 1) + t) 7) c
 right (walks g s v t l paths) =
-    sameLists (shortestWalks (planOf (g .bytes) (g .stations) (g .slots)) s v t) l &&
-    sameLists (select (isPath (planOf (g .bytes) (g .stations) (g .slots)) s v) l) paths
+    sameLists (shortestWalks (planOf (g .bytes) (g .stations) (g .slots) (termsOf g)) s v t) l &&
+    sameLists (select (isPath (planOf (g .bytes) (g .stations) (g .slots) (termsOf g)) s v) l) paths
 right (complete g s z l) = sameLists (listOf (questionOf g s z)) l
 right (throughs g s z l) =
     sameNumbers
-    (pair (g .bytes) (g .stations) (g .slots) s z
+    (pair (g .bytes) (g .stations) (g .slots) (termsOf g) s z
     (record { throughTable = sevens (g .stations); work = sevens (workSize (g .stations) (g .slots)) })
     .buffers .throughTable) l
 right (gives o g s z way r after) =
     let m = wayAnswer o (questionOf g s z) way (sevens (workSize (g .stations) (g .slots))) in
     sameReply (m .reply) r && sameNumbers (m .way) after
 right (loadsOf g ps ls) =
-    let m = loads (g .bytes) (g .stations) (g .slots)
+    let m = loads (g .bytes) (g .stations) (g .slots) (termsOf g)
     (record {
       pairsTable = sevens (g .stations);
       loadTable = sevens (g .stations);
@@ -72,7 +77,8 @@ unfoldable pub allRight : List Example → Bool
 allRight [] = true
 allRight (e ∷ l) = right e && allRight l
 
--- P1 to P10, in turn; plan A itself is accepted. Last a single record: it leads from its sender to its hearer, and not back.
+-- P1 to P10, in turn; plan A itself is accepted. A single record: it leads from its sender to its hearer, and not back.
+-- Last turnarounds: 2 with plan A, the longest, which the first leg does not wait for, and 0 and 17, which are refused before the stations.
 abbrev pub table : List Example
 table =
     station emptyPlan 0 0 0 1 ∷  -- P1
@@ -95,4 +101,9 @@ table =
     loadsOf planA (0 ∷ 2 ∷ 2 ∷ 4 ∷ 0 ∷ []) (0 ∷ 2863311530 ∷ 5726623060 ∷ 17179869184 ∷ 0 ∷ []) ∷  -- P9
     gives first-way sameSlot 0 2 (9 ∷ 9 ∷ []) no-path (9 ∷ 9 ∷ []) ∷  -- P10
     gives first-way single 0 1 (9 ∷ []) (path 1) (0 ∷ []) ∷  -- C-16
-    gives first-way single 1 0 (9 ∷ []) no-path (9 ∷ []) ∷ []
+    gives first-way single 1 0 (9 ∷ []) no-path (9 ∷ []) ∷
+    gives first-way slowA 0 4 (9 ∷ 9 ∷ 9 ∷ 9 ∷ []) no-path (9 ∷ 9 ∷ 9 ∷ 9 ∷ []) ∷  -- C-17
+    complete slowA 0 3 ((1 ∷ 8 ∷ []) ∷ []) ∷
+    gives first-way slowest 0 1 (9 ∷ []) (path 1) (0 ∷ []) ∷
+    gives first-way without 0 9 [] (refused 12) [] ∷
+    gives next-way tooSlow 0 9 [] (refused 12) [] ∷ []

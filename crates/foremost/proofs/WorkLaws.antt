@@ -10,6 +10,7 @@ use native.Mathlib.Decide.{ℕ-discrete}
 use borrow.Author.Tests.{eq-eqb, ne-eqb}
 use lib.Dec.{eqb}
 use lib.ListN.{length, getD, drop, replicate}
+use Rattle.temporal.specs.Plan.{Terms}
 use Rattle.temporal.specs.Lists.{below}
 use Rattle.temporal.specs.Bytes.{planOf}
 use Rattle.temporal.specs.Shortest.{hops, count, throughIn}
@@ -36,64 +37,67 @@ use Rattle.pass.specs.Column.{blockColumn}
 use Rattle.pass.specs.declared.Ended.{Ended}
 use Rattle.pass.specs.declared.Ended.the-variants as ended
 use Rattle.pass.specs.PassedColumns.{ColumnsReady, StationMet, EndedAs, ColumnsPassed, Overfull}
+use Rattle.pass.specs.Passed.{waiting, areaSize}
+use Rattle.pass.proofs.SizeLaws.{small-fits}
 use Rattle.pass.proofs.UseLaws.{whole-appearances}
 use Rattle.pair.specs.Answer.{pairBuffers}
 use Rattle.pair.specs.Throughs.{PairReady, ThroughsReady, Throughs}
-use Rattle.pair.proofs.BlockLaws.{area-fits}
 use Rattle.pair.proofs.BeginLaws.{begins-plan, begins-call, begins-works}
 use Rattle.foremost.specs.Work.{metAppearance, AppearancesReady, Appearances, Foremosts, slotValue}
 
 -- ---- cause 9
 
-module _ (bs : List ℕ) (n t s : ℕ) (old : List ℕ) (ready : AppearancesReady bs n t s old) where
+module _ (bs : List ℕ) (n t : ℕ) (terms : Terms) (s : ℕ) (old : List ℕ) (ready : AppearancesReady bs n t terms s old) where
   -- the pass can be made
-  pub appearances-pass : ColumnsReady bs n t s n 0 old
+  pub appearances-pass : ColumnsReady bs n t terms s n 0 old
   appearances-pass =
       let inside = ready .source in
-      let fits = ready .fits in
-      record { accepted = ready .accepted; source = ready .source; other = λ q. omega arith; fits = omega arith }
+      record {
+        accepted = ready .accepted;
+        turns = ready .turns;
+        source = ready .source;
+        other = λ q. omega arith;
+        fits = ready .fits;
+      }
 
   -- and says whether an appearance has too many
   pub appearances-met :
-      (new : List ℕ) (r : Bool) (e : Ended) → ColumnsPassed bs n t s n (blockColumn 0 0) 0 old new e → r ≡ metAppearance e →
-      Appearances bs n t s old new r
+      (new : List ℕ) (r : Bool) (e : Ended) → ColumnsPassed bs n t terms s n (blockColumn 0 0) 0 old new e → r ≡ metAppearance e →
+      Appearances bs n t terms s old new r
   unfolding metAppearance EndedAs
   appearances-met new r e x is =
       record {
         met = is ∙ decide e (x .ends);
-        beyond = rw size at (x .beyond);
+        beyond = x .beyond;
         same-length = x .same-length;
       }
     where
-      size : 4 * n + 2 * n * 0 ≡ 4 * n
-      size = omega arith
-
       decide :
-          (e : Ended) → EndedAs bs n t s n (blockColumn 0 0) 0 new e →
-          metAppearance e ≡ appearanceTooMany (planOf bs n t) s
-      decide (ended.Settled e) y = sym (whole-appearances bs n t s (ready .accepted) (ready .source) (blockColumn 0 0) 0 new e y)
+          (e : Ended) → EndedAs bs n t terms s n (blockColumn 0 0) 0 new e →
+          metAppearance e ≡ appearanceTooMany (planOf bs n t terms) s
+      decide (ended.Settled e) y = sym (whole-appearances bs n t terms s (ready .accepted) (ready .source) (blockColumn 0 0) 0 new e y)
       decide ended.StationTooMany y = sym (y .appearances)
       decide ended.AppearanceTooMany y = sym y
 
 -- ---- the through counts
 
-module _ (bs : List ℕ) (n t s z : ℕ) (table area : List ℕ) (ready : PairReady bs n t s z table area) where
-  room : 4 * n ≤ workSize n t
-  room = let fits = area-fits n t 0 (omega arith) in omega arith
+module _ (bs : List ℕ) (n t : ℕ) (terms : Terms) (s z : ℕ) (table area : List ℕ) (ready : PairReady bs n t terms s z table area) where
+  room : areaSize n (waiting t terms) 0 ≤ workSize n t
+  room = small-fits n t terms 0 (accepted bs n t (ready .accepted) .some-station) (omega arith)
 
   -- cause 9 can be looked for
-  pub whole-area : AppearancesReady bs n t s area
+  pub whole-area : AppearancesReady bs n t terms s area
   whole-area =
       let fits = room in
       let lent = ready .area in
-      record { accepted = ready .accepted; source = ready .source; fits = omega arith }
+      record { accepted = ready .accepted; turns = ready .turns; source = ready .source; fits = omega arith }
 
-  module _ (mid : List ℕ) (b : Bool) (a : Appearances bs n t s area mid b) where
+  module _ (mid : List ℕ) (b : Bool) (a : Appearances bs n t terms s area mid b) where
     area-same : drop (workSize n t) mid ≡ drop (workSize n t) area
-    area-same = later-drop (4 * n) (workSize n t) mid area room (a .beyond)
+    area-same = later-drop (areaSize n (waiting t terms) 0) (workSize n t) mid area room (a .beyond)
 
     -- an appearance with too many
-    pub foremosts-over : b ≡ true → Foremosts bs n t s z table area table mid 0
+    pub foremosts-over : b ≡ true → Foremosts bs n t terms s z table area table mid 0
     foremosts-over e =
         record {
           over = λ q. sym (a .met) ∙ e;
@@ -109,13 +113,14 @@ module _ (bs : List ℕ) (n t s z : ℕ) (table area : List ℕ) (ready : PairRe
         }
 
     -- else the through counts can be counted
-    pub foremosts-ready : ThroughsReady bs n t s z z table mid
+    pub foremosts-ready : ThroughsReady bs n t terms s z z table mid
     foremosts-ready =
         let same = a .same-length in
         let lent = ready .area in
         record {
           ready = record {
             accepted = ready .accepted;
+            turns = ready .turns;
             source = ready .source;
             destination = ready .destination;
             different = ready .different;
@@ -126,8 +131,8 @@ module _ (bs : List ℕ) (n t s z : ℕ) (table area : List ℕ) (ready : PairRe
         }
 
     pub foremosts-counted :
-        b ≡ false → (table′ area′ : List ℕ) (r : ℕ) → Throughs bs n t s z z table mid table′ area′ r →
-        Foremosts bs n t s z table area table′ area′ r
+        b ≡ false → (table′ area′ : List ℕ) (r : ℕ) → Throughs bs n t terms s z z table mid table′ area′ r →
+        Foremosts bs n t terms s z table area table′ area′ r
     unfolding foremostThrough
     foremosts-counted e table′ area′ r f =
         record {
@@ -137,15 +142,15 @@ module _ (bs : List ℕ) (n t s z : ℕ) (table area : List ℕ) (ready : PairRe
           slot = λ q. f .settled q .slot;
           pair-hops = λ q. f .settled q .pair-hops ∙ ap hops (whole q);
           pair-count = λ q. f .settled q .pair-count ∙ ap count (whole q);
-          counted = λ q v h. f .counted q v h ∙ ap (λ l. throughIn (planOf bs n t) s z l v) (whole q);
+          counted = λ q v h. f .counted q v h ∙ ap (λ l. throughIn (planOf bs n t terms) s z l v) (whole q);
           table-beyond = f .table-beyond;
           table-length = f .table-length;
           area-beyond = f .area-beyond ∙ area-same;
           area-length = f .area-length ∙ a .same-length;
         }
       where
-        whole : r ≢ 0 → walksBy (planOf bs n t) s z r ≡ foremostPaths (planOf bs n t) s z
-        whole q = ap (walksBy (planOf bs n t) s z) (f .settled q .slot) ∙ foremost-by-arrival bs n t (ready .accepted) s z
+        whole : r ≢ 0 → walksBy (planOf bs n t terms) s z r ≡ foremostPaths (planOf bs n t terms) s z
+        whole q = ap (walksBy (planOf bs n t terms) s z) (f .settled q .slot) ∙ foremost-by-arrival bs n t terms (ready .accepted) s z
 
 -- ---- the slot
 
@@ -159,15 +164,15 @@ slot-some slot h d = sym (rw (ne-eqb h 65535 d))
 
 -- ---- the answer
 
-module _ (bs : List ℕ) (n t s z : ℕ) (table area : List ℕ) (ready : PairReady bs n t s z table area)
-    (table′ area′ : List ℕ) (r : ℕ) (f : Foremosts bs n t s z table area table′ area′ r) where
+module _ (bs : List ℕ) (n t : ℕ) (terms : Terms) (s z : ℕ) (table area : List ℕ) (ready : PairReady bs n t terms s z table area)
+    (table′ area′ : List ℕ) (r : ℕ) (f : Foremosts bs n t terms s z table area table′ area′ r) where
   -- too many: both are cleared
   pub foremost-refused :
       r ≡ 0 → (table″ area″ : List ℕ) → table″ ≡ over (replicate n 0) table′ →
       area″ ≡ over (replicate (workSize n t) 0) area′ →
       _≡_ {A = Outcome ForemostValues PairBuffers}
       (record { number = 9; values = record { slot = 0; hops = 0; count = 0 }; buffers = pairBuffers table″ area″ })
-      (foremostPaired (planOf bs n t) s z (pairBuffers table area))
+      (foremostPaired (planOf bs n t terms) s z (pairBuffers table area))
   unfolding foremostPaired cleared planOf
   foremost-refused e table″ area″ a b =
       let many = f .over e in
@@ -176,25 +181,25 @@ module _ (bs : List ℕ) (n t s z : ℕ) (table area : List ℕ) (ready : PairRe
       rw many (cc (a, b, c, d))
 
   -- the slot of the answer is the arrival
-  arrival-is : r ≢ 0 → slotValue r (hops (foremostPaths (planOf bs n t) s z)) ≡ arrival (planOf bs n t) s z
+  arrival-is : r ≢ 0 → slotValue r (hops (foremostPaths (planOf bs n t terms) s z)) ≡ arrival (planOf bs n t terms) s z
   unfolding planOf
-  arrival-is d = go (arrival-or-never (planOf bs n t) (slots-within bs n t (ready .accepted)) s z)
+  arrival-is d = go (arrival-or-never (planOf bs n t terms) (slots-within bs n t terms (ready .accepted)) s z)
     where
       go :
-          Arrival (planOf bs n t) (slots-within bs n t (ready .accepted)) s z →
-          slotValue r (hops (foremostPaths (planOf bs n t) s z)) ≡ arrival (planOf bs n t) s z
+          Arrival (planOf bs n t terms) (slots-within bs n t terms (ready .accepted)) s z →
+          slotValue r (hops (foremostPaths (planOf bs n t terms) s z)) ≡ arrival (planOf bs n t terms) s z
       go (never e none-there) =
-          sym (slot-none r (hops (foremostPaths (planOf bs n t) s z)) (hops-empty _ empty)) ∙ sym e
+          sym (slot-none r (hops (foremostPaths (planOf bs n t terms) s z)) (hops-empty _ empty)) ∙ sym e
         where
-          empty : foremostPaths (planOf bs n t) s z ≡ []
-          empty = foremost-none (planOf bs n t) (slots-within bs n t (ready .accepted)) s z none-there
+          empty : foremostPaths (planOf bs n t terms) s z ≡ []
+          empty = foremost-none (planOf bs n t terms) (slots-within bs n t terms (ready .accepted)) s z none-there
       go (arrives h reached) =
           let slot = f .slot d in
-          let first : r ≡ arrival (planOf bs n t) s z = omega arith in
-          sym (slot-some r (hops (foremostPaths (planOf bs n t) s z)) (λ many. absurd (some-path many))) ∙ first
+          let first : r ≡ arrival (planOf bs n t terms) s z = omega arith in
+          sym (slot-some r (hops (foremostPaths (planOf bs n t terms) s z)) (λ many. absurd (some-path many))) ∙ first
         where
-          some-path : hops (foremostPaths (planOf bs n t) s z) ≡ 65535 → ⊥
-          some-path many = foremost-few bs n t (ready .accepted) s z reached many
+          some-path : hops (foremostPaths (planOf bs n t terms) s z) ≡ 65535 → ⊥
+          some-path many = foremost-few bs n t terms (ready .accepted) s z reached many
 
   -- counted: the table has the through counts, the work area is cleared
   pub foremost-counted :
@@ -202,7 +207,7 @@ module _ (bs : List ℕ) (n t s z : ℕ) (table area : List ℕ) (ready : PairRe
       area″ ≡ over (replicate (workSize n t) 0) area′ →
       _≡_ {A = Outcome ForemostValues PairBuffers}
       (record { number = 0; values = record { slot = e; hops = h; count = k }; buffers = pairBuffers table′ area″ })
-      (foremostPaired (planOf bs n t) s z (pairBuffers table area))
+      (foremostPaired (planOf bs n t terms) s z (pairBuffers table area))
   unfolding foremostPaired cleared planOf
   foremost-counted q e h k area″ i a b c =
       let few = f .few q in
@@ -210,15 +215,15 @@ module _ (bs : List ℕ) (n t s z : ℕ) (table area : List ℕ) (ready : PairRe
       let pc = b ∙ f .pair-count q in
       let ps = i ∙ ap (slotValue r) ph ∙ arrival-is q in
       let d = fill-beyond (workSize n t) 0 area′ area (f .area-beyond) in
-      let th : table′ ≡ over (map (foremostThrough (planOf bs n t) s z) (below n)) table =
-      over-by n table′ (map (foremostThrough (planOf bs n t) s z) (below n)) table (length-made _ n)
+      let th : table′ ≡ over (map (foremostThrough (planOf bs n t terms) s z) (below n)) table =
+      over-by n table′ (map (foremostThrough (planOf bs n t terms) s z) (below n)) table (length-made _ n)
       (let size = f .table-length in let tables = ready .table in omega arith)
       (λ v inside. f .counted q v inside ∙ sym (getD-made _ n v inside)) (f .table-beyond) in
       rw few (cc (ps, ph, pc, c, d, th))
 
 -- ---- how the operation begins
 
-module _ (bs : List ℕ) (n t s z : ℕ) (table area : List ℕ) where
+module _ (bs : List ℕ) (n t : ℕ) (terms : Terms) (s z : ℕ) (table area : List ℕ) where
   abbrev zeros : ForemostValues
   zeros = record { slot = 0; hops = 0; count = 0 }
 
@@ -227,26 +232,26 @@ module _ (bs : List ℕ) (n t s z : ℕ) (table area : List ℕ) where
       (r : CheckAnswer) (f : PlanFault) → checkNumber r ≡ planFault bs n t → r ≡ check-answer.Refused f →
       _≡_ {A = Outcome ForemostValues PairBuffers}
       (record { number = planNumber f; values = zeros; buffers = pairBuffers table area })
-      (foremost bs n t s z (pairBuffers table area))
+      (foremost bs n t terms s z (pairBuffers table area))
   unfolding foremost
-  foremost-plan = begins-plan bs n t s z table area zeros (foremostPaired (planOf bs n t) s z (pairBuffers table area))
+  foremost-plan = begins-plan bs n t terms s z table area zeros (foremostPaired (planOf bs n t terms) s z (pairBuffers table area))
 
   module _ (ok : planFault bs n t ≡ 0) (r : CallCheck)
-      (answer : callCheckNumber r ≡ pairCallFault n t s z (length table) n (length area)) where
-    -- 6, 7 or 8
+      (answer : callCheckNumber r ≡ pairCallFault n t terms s z (length table) n (length area)) where
+    -- 12, 6, 7 or 8
     pub foremost-call :
         (f : CallFault) → r ≡ call-check.Refused f →
         _≡_ {A = Outcome ForemostValues PairBuffers}
         (record { number = callNumber f; values = zeros; buffers = pairBuffers table area })
-        (foremost bs n t s z (pairBuffers table area))
+        (foremost bs n t terms s z (pairBuffers table area))
     unfolding foremost
     foremost-call =
-        begins-call bs n t s z table area zeros (foremostPaired (planOf bs n t) s z (pairBuffers table area)) ok r answer
+        begins-call bs n t terms s z table area zeros (foremostPaired (planOf bs n t terms) s z (pairBuffers table area)) ok r answer
 
     -- none of them
     pub foremost-works :
         r ≡ call-check.Free →
-        foremost bs n t s z (pairBuffers table area) ≡ foremostPaired (planOf bs n t) s z (pairBuffers table area)
+        foremost bs n t terms s z (pairBuffers table area) ≡ foremostPaired (planOf bs n t terms) s z (pairBuffers table area)
     unfolding foremost
     foremost-works =
-        begins-works bs n t s z table area zeros (foremostPaired (planOf bs n t) s z (pairBuffers table area)) ok r answer
+        begins-works bs n t terms s z table area zeros (foremostPaired (planOf bs n t terms) s z (pairBuffers table area)) ok r answer

@@ -1,6 +1,7 @@
 // Document 02's operation on the shortest foremost paths of a pair (C-14), over the pass: the earliest slot in which a reading
 // arrives, the fewest hops of a path that arrives then, how many there are, and how many have each station inside.
 ghost use mathlib.Core.Path.{_≡_};
+ghost use Rattle.temporal.specs.Plan.{turning};
 ghost use Rattle.temporal.specs.Bytes.{planOf};
 ghost use Rattle.temporal.specs.Cause.{planFault};
 ghost use Rattle.temporal.specs.OutcomeForemost.{foremostPaired, foremost};
@@ -38,11 +39,18 @@ fn met_appearance(ended: Ended) -> bool
 }
 
 // Whether some appearance has over 2^64 - 1 shortest walks from s: a pass through every slot, without rows.
-fn appearance_too_many(work: &mut [u64], plan: &[u8], n: usize, t: usize, s: usize) -> bool
-    requires { ⌜ AppearancesReady (now plan) n t s (now work) ⌝ }
-    ensures { λ r. ⌜ Appearances (now (plan .entry)) n t s (now (work .entry)) (now (work .exit)) r ⌝ }
+fn appearance_too_many(
+    work: &mut [u64],
+    plan: &[u8],
+    n: usize,
+    t: usize,
+    g: usize,
+    s: usize,
+) -> bool
+    requires { ⌜ AppearancesReady (now plan) n t (turning g) s (now work) ⌝ }
+    ensures { λ r. ⌜ Appearances (now (plan .entry)) n t (turning g) s (now (work .entry)) (now (work .exit)) r ⌝ }
 {
-    let ended = pass::pass_until(work, plan, n, t, s, 0, 0, n);
+    let ended = pass::pass_until(work, plan, n, t, g, s, 0, 0, n);
     met_appearance(ended)
 }
 
@@ -54,17 +62,18 @@ fn foremost_throughs(
     plan: &[u8],
     n: usize,
     t: usize,
+    g: usize,
     s: usize,
     z: usize,
 ) -> usize
-    requires { ⌜ PairReady (now plan) n t s z (now through) (now work) ⌝ }
-    ensures { λ r. ⌜ Foremosts (now (plan .entry)) n t s z
+    requires { ⌜ PairReady (now plan) n t (turning g) s z (now through) (now work) ⌝ }
+    ensures { λ r. ⌜ Foremosts (now (plan .entry)) n t (turning g) s z
         (now (through .entry)) (now (work .entry)) (now (through .exit)) (now (work .exit)) r ⌝ }
 {
-    if appearance_too_many(work, plan, n, t, s) {
+    if appearance_too_many(work, plan, n, t, g, s) {
         return 0;
     }
-    pair::throughs(through, work, plan, n, t, s, z, z)
+    pair::throughs(through, work, plan, n, t, g, s, z, z)
 }
 
 // The slot of arrival, from the slot in which the pass ended: 65535 where there is no path.
@@ -77,20 +86,21 @@ fn slot_value(slot: usize, hops: u64) -> u64
     slot as u64
 }
 
-// The operation once 1 to 8 are excluded.
+// The operation once 1 to 8 and 12 are excluded.
 fn foremost_work(
     through: &mut [u64],
     work: &mut [u64],
     plan: &[u8],
     n: usize,
     t: usize,
+    g: usize,
     s: usize,
     z: usize,
 ) -> ForemostAnswer
-    requires { ⌜ PairReady (now plan) n t s z (now through) (now work) ⌝ }
-    ensures { λ r. ⌜ foremostOutcome r (pairBuffers (now (through .exit)) (now (work .exit))) ≡ foremostPaired (planOf (now (plan .entry)) n t) s z (pairBuffers (now (through .entry)) (now (work .entry))) ⌝ }
+    requires { ⌜ PairReady (now plan) n t (turning g) s z (now through) (now work) ⌝ }
+    ensures { λ r. ⌜ foremostOutcome r (pairBuffers (now (through .exit)) (now (work .exit))) ≡ foremostPaired (planOf (now (plan .entry)) n t (turning g)) s z (pairBuffers (now (through .entry)) (now (work .entry))) ⌝ }
 {
-    let slot = foremost_throughs(through, work, plan, n, t, s, z);
+    let slot = foremost_throughs(through, work, plan, n, t, g, s, z);
     if slot == 0 {
         memory::clear(through, n);
         memory::clear(work, 4 * (n * (t + 1)));
@@ -102,22 +112,23 @@ fn foremost_work(
     ForemostAnswer::Counted(slot_value(slot, hops), hops, count)
 }
 
-// The operation on an accepted plan: 6, 7 and 8, then the work.
+// The operation on an accepted plan: 12, 6, 7 and 8, then the work.
 fn foremost_accepted(
     through: &mut [u64],
     work: &mut [u64],
     plan: &[u8],
     n: usize,
     t: usize,
+    g: usize,
     s: usize,
     z: usize,
 ) -> ForemostAnswer
     requires { ⌜ planFault (now plan) n t ≡ 0 ⌝ }
-    ensures { λ r. ⌜ foremostOutcome r (pairBuffers (now (through .exit)) (now (work .exit))) ≡ foremost (now (plan .entry)) n t s z (pairBuffers (now (through .entry)) (now (work .entry))) ⌝ }
+    ensures { λ r. ⌜ foremostOutcome r (pairBuffers (now (through .exit)) (now (work .exit))) ≡ foremost (now (plan .entry)) n t (turning g) s z (pairBuffers (now (through .entry)) (now (work .entry))) ⌝ }
 {
-    let CallCheck::Refused(fault) = calls::pair_call(n, t, s, z, through.len(), n, work.len())
+    let CallCheck::Refused(fault) = calls::pair_call(n, t, g, s, z, through.len(), n, work.len())
     else {
-        return foremost_work(through, work, plan, n, t, s, z);
+        return foremost_work(through, work, plan, n, t, g, s, z);
     };
     ForemostAnswer::Refused(Fault::Call(fault))
 }
@@ -128,15 +139,16 @@ pub fn foremost(
     plan: &[u8],
     n: usize,
     t: usize,
+    g: usize,
     s: usize,
     z: usize,
     through: &mut [u64],
     work: &mut [u64],
 ) -> ForemostAnswer
-    ensures { λ r. ⌜ foremostOutcome r (pairBuffers (now (through .exit)) (now (work .exit))) ≡ foremost (now (plan .entry)) n t s z (pairBuffers (now (through .entry)) (now (work .entry))) ⌝ }
+    ensures { λ r. ⌜ foremostOutcome r (pairBuffers (now (through .exit)) (now (work .exit))) ≡ foremost (now (plan .entry)) n t (turning g) s z (pairBuffers (now (through .entry)) (now (work .entry))) ⌝ }
 {
     let CheckAnswer::Refused(fault) = plan::check(plan, n, t) else {
-        return foremost_accepted(through, work, plan, n, t, s, z);
+        return foremost_accepted(through, work, plan, n, t, g, s, z);
     };
     ForemostAnswer::Refused(Fault::Plan(fault))
 }

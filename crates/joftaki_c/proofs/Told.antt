@@ -27,7 +27,7 @@ use Rattle.temporal.specs.Cursor.{
   move,
 }
 use Rattle.temporal.specs.FirstNext.{Question, listOf, wayCauses, overflow, wayWork, wayAnswer}
-use Rattle.temporal.proofs.NumberLaws.{way-most, overflow-most}
+use Rattle.temporal.proofs.NumberLaws.{way-other, overflow-other}
 use Rattle.joftaki_c.specs.Code.{replyCode, replyHops}
 
 -- a reply is read off its number and its hops slot
@@ -42,7 +42,7 @@ abbrev Numbered : Reply → Type 0
 Numbered (path h) = Unit {0}
 Numbered no-path = Unit {0}
 Numbered last-path = Unit {0}
-Numbered (refused k) = (0 < k) × (k ≤ 10)
+Numbered (refused k) = (0 < k) × (k ≤ 12)
 
 numbered-told : (r : Reply) → Numbered r → Told r
 numbered-told (path h) s =
@@ -103,7 +103,7 @@ go-numbered first-way l at b = first-numbered l at b
 go-numbered next-way l at b = next-numbered l at b
 
 move-numbered :
-    (o : Operation) (k : ℕ) (l : List (List ℕ)) (at : Option ℕ) (b : List ℕ) → k ≤ 10 → Numbered (move o k l at b .reply)
+    (o : Operation) (k : ℕ) (l : List (List ℕ)) (at : Option ℕ) (b : List ℕ) → k ≤ 12 → Numbered (move o k l at b .reply)
 unfolding move stay
 move-numbered o k l at b h =
     unless-either (λ m. Numbered (m .reply)) k (λ j. stay (refused j) at b) (go o l at b) (λ some. (some, h))
@@ -115,5 +115,5 @@ unfolding wayAnswer wayWork
 told o q way work =
     numbered-told _
     (unless-either (λ a. Numbered (a .reply)) (first (wayCauses q (length way) (length work))) _ (wayWork o q way work)
-    (λ some. (some, omega (arith, way-most q (length way) (length work))))
-    (move-numbered o (overflow q) (listOf q) (indexIn (listOf q) way) way (omega (arith, overflow-most q))))
+    (λ some. (some, omega (arith, way-other q (length way) (length work) .most)))
+    (move-numbered o (overflow q) (listOf q) (indexIn (listOf q) way) way (omega (arith, overflow-other q .most))))

@@ -1,6 +1,7 @@
 // The operations for C: numbers as themselves, a slice as pointer and length, the papers' number as the answer (0: accepted),
 // and the values beside it in lent slots, 0 on refusal. include/joftaki.h declares them.
 ghost use mathlib.Core.Path.{_≡_};
+ghost use Rattle.temporal.specs.Plan.{turning};
 ghost use Rattle.temporal.specs.Cause.{planFault};
 ghost use Rattle.temporal.specs.Outcome.{reach, rowNumber};
 ghost use Rattle.temporal.specs.OutcomePair.{pair, loads, busiest};
@@ -52,15 +53,16 @@ pub extern "C" fn joftaki_reach(
     plan: &[u8],
     n: usize,
     t: usize,
+    g: usize,
     s: usize,
     hops: &mut [u16],
     counts: &mut [u64],
     station_hops: &mut [u16],
     station_counts: &mut [u64],
 ) -> u32
-    ensures { λ r. ⌜ answered r (lentTables (now (hops .exit)) (now (counts .exit)) (now («station_hops» .exit)) (now («station_counts» .exit))) ≡ reach (now (plan .entry)) n t s (lentTables (now (hops .entry)) (now (counts .entry)) (now («station_hops» .entry)) (now («station_counts» .entry))) ⌝ }
+    ensures { λ r. ⌜ answered r (lentTables (now (hops .exit)) (now (counts .exit)) (now («station_hops» .exit)) (now («station_counts» .exit))) ≡ reach (now (plan .entry)) n t (turning g) s (lentTables (now (hops .entry)) (now (counts .entry)) (now («station_hops» .entry)) (now («station_counts» .entry))) ⌝ }
 {
-    match reach::reach(plan, n, t, s, hops, counts, station_hops, station_counts) {
+    match reach::reach(plan, n, t, g, s, hops, counts, station_hops, station_counts) {
         ReachAnswer::Reached => 0,
         ReachAnswer::Refused(fault) => fault_code(fault),
     }
@@ -103,6 +105,7 @@ pub extern "C" fn joftaki_pair(
     plan: &[u8],
     n: usize,
     t: usize,
+    g: usize,
     s: usize,
     z: usize,
     hops: &mut usize,
@@ -110,9 +113,9 @@ pub extern "C" fn joftaki_pair(
     through: &mut [u64],
     work: &mut [u64],
 ) -> u32
-    ensures { λ r. ⌜ pairGiven r (now (hops .exit)) (now (count .exit)) (pairBuffers (now (through .exit)) (now (work .exit))) ≡ pair (now (plan .entry)) n t s z (pairBuffers (now (through .entry)) (now (work .entry))) ⌝ }
+    ensures { λ r. ⌜ pairGiven r (now (hops .exit)) (now (count .exit)) (pairBuffers (now (through .exit)) (now (work .exit))) ≡ pair (now (plan .entry)) n t (turning g) s z (pairBuffers (now (through .entry)) (now (work .entry))) ⌝ }
 {
-    match pair::pair(plan, n, t, s, z, through, work) {
+    match pair::pair(plan, n, t, g, s, z, through, work) {
         PairAnswer::Counted(h, c) => {
             *hops = h as usize;
             *count = c;
@@ -132,13 +135,14 @@ pub extern "C" fn joftaki_loads(
     plan: &[u8],
     n: usize,
     t: usize,
+    g: usize,
     pairs: &mut [u64],
     sums: &mut [u64],
     work: &mut [u64],
 ) -> u32
-    ensures { λ r. ⌜ answered r (loadBuffers (now (pairs .exit)) (now (sums .exit)) (now (work .exit))) ≡ loads (now (plan .entry)) n t (loadBuffers (now (pairs .entry)) (now (sums .entry)) (now (work .entry))) ⌝ }
+    ensures { λ r. ⌜ answered r (loadBuffers (now (pairs .exit)) (now (sums .exit)) (now (work .exit))) ≡ loads (now (plan .entry)) n t (turning g) (loadBuffers (now (pairs .entry)) (now (sums .entry)) (now (work .entry))) ⌝ }
 {
-    match loads::loads(plan, n, t, pairs, sums, work) {
+    match loads::loads(plan, n, t, g, pairs, sums, work) {
         LoadsAnswer::Loaded => 0,
         LoadsAnswer::Refused(fault) => fault_code(fault),
     }
@@ -150,12 +154,13 @@ pub extern "C" fn joftaki_busiest(
     plan: &[u8],
     n: usize,
     t: usize,
+    g: usize,
     station: &mut usize,
     work: &mut [u64],
 ) -> u32
-    ensures { λ r. ⌜ busiestGiven r (now (station .exit)) (now (work .exit)) ≡ busiest (now (plan .entry)) n t (now (work .entry)) ⌝ }
+    ensures { λ r. ⌜ busiestGiven r (now (station .exit)) (now (work .exit)) ≡ busiest (now (plan .entry)) n t (turning g) (now (work .entry)) ⌝ }
 {
-    match loads::busiest(plan, n, t, work) {
+    match loads::busiest(plan, n, t, g, work) {
         BusiestAnswer::Station(v) => {
             *station = v;
             0
@@ -173,15 +178,16 @@ pub extern "C" fn joftaki_through_set(
     plan: &[u8],
     n: usize,
     t: usize,
+    g: usize,
     s: usize,
     z: usize,
     count: &mut u64,
     set: &[u8],
     work: &mut [u64],
 ) -> u32
-    ensures { λ r. ⌜ setGiven r (now (count .exit)) (now (work .exit)) ≡ throughSet (now (plan .entry)) n t s z (now (set .entry)) (now (work .entry)) ⌝ }
+    ensures { λ r. ⌜ setGiven r (now (count .exit)) (now (work .exit)) ≡ throughSet (now (plan .entry)) n t (turning g) s z (now (set .entry)) (now (work .entry)) ⌝ }
 {
-    match sets::through_set(plan, n, t, s, z, set, work) {
+    match sets::through_set(plan, n, t, g, s, z, set, work) {
         SetAnswer::Counted(c) => {
             *count = c;
             0
@@ -200,6 +206,7 @@ pub extern "C" fn joftaki_foremost(
     plan: &[u8],
     n: usize,
     t: usize,
+    g: usize,
     s: usize,
     z: usize,
     arrival: &mut usize,
@@ -208,9 +215,9 @@ pub extern "C" fn joftaki_foremost(
     through: &mut [u64],
     work: &mut [u64],
 ) -> u32
-    ensures { λ r. ⌜ foremostGiven r (now (arrival .exit)) (now (hops .exit)) (now (count .exit)) (pairBuffers (now (through .exit)) (now (work .exit))) ≡ foremost (now (plan .entry)) n t s z (pairBuffers (now (through .entry)) (now (work .entry))) ⌝ }
+    ensures { λ r. ⌜ foremostGiven r (now (arrival .exit)) (now (hops .exit)) (now (count .exit)) (pairBuffers (now (through .exit)) (now (work .exit))) ≡ foremost (now (plan .entry)) n t (turning g) s z (pairBuffers (now (through .entry)) (now (work .entry))) ⌝ }
 {
-    match foremost::foremost(plan, n, t, s, z, through, work) {
+    match foremost::foremost(plan, n, t, g, s, z, through, work) {
         ForemostAnswer::Counted(u, h, c) => {
             *arrival = u as usize;
             *hops = h as usize;
@@ -256,15 +263,16 @@ pub extern "C" fn joftaki_first_way(
     plan: &[u8],
     n: usize,
     t: usize,
+    g: usize,
     s: usize,
     z: usize,
     hops: &mut usize,
     way: &mut [u16],
     work: &mut [u64],
 ) -> u32
-    ensures { λ r. ⌜ wayGiven r (now (hops .exit)) (now (way .exit)) (now (work .exit)) ≡ wayExit (wayAnswer first-way (question (now (plan .entry)) n t s z) (now (way .entry)) (now (work .entry))) ⌝ }
+    ensures { λ r. ⌜ wayGiven r (now (hops .exit)) (now (way .exit)) (now (work .exit)) ≡ wayExit (wayAnswer first-way (question (now (plan .entry)) n t g s z) (now (way .entry)) (now (work .entry))) ⌝ }
 {
-    let answer = listing::first_way(plan, n, t, s, z, way, work);
+    let answer = listing::first_way(plan, n, t, g, s, z, way, work);
     *hops = way_hops(answer);
     way_code(answer)
 }
@@ -275,15 +283,16 @@ pub extern "C" fn joftaki_next_way(
     plan: &[u8],
     n: usize,
     t: usize,
+    g: usize,
     s: usize,
     z: usize,
     hops: &mut usize,
     way: &mut [u16],
     work: &mut [u64],
 ) -> u32
-    ensures { λ r. ⌜ wayGiven r (now (hops .exit)) (now (way .exit)) (now (work .exit)) ≡ wayExit (wayAnswer next-way (question (now (plan .entry)) n t s z) (now (way .entry)) (now (work .entry))) ⌝ }
+    ensures { λ r. ⌜ wayGiven r (now (hops .exit)) (now (way .exit)) (now (work .exit)) ≡ wayExit (wayAnswer next-way (question (now (plan .entry)) n t g s z) (now (way .entry)) (now (work .entry))) ⌝ }
 {
-    let answer = listing::next_way(plan, n, t, s, z, way, work);
+    let answer = listing::next_way(plan, n, t, g, s, z, way, work);
     *hops = way_hops(answer);
     way_code(answer)
 }

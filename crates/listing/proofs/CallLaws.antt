@@ -1,23 +1,13 @@
--- How first way and next way begin: the plan's causes, then 6, 7 and 8 of the call, then the work. Assumes nothing.
+-- How first way and next way begin: the plan's causes, then 12, 6, 7 and 8 of the call, then the work. Assumes nothing.
 use Prim.Native.Nat.{ℕ, _<_}
 use native.Mathlib.Omega.{arith}
 use mathlib.Core.Path.{_≡_, sym, ap, _∙_}
-use mathlib.Core.List.{List, []}
-use borrow.Author.Tests.{leb-false, ltb-false, eqb-false}
-use lib.Dec.{ltb, leb}
+use mathlib.Core.List.{List}
 use lib.ListN.{length}
-use Rattle.temporal.specs.Cause.{first, planFault, planCauses, pairCauses}
-use Rattle.temporal.specs.Outcome.{workSize}
+use Rattle.temporal.specs.Cause.{first, planFault, planCauses}
 use Rattle.temporal.specs.Cursor.{refused, Operation}
 use Rattle.temporal.specs.FirstNext.{Question, wayCauses, WayOutcome, wayWork, wayAnswer}
-use Rattle.temporal.proofs.CauseLaws.{
-  first-append-none,
-  first-append-some,
-  first-head,
-  first-tail,
-  or-false-left,
-  or-false-right,
-}
+use Rattle.temporal.proofs.CauseLaws.{first-append-none, first-append-some}
 use Rattle.temporal.proofs.EnteredLaws.{unless-some, unless-none}
 use Rattle.plan.specs.Fault.{planNumber, callNumber, checkNumber}
 use Rattle.plan.specs.declared.PlanFault.{PlanFault}
@@ -26,7 +16,7 @@ use Rattle.plan.specs.declared.CheckAnswer.{CheckAnswer}
 use Rattle.plan.specs.declared.CheckAnswer.the-variants as check-answer
 use Rattle.plan.proofs.Answers.{number-positive}
 use Rattle.calls.specs.Call.{pairCallFault, callCheckNumber}
-use Rattle.calls.proofs.CallLaws.{call-number-positive}
+use Rattle.calls.proofs.CallLaws.{free-call, call-number-positive}
 use Rattle.calls.specs.declared.CallCheck.{CallCheck}
 use Rattle.calls.specs.declared.CallCheck.the-variants as call-check
 use Rattle.listing.specs.Work.{WayReady, wayOutcome}
@@ -44,7 +34,7 @@ module _ (o : Operation) (q : Question) (way work : List ℕ) where
 
   abbrev callFaultOf : ℕ
   callFaultOf =
-      pairCallFault (q .stations) (q .slots) (q .source) (q .destination) (length way) (q .slots) (length work)
+      pairCallFault (q .stations) (q .slots) (q .terms) (q .source) (q .destination) (length way) (q .slots) (length work)
 
   abbrev refusal : ℕ → WayOutcome
   refusal k = wayOutcome (refused k) way work
@@ -69,7 +59,7 @@ module _ (o : Operation) (q : Question) (way work : List ℕ) where
       sym (rw (plan-decides (omega arith)) (unless-some planFaultOf refusal (wayWork o q way work) (omega arith)))
 
   module _ (ok : planFaultOf ≡ 0) where
-    -- a call that 6, 7 or 8 refuses
+    -- a call that 12, 6, 7 or 8 refuses
     pub way-call : (r : CallCheck) (f : CallFault) → callCheckNumber r ≡ callFaultOf → r ≡ call-check.Refused f
         → wayOutcome (refused (callNumber f)) way work ≡ wayAnswer o q way work
     unfolding wayAnswer
@@ -80,7 +70,7 @@ module _ (o : Operation) (q : Question) (way work : List ℕ) where
         sym (rw (call-decides ok) (unless-some callFaultOf refusal (wayWork o q way work) (omega arith)))
 
     module _ (r : CallCheck) (answer : callCheckNumber r ≡ callFaultOf) (e : r ≡ call-check.Free) where
-      -- a call that 1 to 8 do not refuse does the work
+      -- a call that 1 to 5, 12 and 6 to 8 do not refuse does the work
       pub way-works : wayAnswer o q way work ≡ wayWork o q way work
       unfolding wayAnswer
       way-works =
@@ -89,21 +79,19 @@ module _ (o : Operation) (q : Question) (way work : List ℕ) where
 
       -- it is ready for the work
       pub way-ready : WayReady q way work
-      unfolding pairCallFault pairCauses
       way-ready =
           let none : callFaultOf ≡ 0 = sym answer ∙ ap callCheckNumber e in
-          let stations = first-head 5 _ _ none in
-          let same = first-head 6 _ _ (first-tail 5 _ _ none) in
-          let short = first-head 7 _ [] (first-tail 6 _ _ (first-tail 5 _ _ none)) in
+          let free =
+          free-call (q .stations) (q .slots) (q .terms) (q .source) (q .destination)
+          (length way) (q .slots) (length work) none in
           record {
             asked = record {
               accepted = ok;
-              source = leb-false (q .stations) (q .source) (or-false-left _ _ stations);
-              destination = leb-false (q .stations) (q .destination)
-                  (or-false-right (leb (q .stations) (q .source)) _ stations);
-              different = eqb-false (q .source) (q .destination) same;
+              source = free .source;
+              destination = free .destination;
+              different = free .different;
             };
-            room = ltb-false (length way) (q .slots) (or-false-left _ _ short);
-            area = ltb-false (length work) (workSize (q .stations) (q .slots))
-                (or-false-right (ltb (length way) (q .slots)) _ short);
+            turns = free .turns;
+            room = free .lent-room;
+            area = free .area-room;
           }

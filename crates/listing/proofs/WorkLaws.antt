@@ -39,7 +39,7 @@ use Rattle.temporal.proofs.ListLaws.{mem-getD}
 use Rattle.temporal.proofs.ShortestLaws.{hops-bound}
 use Rattle.temporal.proofs.PlanLaws.{slots-within}
 use Rattle.temporal.proofs.Adequacy.{bounded-paths, in-complete-list}
-use Rattle.pass.specs.Passed.{areaSize, Passed}
+use Rattle.pass.specs.Passed.{waiting, areaSize, PassReady, Passed}
 use Rattle.ways.specs.Home.{Completed}
 use Rattle.ways.specs.Found.{listIn, isOffered, Listable, Startable, Continuable, Stepped}
 use Rattle.ways.specs.declared.Pair.{Pair}
@@ -94,6 +94,7 @@ pairOf q h =
     record {
       stations = q .stations;
       slots = q .slots;
+      turnaround = q .terms .turnaround;
       source = q .source;
       destination = q .destination;
       hops = h;
@@ -106,23 +107,40 @@ module _ (q : Question) (way work : List ℕ) (ready : WayReady q way work) wher
       let slots = accepted (q .bytes) (q .stations) (q .slots) (ready .asked .accepted) .slots in
       ⊎-elim inl (λ h. inr (omega arith))
       (hops-bound
-      (bounded-paths (planOf (q .bytes) (q .stations) (q .slots))
-      (slots-within (q .bytes) (q .stations) (q .slots) (ready .asked .accepted)) (q .source) (q .destination)))
+      (bounded-paths (planOf (q .bytes) (q .stations) (q .slots) (q .terms))
+      (slots-within (q .bytes) (q .stations) (q .slots) (q .terms) (ready .asked .accepted)) (q .source) (q .destination)))
 
   -- every member has the list's hops
   one-length : (i : ℕ) → i < length (listOf q) → length (getD (listOf q) i []) ≡ hops (listOf q)
   unfolding listOf
   one-length i h =
-      in-complete-list (q .bytes) (q .stations) (q .slots) (ready .asked .accepted) (q .source) (q .destination)
+      in-complete-list (q .bytes) (q .stations) (q .slots) (q .terms) (ready .asked .accepted) (q .source) (q .destination)
       (getD (listOf q) i []) .0 (mem-getD (listOf q) i [] h) .1
 
-  module _ (mid : List ℕ) (r : Bool) (passed : Passed (q .bytes) (q .stations) (q .slots) (q .source) 0 0 work mid r) where
+  -- the pass has room
+  within-area : areaSize (q .stations) (waiting (q .slots) (q .terms)) 0 ≤ workSize (q .stations) (q .slots)
+  within-area =
+      let rows : q .stations * (1 + waiting (q .slots) (q .terms)) ≤ q .stations * (q .slots + 1) =
+      mul-le-mul {n₂ = q .stations} {m₂ = q .slots + 1} (omega arith) (omega arith) in
+      omega arith
+
+  pub pass-ready : PassReady (q .bytes) (q .stations) (q .slots) (q .terms) (q .source) 0 0 work
+  pass-ready =
+      let room = within-area in
+      let area = ready .area in
+      record {
+        accepted = ready .asked .accepted;
+        turns = ready .turns;
+        source = ready .asked .source;
+        stations = omega arith;
+        fits = omega arith;
+      }
+
+  module _ (mid : List ℕ) (r : Bool) (passed : Passed (q .bytes) (q .stations) (q .slots) (q .terms) (q .source) 0 0 work mid r) where
     pass-beyond : drop (workSize (q .stations) (q .slots)) mid ≡ drop (workSize (q .stations) (q .slots)) work
     pass-beyond =
-        let slots = accepted (q .bytes) (q .stations) (q .slots) (ready .asked .accepted) .some-slot in
-        let rows : q .stations * 1 ≤ q .stations * (q .slots + 1) =
-        mul-le-mul {n₂ = q .stations} {m₂ = q .slots + 1} (omega arith) (omega arith) in
-        later-drop (areaSize (q .stations) 0) (workSize (q .stations) (q .slots)) mid work (omega arith) (passed .beyond)
+        later-drop (areaSize (q .stations) (waiting (q .slots) (q .terms)) 0) (workSize (q .stations) (q .slots)) mid work
+        within-area (passed .beyond)
 
     -- a count over 2^64 - 1
     pub worked-too-many : (o : Operation) → r ≡ true → Worked o q way work (refused 9) way mid
@@ -205,7 +223,7 @@ module _ (q : Question) (way work : List ℕ) (ready : WayReady q way work) wher
             }
 
         module _ (done : List ℕ)
-            (completed : Completed (q .bytes) (q .stations) (q .slots) (q .destination) mid done) where
+            (completed : Completed (q .bytes) (q .stations) (q .slots) (q .terms) (q .destination) mid done) where
           done-beyond : drop (workSize (q .stations) (q .slots)) done ≡ drop (workSize (q .stations) (q .slots)) work
           done-beyond =
               later-drop (q .stations * (q .slots + 1)) (workSize (q .stations) (q .slots)) done mid (omega arith)

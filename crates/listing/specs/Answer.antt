@@ -2,6 +2,7 @@
 -- Assumes nothing.
 use Prim.Native.Nat.{ℕ}
 use mathlib.Core.List.{List}
+use Rattle.temporal.specs.Plan.{turning}
 use Rattle.temporal.specs.Cursor.{Reply, path, no-path, last-path, refused}
 use Rattle.temporal.specs.FirstNext.{Question}
 use Rattle.plan.specs.Fault.{faultNumber}
@@ -16,5 +17,6 @@ replyOf LastPath = last-path
 replyOf (Refused f) = refused (faultNumber f)
 
 -- what a call with these arguments asks about
-abbrev pub question : List ℕ → ℕ → ℕ → ℕ → ℕ → Question
-question bs n t s z = record { bytes = bs; stations = n; slots = t; source = s; destination = z }
+abbrev pub question : List ℕ → ℕ → ℕ → ℕ → ℕ → ℕ → Question
+question bs n t g s z =
+    record { bytes = bs; stations = n; slots = t; terms = turning g; source = s; destination = z }

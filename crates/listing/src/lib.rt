@@ -31,30 +31,32 @@ fn clear_area(work: &mut [u64], n: usize, t: usize)
     memory::clear(work, 4 * (n * (t + 1)));
 }
 
-// First way once 1 to 8 are excluded: the first path of the list, or none where it is empty.
+// First way once 1 to 5, 12 and 6 to 8 are excluded: the first path of the list, or none where it is empty.
 fn first_work(
     plan: &[u8],
     n: usize,
     t: usize,
+    g: usize,
     source: usize,
     destination: usize,
     way: &mut [u16],
     work: &mut [u64],
 ) -> WayAnswer
-    requires { ⌜ WayReady (question (now plan) n t source destination) (now way) (now work) ⌝ }
-    ensures { λ r. ⌜ Worked first-way (question (now (plan .entry)) n t source destination) (now (way .entry)) (now (work .entry)) (replyOf r) (now (way .exit)) (now (work .exit)) ⌝ }
+    requires { ⌜ WayReady (question (now plan) n t g source destination) (now way) (now work) ⌝ }
+    ensures { λ r. ⌜ Worked first-way (question (now (plan .entry)) n t g source destination) (now (way .entry)) (now (work .entry)) (replyOf r) (now (way .exit)) (now (work .exit)) ⌝ }
 {
-    if pass::pass(work, plan, n, t, source, 0, 0) {
+    if pass::pass(work, plan, n, t, g, source, 0, 0) {
         return WayAnswer::Refused(Fault::Call(CallFault::TooMany));
     }
     let h = work[destination] as usize;
     if h == 65535 {
         return WayAnswer::NoPath;
     }
-    ways::complete(work, plan, n, t, destination);
+    ways::complete(work, plan, n, t, g, destination);
     let pair = Pair {
         stations: n,
         slots: t,
+        turnaround: g,
         source,
         destination,
         hops: h,
@@ -68,42 +70,45 @@ fn first_cleared(
     plan: &[u8],
     n: usize,
     t: usize,
+    g: usize,
     source: usize,
     destination: usize,
     way: &mut [u16],
     work: &mut [u64],
 ) -> WayAnswer
-    requires { ⌜ WayReady (question (now plan) n t source destination) (now way) (now work) ⌝ }
-    ensures { λ r. ⌜ wayOutcome (replyOf r) (now (way .exit)) (now (work .exit)) ≡ wayWork first-way (question (now (plan .entry)) n t source destination) (now (way .entry)) (now (work .entry)) ⌝ }
+    requires { ⌜ WayReady (question (now plan) n t g source destination) (now way) (now work) ⌝ }
+    ensures { λ r. ⌜ wayOutcome (replyOf r) (now (way .exit)) (now (work .exit)) ≡ wayWork first-way (question (now (plan .entry)) n t g source destination) (now (way .entry)) (now (work .entry)) ⌝ }
 {
-    let answer = first_work(plan, n, t, source, destination, way, work);
+    let answer = first_work(plan, n, t, g, source, destination, way, work);
     clear_area(work, n, t);
     answer
 }
 
-// The operation on an accepted plan: 6, 7 and 8, then the work.
+// The operation on an accepted plan: 12, 6, 7 and 8, then the work.
 fn first_accepted(
     plan: &[u8],
     n: usize,
     t: usize,
+    g: usize,
     source: usize,
     destination: usize,
     way: &mut [u16],
     work: &mut [u64],
 ) -> WayAnswer
     requires { ⌜ planFault (now plan) n t ≡ 0 ⌝ }
-    ensures { λ r. ⌜ WayContract first-way (question (now (plan .entry)) n t source destination) (now (way .entry)) (now (work .entry)) (replyOf r) (now (way .exit)) (now (work .exit)) ⌝ }
+    ensures { λ r. ⌜ WayContract first-way (question (now (plan .entry)) n t g source destination) (now (way .entry)) (now (work .entry)) (replyOf r) (now (way .exit)) (now (work .exit)) ⌝ }
 {
     let CallCheck::Refused(fault) = calls::pair_call(
         n,
         t,
+        g,
         source,
         destination,
         way.len(),
         t,
         work.len(),
     ) else {
-        return first_cleared(plan, n, t, source, destination, way, work);
+        return first_cleared(plan, n, t, g, source, destination, way, work);
     };
     WayAnswer::Refused(Fault::Call(fault))
 }
@@ -113,33 +118,35 @@ pub fn first_way(
     plan: &[u8],
     n: usize,
     t: usize,
+    g: usize,
     source: usize,
     destination: usize,
     way: &mut [u16],
     work: &mut [u64],
 ) -> WayAnswer
-    ensures { λ r. ⌜ WayContract first-way (question (now (plan .entry)) n t source destination) (now (way .entry)) (now (work .entry)) (replyOf r) (now (way .exit)) (now (work .exit)) ⌝ }
+    ensures { λ r. ⌜ WayContract first-way (question (now (plan .entry)) n t g source destination) (now (way .entry)) (now (work .entry)) (replyOf r) (now (way .exit)) (now (work .exit)) ⌝ }
 {
     let CheckAnswer::Refused(fault) = plan::check(plan, n, t) else {
-        return first_accepted(plan, n, t, source, destination, way, work);
+        return first_accepted(plan, n, t, g, source, destination, way, work);
     };
     WayAnswer::Refused(Fault::Plan(fault))
 }
 
-// Next way once 1 to 8 are excluded: on from the path with which the buffer begins; 10 where it begins with none.
+// Next way once 1 to 5, 12 and 6 to 8 are excluded: on from the path with which the buffer begins; 10 where it begins with none.
 fn next_work(
     plan: &[u8],
     n: usize,
     t: usize,
+    g: usize,
     source: usize,
     destination: usize,
     way: &mut [u16],
     work: &mut [u64],
 ) -> WayAnswer
-    requires { ⌜ WayReady (question (now plan) n t source destination) (now way) (now work) ⌝ }
-    ensures { λ r. ⌜ Worked next-way (question (now (plan .entry)) n t source destination) (now (way .entry)) (now (work .entry)) (replyOf r) (now (way .exit)) (now (work .exit)) ⌝ }
+    requires { ⌜ WayReady (question (now plan) n t g source destination) (now way) (now work) ⌝ }
+    ensures { λ r. ⌜ Worked next-way (question (now (plan .entry)) n t g source destination) (now (way .entry)) (now (work .entry)) (replyOf r) (now (way .exit)) (now (work .exit)) ⌝ }
 {
-    if pass::pass(work, plan, n, t, source, 0, 0) {
+    if pass::pass(work, plan, n, t, g, source, 0, 0) {
         return WayAnswer::Refused(Fault::Call(CallFault::TooMany));
     }
     let h = work[destination] as usize;
@@ -149,12 +156,13 @@ fn next_work(
     let pair = Pair {
         stations: n,
         slots: t,
+        turnaround: g,
         source,
         destination,
         hops: h,
     };
     if ways::offered(way, plan, pair) {
-        ways::complete(work, plan, n, t, destination);
+        ways::complete(work, plan, n, t, g, destination);
         if ways::next_path(way, work, plan, pair) {
             return WayAnswer::Path(h);
         }
@@ -168,42 +176,45 @@ fn next_cleared(
     plan: &[u8],
     n: usize,
     t: usize,
+    g: usize,
     source: usize,
     destination: usize,
     way: &mut [u16],
     work: &mut [u64],
 ) -> WayAnswer
-    requires { ⌜ WayReady (question (now plan) n t source destination) (now way) (now work) ⌝ }
-    ensures { λ r. ⌜ wayOutcome (replyOf r) (now (way .exit)) (now (work .exit)) ≡ wayWork next-way (question (now (plan .entry)) n t source destination) (now (way .entry)) (now (work .entry)) ⌝ }
+    requires { ⌜ WayReady (question (now plan) n t g source destination) (now way) (now work) ⌝ }
+    ensures { λ r. ⌜ wayOutcome (replyOf r) (now (way .exit)) (now (work .exit)) ≡ wayWork next-way (question (now (plan .entry)) n t g source destination) (now (way .entry)) (now (work .entry)) ⌝ }
 {
-    let answer = next_work(plan, n, t, source, destination, way, work);
+    let answer = next_work(plan, n, t, g, source, destination, way, work);
     clear_area(work, n, t);
     answer
 }
 
-// The operation on an accepted plan: 6, 7 and 8, then the work.
+// The operation on an accepted plan: 12, 6, 7 and 8, then the work.
 fn next_accepted(
     plan: &[u8],
     n: usize,
     t: usize,
+    g: usize,
     source: usize,
     destination: usize,
     way: &mut [u16],
     work: &mut [u64],
 ) -> WayAnswer
     requires { ⌜ planFault (now plan) n t ≡ 0 ⌝ }
-    ensures { λ r. ⌜ WayContract next-way (question (now (plan .entry)) n t source destination) (now (way .entry)) (now (work .entry)) (replyOf r) (now (way .exit)) (now (work .exit)) ⌝ }
+    ensures { λ r. ⌜ WayContract next-way (question (now (plan .entry)) n t g source destination) (now (way .entry)) (now (work .entry)) (replyOf r) (now (way .exit)) (now (work .exit)) ⌝ }
 {
     let CallCheck::Refused(fault) = calls::pair_call(
         n,
         t,
+        g,
         source,
         destination,
         way.len(),
         t,
         work.len(),
     ) else {
-        return next_cleared(plan, n, t, source, destination, way, work);
+        return next_cleared(plan, n, t, g, source, destination, way, work);
     };
     WayAnswer::Refused(Fault::Call(fault))
 }
@@ -213,15 +224,16 @@ pub fn next_way(
     plan: &[u8],
     n: usize,
     t: usize,
+    g: usize,
     source: usize,
     destination: usize,
     way: &mut [u16],
     work: &mut [u64],
 ) -> WayAnswer
-    ensures { λ r. ⌜ WayContract next-way (question (now (plan .entry)) n t source destination) (now (way .entry)) (now (work .entry)) (replyOf r) (now (way .exit)) (now (work .exit)) ⌝ }
+    ensures { λ r. ⌜ WayContract next-way (question (now (plan .entry)) n t g source destination) (now (way .entry)) (now (work .entry)) (replyOf r) (now (way .exit)) (now (work .exit)) ⌝ }
 {
     let CheckAnswer::Refused(fault) = plan::check(plan, n, t) else {
-        return next_accepted(plan, n, t, source, destination, way, work);
+        return next_accepted(plan, n, t, g, source, destination, way, work);
     };
     WayAnswer::Refused(Fault::Plan(fault))
 }

@@ -6,10 +6,11 @@ use mathlib.Core.Bool.{Bool, true, false, cond, _||_}
 use mathlib.Core.List.{List, [], _∷_, map}
 use borrow.Author.Tests.{lt-ltb, le-ltb}
 use lib.ListN.{length, getD, drop, replicate}
+use Rattle.temporal.specs.Plan.{Terms}
 use Rattle.temporal.specs.Lists.{below}
 use Rattle.temporal.specs.Load.{pairs, load, Busiest}
 use Rattle.temporal.specs.Bytes.{planOf}
-use Rattle.temporal.specs.Cause.{planFault, tooManyAnywhere}
+use Rattle.temporal.specs.Cause.{planFault, tooManyAnywhere, wrongTurnaround}
 use Rattle.temporal.specs.Outcome.{Outcome, over, cleared, short, workSize}
 use Rattle.temporal.specs.OutcomePair.{LoadBuffers, loaded, loads, compared, busiest}
 use Rattle.temporal.proofs.Accepted.{accepted}
@@ -28,6 +29,7 @@ use Rattle.plan.specs.declared.PlanFault.{PlanFault}
 use Rattle.plan.specs.declared.CheckAnswer.{CheckAnswer}
 use Rattle.plan.specs.declared.CheckAnswer.the-variants as check-answer
 use Rattle.plan.proofs.Answers.{number-positive}
+use Rattle.calls.proofs.CallLaws.{terms-inv}
 use Rattle.tallies.specs.Tally.{tallyBase, Tallied}
 use Rattle.tallies.proofs.Sizes.{base-fits}
 use Rattle.loads.specs.Answer.{loadBuffers}
@@ -36,14 +38,14 @@ use Rattle.loads.specs.Largest.{Largest, LoadsReady, BusiestReady}
 
 -- ---- loads
 
-module _ (bs : List ℕ) (n t : ℕ) (ps ls area : List ℕ) (ready : LoadsReady bs n t ps ls area) (area′ : List ℕ) (r : Bool)
-    (f : Tallied bs n t area area′ r) where
+module _ (bs : List ℕ) (n t : ℕ) (terms : Terms) (ps ls area : List ℕ) (ready : LoadsReady bs n t terms ps ls area) (area′ : List ℕ) (r : Bool)
+    (f : Tallied bs n t terms area area′ r) where
   -- too many: all three are cleared
   pub loaded-refused :
       r ≡ true → (ps′ ls′ area″ : List ℕ) → ps′ ≡ over (replicate n 0) ps → ls′ ≡ over (replicate n 0) ls →
       area″ ≡ over (replicate (workSize n t) 0) area′ →
       _≡_ {A = Outcome (Unit {0}) LoadBuffers} (record { number = 9; values = tt; buffers = loadBuffers ps′ ls′ area″ })
-      (loaded (planOf bs n t) (loadBuffers ps ls area))
+      (loaded (planOf bs n t terms) (loadBuffers ps ls area))
   unfolding loaded cleared planOf
   loaded-refused e ps′ ls′ area″ a b c =
       let many = sym (f .too-many) ∙ e in
@@ -52,113 +54,141 @@ module _ (bs : List ℕ) (n t : ℕ) (ps ls area : List ℕ) (ready : LoadsReady
 
   -- the tables have the pairs and the loads
   pub loaded-filled :
-      r ≡ false → (base : ℕ) (ps′ ls′ area″ : List ℕ) → base ≡ tallyBase n t → Copied area′ base n ps ps′ →
+      r ≡ false → (base : ℕ) (ps′ ls′ area″ : List ℕ) → base ≡ tallyBase n t terms → Copied area′ base n ps ps′ →
       Copied area′ (base + n) n ls ls′ → area″ ≡ over (replicate (workSize n t) 0) area′ →
       _≡_ {A = Outcome (Unit {0}) LoadBuffers} (record { number = 0; values = tt; buffers = loadBuffers ps′ ls′ area″ })
-      (loaded (planOf bs n t) (loadBuffers ps ls area))
+      (loaded (planOf bs n t terms) (loadBuffers ps ls area))
   unfolding loaded cleared planOf
   loaded-filled e base ps′ ls′ area″ same a b c =
       let few = sym (f .too-many) ∙ e in
       let d = fill-beyond (workSize n t) 0 area′ area (f .beyond) in
-      let p : ps′ ≡ over (map (pairs (planOf bs n t)) (below n)) ps =
-      over-by n ps′ (map (pairs (planOf bs n t)) (below n)) ps (length-made _ n)
+      let p : ps′ ≡ over (map (pairs (planOf bs n t terms)) (below n)) ps =
+      over-by n ps′ (map (pairs (planOf bs n t terms)) (below n)) ps (length-made _ n)
       (let size = a .same-length in let room = ready .pairs-room in omega arith)
       (λ v h. a .here v h ∙ ap (λ i. getD area′ (i + v) 0) same ∙ f .station-pairs e v h ∙ sym (getD-made _ n v h)) (a .beyond) in
-      let l : ls′ ≡ over (map (load (planOf bs n t)) (below n)) ls =
-      over-by n ls′ (map (load (planOf bs n t)) (below n)) ls (length-made _ n)
+      let l : ls′ ≡ over (map (load (planOf bs n t terms)) (below n)) ls =
+      over-by n ls′ (map (load (planOf bs n t terms)) (below n)) ls (length-made _ n)
       (let size = b .same-length in let room = ready .loads-room in omega arith)
       (λ v h. b .here v h ∙ ap (λ i. getD area′ (i + n + v) 0) same ∙ f .station-loads e v h ∙ sym (getD-made _ n v h)) (b .beyond) in
       rw few (cc (c, d, p, l))
 
-module _ (bs : List ℕ) (n t : ℕ) (ps ls area : List ℕ) where
+module _ (bs : List ℕ) (n t : ℕ) (terms : Terms) (ps ls area : List ℕ) where
   pub loads-plan :
       (r : CheckAnswer) (f : PlanFault) → checkNumber r ≡ planFault bs n t → r ≡ check-answer.Refused f →
       _≡_ {A = Outcome (Unit {0}) LoadBuffers}
       (record { number = planNumber f; values = tt; buffers = loadBuffers ps ls area })
-      (loads bs n t (loadBuffers ps ls area))
+      (loads bs n t terms (loadBuffers ps ls area))
   unfolding loads
   loads-plan r f answer e =
       let number : planNumber f ≡ planFault bs n t = ap checkNumber (sym e) ∙ answer in
       let some = number-positive f in
-      ap (refusedWith tt (loadBuffers ps ls area) (loaded (planOf bs n t) (loadBuffers ps ls area))) number ∙
-      sym (entered-plan tt (loadBuffers ps ls area) (loaded (planOf bs n t) (loadBuffers ps ls area)) bs n t _ (omega arith))
+      ap (refusedWith tt (loadBuffers ps ls area) (loaded (planOf bs n t terms) (loadBuffers ps ls area))) number ∙
+      sym (entered-plan tt (loadBuffers ps ls area) (loaded (planOf bs n t terms) (loadBuffers ps ls area)) bs n t _ (omega arith))
 
   module _ (ok : planFault bs n t ≡ 0) where
-    abbrev lacking : Bool
-    lacking = short n ps || (short n ls || short (workSize n t) area)
-
-    lacks :
-        lacking ≡ true →
-        _≡_ {A = Outcome (Unit {0}) LoadBuffers} (record { number = 8; values = tt; buffers = loadBuffers ps ls area })
-        (loads bs n t (loadBuffers ps ls area))
+    pub loads-terms :
+        wrongTurnaround terms ≡ true →
+        _≡_ {A = Outcome (Unit {0}) LoadBuffers} (record { number = 12; values = tt; buffers = loadBuffers ps ls area })
+        (loads bs n t terms (loadBuffers ps ls area))
     unfolding loads
-    lacks e = sym (entered-call tt _ _ bs n t _ ok ∙ entered-cause tt _ _ 7 _ [] e)
+    loads-terms e = sym (entered-call tt _ _ bs n t _ ok ∙ entered-cause tt _ _ 11 _ _ e)
 
-    pub loads-short-pairs :
-        length ps < n →
-        _≡_ {A = Outcome (Unit {0}) LoadBuffers} (record { number = 8; values = tt; buffers = loadBuffers ps ls area })
-        (loads bs n t (loadBuffers ps ls area))
-    loads-short-pairs h = lacks (rw (lt-ltb (length ps) n h))
+    module _ (right : wrongTurnaround terms ≡ false) where
+      abbrev lacking : Bool
+      lacking = short n ps || (short n ls || short (workSize n t) area)
 
-    module _ (a : n ≤ length ps) where
-      pub loads-short-loads :
-          length ls < n →
+      lacks :
+          lacking ≡ true →
           _≡_ {A = Outcome (Unit {0}) LoadBuffers} (record { number = 8; values = tt; buffers = loadBuffers ps ls area })
-          (loads bs n t (loadBuffers ps ls area))
-      loads-short-loads h = lacks (rw (le-ltb (length ps) n a, lt-ltb (length ls) n h))
+          (loads bs n t terms (loadBuffers ps ls area))
+      unfolding loads
+      lacks e = sym (entered-call tt _ _ bs n t _ ok ∙ entered-pass tt _ _ 12 _ _ right ∙ entered-cause tt _ _ 7 _ [] e)
 
-      module _ (b : n ≤ length ls) where
-        pub loads-short-area :
-            length area < workSize n t →
+      pub loads-short-pairs :
+          length ps < n →
+          _≡_ {A = Outcome (Unit {0}) LoadBuffers} (record { number = 8; values = tt; buffers = loadBuffers ps ls area })
+          (loads bs n t terms (loadBuffers ps ls area))
+      loads-short-pairs h = lacks (rw (lt-ltb (length ps) n h))
+
+      module _ (a : n ≤ length ps) where
+        pub loads-short-loads :
+            length ls < n →
             _≡_ {A = Outcome (Unit {0}) LoadBuffers} (record { number = 8; values = tt; buffers = loadBuffers ps ls area })
-            (loads bs n t (loadBuffers ps ls area))
-        loads-short-area h =
-            lacks (rw (le-ltb (length ps) n a, le-ltb (length ls) n b, lt-ltb (length area) (workSize n t) h))
+            (loads bs n t terms (loadBuffers ps ls area))
+        loads-short-loads h = lacks (rw (le-ltb (length ps) n a, lt-ltb (length ls) n h))
 
-        pub loads-works :
-            workSize n t ≤ length area → loads bs n t (loadBuffers ps ls area) ≡ loaded (planOf bs n t) (loadBuffers ps ls area)
-        unfolding loads
-        loads-works h =
-            entered-call tt _ _ bs n t _ ok ∙
-            entered-pass tt _ _ 8 _ []
-            (rw (le-ltb (length ps) n a, le-ltb (length ls) n b, le-ltb (length area) (workSize n t) h)) ∙
-            entered-work tt _ _
+        module _ (b : n ≤ length ls) where
+          pub loads-short-area :
+              length area < workSize n t →
+              _≡_ {A = Outcome (Unit {0}) LoadBuffers} (record { number = 8; values = tt; buffers = loadBuffers ps ls area })
+              (loads bs n t terms (loadBuffers ps ls area))
+          loads-short-area h =
+              lacks (rw (le-ltb (length ps) n a, le-ltb (length ls) n b, lt-ltb (length area) (workSize n t) h))
+
+          pub loads-works :
+              workSize n t ≤ length area →
+              loads bs n t terms (loadBuffers ps ls area) ≡ loaded (planOf bs n t terms) (loadBuffers ps ls area)
+          unfolding loads
+          loads-works h =
+              entered-call tt _ _ bs n t _ ok ∙
+              entered-pass tt _ _ 12 _ _ right ∙
+              entered-pass tt _ _ 8 _ []
+              (rw (le-ltb (length ps) n a, le-ltb (length ls) n b, le-ltb (length area) (workSize n t) h)) ∙
+              entered-work tt _ _
+
+          -- what the work asks
+          pub loads-ready : workSize n t ≤ length area → LoadsReady bs n t terms ps ls area
+          loads-ready h =
+              record { accepted = ok; turns = terms-inv terms right .0; pairs-room = a; loads-room = b; area = h }
 
 -- the tallies end within the work area
 pub tally-room :
-    (bs : List ℕ) (n t base size : ℕ) → planFault bs n t ≡ 0 → base ≡ tallyBase n t → workSize n t ≤ size → base + n + n ≤ size
-tally-room bs n t base size ok e fits =
-    let room = base-fits n t (accepted bs n t ok .some-slot) in
+    (bs : List ℕ) (n t : ℕ) (terms : Terms) (base size : ℕ) → planFault bs n t ≡ 0 → base ≡ tallyBase n t terms → workSize n t ≤ size → base + n + n ≤ size
+tally-room bs n t terms base size ok e fits =
+    let room = base-fits n t terms (accepted bs n t ok .some-slot) in
     omega arith
 
 -- ---- busiest
 
-module _ (bs : List ℕ) (n t : ℕ) (area : List ℕ) where
+module _ (bs : List ℕ) (n t : ℕ) (terms : Terms) (area : List ℕ) where
   pub busiest-plan :
       (r : CheckAnswer) (f : PlanFault) → checkNumber r ≡ planFault bs n t → r ≡ check-answer.Refused f →
-      _≡_ {A = Outcome ℕ (List ℕ)} (record { number = planNumber f; values = 0; buffers = area }) (busiest bs n t area)
+      _≡_ {A = Outcome ℕ (List ℕ)} (record { number = planNumber f; values = 0; buffers = area }) (busiest bs n t terms area)
   unfolding busiest
   busiest-plan r f answer e =
       let number : planNumber f ≡ planFault bs n t = ap checkNumber (sym e) ∙ answer in
       let some = number-positive f in
-      ap (refusedWith 0 area (compared (planOf bs n t) area)) number ∙
-      sym (entered-plan 0 area (compared (planOf bs n t) area) bs n t _ (omega arith))
+      ap (refusedWith 0 area (compared (planOf bs n t terms) area)) number ∙
+      sym (entered-plan 0 area (compared (planOf bs n t terms) area) bs n t _ (omega arith))
 
   module _ (ok : planFault bs n t ≡ 0) where
-    pub busiest-short :
-        length area < workSize n t →
-        _≡_ {A = Outcome ℕ (List ℕ)} (record { number = 8; values = 0; buffers = area }) (busiest bs n t area)
+    pub busiest-terms :
+        wrongTurnaround terms ≡ true →
+        _≡_ {A = Outcome ℕ (List ℕ)} (record { number = 12; values = 0; buffers = area }) (busiest bs n t terms area)
     unfolding busiest
-    busiest-short h =
-        sym (entered-call 0 area _ bs n t _ ok ∙ entered-cause 0 area _ 7 _ [] (lt-ltb (length area) (workSize n t) h))
+    busiest-terms e = sym (entered-call 0 area _ bs n t _ ok ∙ entered-cause 0 area _ 11 _ _ e)
 
-    pub busiest-works : workSize n t ≤ length area → busiest bs n t area ≡ compared (planOf bs n t) area
-    unfolding busiest
-    busiest-works h =
-        entered-call 0 area _ bs n t _ ok ∙
-        entered-pass 0 area _ 8 _ [] (le-ltb (length area) (workSize n t) h) ∙ entered-work 0 area _
+    module _ (right : wrongTurnaround terms ≡ false) where
+      pub busiest-short :
+          length area < workSize n t →
+          _≡_ {A = Outcome ℕ (List ℕ)} (record { number = 8; values = 0; buffers = area }) (busiest bs n t terms area)
+      unfolding busiest
+      busiest-short h =
+          sym (entered-call 0 area _ bs n t _ ok ∙ entered-pass 0 area _ 12 _ _ right ∙
+          entered-cause 0 area _ 7 _ [] (lt-ltb (length area) (workSize n t) h))
 
-  module _ (area′ : List ℕ) (r : Bool) (f : Tallied bs n t area area′ r) (area″ : List ℕ)
+      pub busiest-works : workSize n t ≤ length area → busiest bs n t terms area ≡ compared (planOf bs n t terms) area
+      unfolding busiest
+      busiest-works h =
+          entered-call 0 area _ bs n t _ ok ∙
+          entered-pass 0 area _ 12 _ _ right ∙
+          entered-pass 0 area _ 8 _ [] (le-ltb (length area) (workSize n t) h) ∙ entered-work 0 area _
+
+      -- what the work asks
+      pub busiest-ready : workSize n t ≤ length area → BusiestReady bs n t terms area
+      busiest-ready h = record { accepted = ok; turns = terms-inv terms right .0; area = h }
+
+  module _ (area′ : List ℕ) (r : Bool) (f : Tallied bs n t terms area area′ r) (area″ : List ℕ)
       (c : area″ ≡ over (replicate (workSize n t) 0) area′) where
     same : area″ ≡ cleared (workSize n t) area
     unfolding cleared
@@ -167,7 +197,7 @@ module _ (bs : List ℕ) (n t : ℕ) (area : List ℕ) where
     -- too many
     pub compared-refused :
         r ≡ true →
-        _≡_ {A = Outcome ℕ (List ℕ)} (record { number = 9; values = 0; buffers = area″ }) (compared (planOf bs n t) area)
+        _≡_ {A = Outcome ℕ (List ℕ)} (record { number = 9; values = 0; buffers = area″ }) (compared (planOf bs n t terms) area)
     unfolding compared planOf
     compared-refused e =
         let many = sym (f .too-many) ∙ e in
@@ -175,18 +205,18 @@ module _ (bs : List ℕ) (n t : ℕ) (area : List ℕ) where
 
     -- the lowest station with the largest load
     pub compared-found :
-        r ≡ false → (base v : ℕ) → base ≡ tallyBase n t → Largest area′ (base + n) n v →
-        _≡_ {A = Outcome ℕ (List ℕ)} (record { number = 0; values = v; buffers = area″ }) (compared (planOf bs n t) area)
+        r ≡ false → (base v : ℕ) → base ≡ tallyBase n t terms → Largest area′ (base + n) n v →
+        _≡_ {A = Outcome ℕ (List ℕ)} (record { number = 0; values = v; buffers = area″ }) (compared (planOf bs n t terms) area)
     unfolding compared planOf
     compared-found e base v at l =
         let few = sym (f .too-many) ∙ e in
         rw few
-        (ap₂ (λ u w. record { number = 0; values = u; buffers = w }) (sym (busiest-unique (planOf bs n t) v found)) same)
+        (ap₂ (λ u w. record { number = 0; values = u; buffers = w }) (sym (busiest-unique (planOf bs n t terms) v found)) same)
       where
-        there : (u : ℕ) → u < n → getD area′ (base + n + u) 0 ≡ load (planOf bs n t) u
+        there : (u : ℕ) → u < n → getD area′ (base + n + u) 0 ≡ load (planOf bs n t terms) u
         there u h = ap (λ i. getD area′ (i + n + u) 0) at ∙ f .station-loads e u h
 
-        found : Busiest (planOf bs n t) v
+        found : Busiest (planOf bs n t terms) v
         found =
             record {
               station = l .within;

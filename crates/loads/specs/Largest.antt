@@ -1,4 +1,4 @@
--- The place of the largest of some entries, and what loads and busiest ask once 1 to 8 are excluded. Definitions only.
+-- The place of the largest of some entries, and what loads and busiest ask once 1 to 8 and 12 are excluded. Definitions only.
 -- Assumes nothing.
 use Prim.Native.Nat.{ℕ, _+_, _<_, _≤_}
 use mathlib.Core.Path.{_≡_}
@@ -6,6 +6,7 @@ use mathlib.Core.Bool.{cond}
 use mathlib.Core.List.{List}
 use lib.Dec.{ltb}
 use lib.ListN.{length, getD}
+use Rattle.temporal.specs.Plan.{Terms}
 use Rattle.temporal.specs.Cause.{planFault}
 use Rattle.temporal.specs.Outcome.{workSize}
 
@@ -19,14 +20,16 @@ pub record Largest (l : List ℕ) (from k r : ℕ) : Type 0 where
   pub largest : (u : ℕ) → u < k → getD l (from + u) 0 ≤ getD l (from + r) 0
   pub lowest : (u : ℕ) → u < r → getD l (from + u) 0 < getD l (from + r) 0
 
--- what loads asks once 1 to 8 are excluded
-pub record LoadsReady (bs : List ℕ) (n t : ℕ) (pairTable loadTable work : List ℕ) : Type 0 where
+-- what loads asks once 1 to 8 and 12 are excluded
+pub record LoadsReady (bs : List ℕ) (n t : ℕ) (terms : Terms) (pairTable loadTable work : List ℕ) : Type 0 where
   pub accepted : planFault bs n t ≡ 0
+  pub turns : 0 < terms .turnaround
   pub pairs-room : n ≤ length pairTable
   pub loads-room : n ≤ length loadTable
   pub area : workSize n t ≤ length work
 
--- what busiest asks once 1 to 8 are excluded
-pub record BusiestReady (bs : List ℕ) (n t : ℕ) (work : List ℕ) : Type 0 where
+-- what busiest asks once 1 to 8 and 12 are excluded
+pub record BusiestReady (bs : List ℕ) (n t : ℕ) (terms : Terms) (work : List ℕ) : Type 0 where
   pub accepted : planFault bs n t ≡ 0
+  pub turns : 0 < terms .turnaround
   pub area : workSize n t ≤ length work

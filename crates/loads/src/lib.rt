@@ -2,6 +2,7 @@
 ghost use mathlib.Core.Path.{_≡_};
 ghost use Prim.Native.Nat.{_+_, _<_, _≤_};
 ghost use lib.ListN.{length};
+ghost use Rattle.temporal.specs.Plan.{turning};
 ghost use Rattle.temporal.specs.Bytes.{planOf};
 ghost use Rattle.temporal.specs.Cause.{planFault};
 ghost use Rattle.temporal.specs.OutcomePair.{loaded, loads, compared, busiest};
@@ -50,7 +51,7 @@ fn largest(list: &[u64], from: usize, k: usize) -> usize
     best
 }
 
-// Loads once 1 to 8 are excluded.
+// Loads once 1 to 8 and 12 are excluded.
 fn loads_work(
     pairs: &mut [u64],
     sums: &mut [u64],
@@ -58,24 +59,25 @@ fn loads_work(
     plan: &[u8],
     n: usize,
     t: usize,
+    g: usize,
 ) -> LoadsAnswer
-    requires { ⌜ LoadsReady (now plan) n t (now pairs) (now sums) (now work) ⌝ }
-    ensures { λ r. ⌜ loadsOutcome r (loadBuffers (now (pairs .exit)) (now (sums .exit)) (now (work .exit))) ≡ loaded (planOf (now (plan .entry)) n t) (loadBuffers (now (pairs .entry)) (now (sums .entry)) (now (work .entry))) ⌝ }
+    requires { ⌜ LoadsReady (now plan) n t (turning g) (now pairs) (now sums) (now work) ⌝ }
+    ensures { λ r. ⌜ loadsOutcome r (loadBuffers (now (pairs .exit)) (now (sums .exit)) (now (work .exit))) ≡ loaded (planOf (now (plan .entry)) n t (turning g)) (loadBuffers (now (pairs .entry)) (now (sums .entry)) (now (work .entry))) ⌝ }
 {
-    if tallies::tally(work, plan, n, t) {
+    if tallies::tally(work, plan, n, t, g) {
         memory::clear(pairs, n);
         memory::clear(sums, n);
         memory::clear(work, 4 * (n * (t + 1)));
         return LoadsAnswer::Refused(Fault::Call(CallFault::TooMany));
     }
-    let base = tallies::base_of(n, t);
+    let base = tallies::base_of(n, t, g);
     memory::copy(pairs, work, base, n);
     memory::copy(sums, work, base + n, n);
     memory::clear(work, 4 * (n * (t + 1)));
     LoadsAnswer::Loaded
 }
 
-// Loads on an accepted plan: 8, then the work.
+// Loads on an accepted plan: 12 and 8, then the work.
 fn loads_accepted(
     pairs: &mut [u64],
     sums: &mut [u64],
@@ -83,10 +85,14 @@ fn loads_accepted(
     plan: &[u8],
     n: usize,
     t: usize,
+    g: usize,
 ) -> LoadsAnswer
     requires { ⌜ planFault (now plan) n t ≡ 0 ⌝ }
-    ensures { λ r. ⌜ loadsOutcome r (loadBuffers (now (pairs .exit)) (now (sums .exit)) (now (work .exit))) ≡ loads (now (plan .entry)) n t (loadBuffers (now (pairs .entry)) (now (sums .entry)) (now (work .entry))) ⌝ }
+    ensures { λ r. ⌜ loadsOutcome r (loadBuffers (now (pairs .exit)) (now (sums .exit)) (now (work .exit))) ≡ loads (now (plan .entry)) n t (turning g) (loadBuffers (now (pairs .entry)) (now (sums .entry)) (now (work .entry))) ⌝ }
 {
+    if calls::wrong_turnaround(g) {
+        return LoadsAnswer::Refused(Fault::Call(CallFault::Turnaround));
+    }
     if pairs.len() < n {
         return LoadsAnswer::Refused(Fault::Call(CallFault::Short));
     }
@@ -96,7 +102,7 @@ fn loads_accepted(
     if work.len() < 4 * (n * (t + 1)) {
         return LoadsAnswer::Refused(Fault::Call(CallFault::Short));
     }
-    loads_work(pairs, sums, work, plan, n, t)
+    loads_work(pairs, sums, work, plan, n, t, g)
 }
 
 // Operation 5, loads: for each station its pairs and its load, in units of 1 / 2^32.
@@ -104,50 +110,54 @@ pub fn loads(
     plan: &[u8],
     n: usize,
     t: usize,
+    g: usize,
     pairs: &mut [u64],
     sums: &mut [u64],
     work: &mut [u64],
 ) -> LoadsAnswer
-    ensures { λ r. ⌜ loadsOutcome r (loadBuffers (now (pairs .exit)) (now (sums .exit)) (now (work .exit))) ≡ loads (now (plan .entry)) n t (loadBuffers (now (pairs .entry)) (now (sums .entry)) (now (work .entry))) ⌝ }
+    ensures { λ r. ⌜ loadsOutcome r (loadBuffers (now (pairs .exit)) (now (sums .exit)) (now (work .exit))) ≡ loads (now (plan .entry)) n t (turning g) (loadBuffers (now (pairs .entry)) (now (sums .entry)) (now (work .entry))) ⌝ }
 {
     let CheckAnswer::Refused(fault) = plan::check(plan, n, t) else {
-        return loads_accepted(pairs, sums, work, plan, n, t);
+        return loads_accepted(pairs, sums, work, plan, n, t, g);
     };
     LoadsAnswer::Refused(Fault::Plan(fault))
 }
 
-// Busiest once 1 to 8 are excluded.
-fn busiest_work(work: &mut [u64], plan: &[u8], n: usize, t: usize) -> BusiestAnswer
-    requires { ⌜ BusiestReady (now plan) n t (now work) ⌝ }
-    ensures { λ r. ⌜ busiestOutcome r (now (work .exit)) ≡ compared (planOf (now (plan .entry)) n t) (now (work .entry)) ⌝ }
+// Busiest once 1 to 8 and 12 are excluded.
+fn busiest_work(work: &mut [u64], plan: &[u8], n: usize, t: usize, g: usize) -> BusiestAnswer
+    requires { ⌜ BusiestReady (now plan) n t (turning g) (now work) ⌝ }
+    ensures { λ r. ⌜ busiestOutcome r (now (work .exit)) ≡ compared (planOf (now (plan .entry)) n t (turning g)) (now (work .entry)) ⌝ }
 {
-    if tallies::tally(work, plan, n, t) {
+    if tallies::tally(work, plan, n, t, g) {
         memory::clear(work, 4 * (n * (t + 1)));
         return BusiestAnswer::Refused(Fault::Call(CallFault::TooMany));
     }
-    let base = tallies::base_of(n, t);
+    let base = tallies::base_of(n, t, g);
     let v = largest(work, base + n, n);
     memory::clear(work, 4 * (n * (t + 1)));
     BusiestAnswer::Station(v)
 }
 
-// Busiest on an accepted plan: 8, then the work.
-fn busiest_accepted(work: &mut [u64], plan: &[u8], n: usize, t: usize) -> BusiestAnswer
+// Busiest on an accepted plan: 12 and 8, then the work.
+fn busiest_accepted(work: &mut [u64], plan: &[u8], n: usize, t: usize, g: usize) -> BusiestAnswer
     requires { ⌜ planFault (now plan) n t ≡ 0 ⌝ }
-    ensures { λ r. ⌜ busiestOutcome r (now (work .exit)) ≡ busiest (now (plan .entry)) n t (now (work .entry)) ⌝ }
+    ensures { λ r. ⌜ busiestOutcome r (now (work .exit)) ≡ busiest (now (plan .entry)) n t (turning g) (now (work .entry)) ⌝ }
 {
+    if calls::wrong_turnaround(g) {
+        return BusiestAnswer::Refused(Fault::Call(CallFault::Turnaround));
+    }
     if work.len() < 4 * (n * (t + 1)) {
         return BusiestAnswer::Refused(Fault::Call(CallFault::Short));
     }
-    busiest_work(work, plan, n, t)
+    busiest_work(work, plan, n, t, g)
 }
 
 // Operation 6, busiest: the lowest-numbered station whose load no other exceeds.
-pub fn busiest(plan: &[u8], n: usize, t: usize, work: &mut [u64]) -> BusiestAnswer
-    ensures { λ r. ⌜ busiestOutcome r (now (work .exit)) ≡ busiest (now (plan .entry)) n t (now (work .entry)) ⌝ }
+pub fn busiest(plan: &[u8], n: usize, t: usize, g: usize, work: &mut [u64]) -> BusiestAnswer
+    ensures { λ r. ⌜ busiestOutcome r (now (work .exit)) ≡ busiest (now (plan .entry)) n t (turning g) (now (work .entry)) ⌝ }
 {
     let CheckAnswer::Refused(fault) = plan::check(plan, n, t) else {
-        return busiest_accepted(work, plan, n, t);
+        return busiest_accepted(work, plan, n, t, g);
     };
     BusiestAnswer::Refused(Fault::Plan(fault))
 }

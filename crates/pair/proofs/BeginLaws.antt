@@ -1,10 +1,11 @@
--- How an operation with pair's arguments and buffers begins: the plan's causes, then 6, 7 and 8, then the work. Assumes nothing.
+-- How an operation with pair's arguments and buffers begins: the plan's causes, then 12, 6, 7 and 8, then the work. Assumes nothing.
 use Prim.Native.Nat.{ℕ}
 use native.Mathlib.Omega.{arith}
 use mathlib.Core.Path.{_≡_, sym, ap, _∙_}
 use mathlib.Core.Bool.{_||_}
 use mathlib.Core.List.{List, _++_}
 use lib.ListN.{length}
+use Rattle.temporal.specs.Plan.{Terms}
 use Rattle.temporal.specs.Cause.{planFault, planCauses, pairCauses}
 use Rattle.temporal.specs.Outcome.{Outcome, entered, short, workSize}
 use Rattle.temporal.specs.OutcomePair.{PairBuffers}
@@ -24,13 +25,14 @@ use Rattle.pair.specs.Throughs.{PairReady}
 
 -- an accepted plan and a free call are what counting asks
 pub call-free :
-    (bs : List ℕ) (n t s z : ℕ) (table area : List ℕ) → planFault bs n t ≡ 0 → (r : CallCheck) →
-    callCheckNumber r ≡ pairCallFault n t s z (length table) n (length area) → r ≡ call-check.Free →
-    PairReady bs n t s z table area
-call-free bs n t s z table area ok r answer e =
-    let f = free-call n t s z (length table) n (length area) (sym answer ∙ ap callCheckNumber e) in
+    (bs : List ℕ) (n t : ℕ) (terms : Terms) (s z : ℕ) (table area : List ℕ) → planFault bs n t ≡ 0 → (r : CallCheck) →
+    callCheckNumber r ≡ pairCallFault n t terms s z (length table) n (length area) → r ≡ call-check.Free →
+    PairReady bs n t terms s z table area
+call-free bs n t terms s z table area ok r answer e =
+    let f = free-call n t terms s z (length table) n (length area) (sym answer ∙ ap callCheckNumber e) in
     record {
       accepted = ok;
+      turns = f .turns;
       source = f .source;
       destination = f .destination;
       different = f .different;
@@ -38,12 +40,12 @@ call-free bs n t s z table area ok r answer e =
       area = f .area-room;
     }
 
-module _ (bs : List ℕ) (n t s z : ℕ) (table area : List ℕ) {Values : Type 0} (zeros : Values)
+module _ (bs : List ℕ) (n t : ℕ) (terms : Terms) (s z : ℕ) (table area : List ℕ) {Values : Type 0} (zeros : Values)
     (work : Outcome Values PairBuffers) where
   -- the operation, from its work
   abbrev begun : Outcome Values PairBuffers
   begun =
-      entered (planCauses bs n t ++ pairCauses n s z (short n table || short (workSize n t) area)) zeros (pairBuffers table area) work
+      entered (planCauses bs n t ++ pairCauses terms n s z (short n table || short (workSize n t) area)) zeros (pairBuffers table area) work
 
   -- a plan that check refuses
   pub begins-plan :
@@ -57,15 +59,15 @@ module _ (bs : List ℕ) (n t s z : ℕ) (table area : List ℕ) {Values : Type 
       sym (entered-plan zeros (pairBuffers table area) work bs n t _ (omega arith))
 
   module _ (ok : planFault bs n t ≡ 0) (r : CallCheck)
-      (answer : callCheckNumber r ≡ pairCallFault n t s z (length table) n (length area)) where
-    -- 6, 7 or 8
+      (answer : callCheckNumber r ≡ pairCallFault n t terms s z (length table) n (length area)) where
+    -- 12, 6, 7 or 8
     pub begins-call :
         (f : CallFault) → r ≡ call-check.Refused f →
         _≡_ {A = Outcome Values PairBuffers}
         (record { number = callNumber f; values = zeros; buffers = pairBuffers table area }) begun
     unfolding entered pairCallFault
     begins-call f e =
-        let number : callNumber f ≡ pairCallFault n t s z (length table) n (length area) = ap callCheckNumber (sym e) ∙ answer in
+        let number : callNumber f ≡ pairCallFault n t terms s z (length table) n (length area) = ap callCheckNumber (sym e) ∙ answer in
         let some = call-number-positive f in
         ap (refusedWith zeros (pairBuffers table area) work) number ∙
         sym (entered-call zeros (pairBuffers table area) work bs n t _ ok ∙ unless-some _ _ _ (omega arith))

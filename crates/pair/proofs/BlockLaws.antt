@@ -2,7 +2,6 @@
 -- Assumes nothing.
 use Prim.Native.Nat.{ℕ, zero, suc, _+_, _-_, _*_, _<_, _≤_, min}
 use native.Mathlib.Omega.{arith}
-use native.Mathlib.Nat.{mul-le-mul-left, mul-assoc, mul-left-comm, mul-suc}
 use native.Mathlib.Numerals.{add-one}
 use native.Mathlib.Decide.{decLt, ℕ-discrete}
 use mathlib.Core.Path.{_≡_, refl, sym, ap, subst, _∙_}
@@ -13,7 +12,7 @@ use borrow.Author.Tests.{eq-eqb}
 use lib.Dec.{eqb}
 use lib.ListN.{length, getD, drop}
 use Rattle.temporal.specs.Lists.{select}
-use Rattle.temporal.specs.Plan.{Plan}
+use Rattle.temporal.specs.Plan.{Plan, Terms}
 use Rattle.temporal.specs.Walk.{isInterior}
 use Rattle.temporal.specs.Shortest.{hops, count, throughIn}
 use Rattle.temporal.specs.Foremost.{arrival, arrivesBy, walksBy}
@@ -27,9 +26,11 @@ use Rattle.temporal.proofs.ForemostLaws.{foremost-at-most, foremost-by-arrival}
 use Rattle.temporal.proofs.ListLaws.{select-none}
 use Rattle.temporal.proofs.PlanLaws.{slots-within}
 use Rattle.temporal.proofs.ShortestLaws.{hops-empty, hops-bound}
+use Rattle.pass.specs.Passed.{waiting, areaSize, mostColumns}
 use Rattle.pass.specs.Column.{blockColumn}
 use Rattle.pass.specs.declared.Ended.{Ended}
 use Rattle.pass.specs.PassedColumns.{ColumnsReady, SettledAt, ColumnsPassed, slotOf}
+use Rattle.pass.proofs.SizeLaws.{first-part, some-column, area-fits}
 use Rattle.pass.proofs.UseLaws.{block-row, settled-in, not-settled, whole-few}
 use Rattle.pair.specs.Throughs.{throughEntry, Storing, StoredBlock, PairReady, Asks, lastSlot, BlockReady}
 use Rattle.pair.specs.Throughs.{PairBy, BlockDone, ThroughsReady, Throughs}
@@ -46,20 +47,6 @@ pub through-no-path : (p : Plan) (s z v : ℕ) (l : List (List ℕ)) → l ≡ [
 unfolding select
 through-no-path p s z v l e = rw e
 
--- a block of at most twice the slots fits the work area
-pub area-fits : (n t block : ℕ) → block ≤ 2 * t → 4 * n + 2 * n * block ≤ workSize n t
-area-fits n t block few =
-    let most : 2 * n * block ≤ 2 * n * (2 * t) = mul-le-mul-left (2 * n) few in
-    let double : 2 * n * (2 * t) ≡ 4 * (n * t) = doubled n t in
-    let parts : n * (t + 1) ≡ n * t + n = more n t in
-    omega arith
-  where
-    doubled : (n t : ℕ) → 2 * n * (2 * t) ≡ 4 * (n * t)
-    doubled n t = let a = mul-assoc 2 n (2 * t) in let b = mul-left-comm n 2 t in omega arith
-
-    more : (n t : ℕ) → n * (t + 1) ≡ n * t + n
-    more n t = rw add-one (mul-suc n t)
-
 difference : (row through count whole : ℕ) → row + through ≡ count → whole ≡ count → whole - row ≡ through
 difference row through count whole e f = omega arith
 
@@ -70,27 +57,28 @@ pub waits-for-another : (n s z until : ℕ) → s < n → s ≢ z → Asks n z u
 waits-for-another n s z until source different asks =
     ⊎-elim (λ none q. omega arith) (λ same q. different (q ∙ same)) asks
 
-module _ (bs : List ℕ) (n t s z until low block : ℕ) (table area : List ℕ)
-    (ready : BlockReady bs n t s z until low block table area) where
+module _ (bs : List ℕ) (n t : ℕ) (terms : Terms) (s z until low block : ℕ) (table area : List ℕ)
+    (ready : BlockReady bs n t terms s z until low block table area) where
   ok : planFault bs n t ≡ 0
   ok = ready .accepted
 
   abbrev p : Plan
-  p = planOf bs n t
+  p = planOf bs n t terms
 
   other : s ≢ until
   other = waits-for-another n s z until (ready .source) (ready .different) (ready .asks)
 
   -- the pass can be made
-  pub block-pass : ColumnsReady bs n t s until block area
-  block-pass = record { accepted = ok; source = ready .source; other = other; fits = ready .fits }
+  pub block-pass : ColumnsReady bs n t terms s until block area
+  block-pass =
+      record { accepted = ok; turns = ready .turns; source = ready .source; other = other; fits = ready .fits }
 
-  module _ (area′ : List ℕ) (r : Ended) (passed : ColumnsPassed bs n t s until (blockColumn low block) block area area′ r) where
+  module _ (area′ : List ℕ) (r : Ended) (passed : ColumnsPassed bs n t terms s until (blockColumn low block) block area area′ r) where
     -- a count over 2^64 - 1
-    pub block-over : slotOf r ≡ 0 → BlockDone bs n t s z until low block table area table area′ 0
+    pub block-over : slotOf r ≡ 0 → BlockDone bs n t terms s z until low block table area table area′ 0
     block-over e =
         record {
-          over = λ q. not-settled bs n t s until ok other (blockColumn low block) block area′ r (passed .ends) e;
+          over = λ q. not-settled bs n t terms s until ok other (blockColumn low block) block area′ r (passed .ends) e;
           settled = λ q. absurd (q refl);
           here = λ q. absurd (q refl);
           before = λ v h. refl;
@@ -101,8 +89,8 @@ module _ (bs : List ℕ) (n t s z until low block : ℕ) (table area : List ℕ)
         }
 
     module _ (d : slotOf r ≢ 0) where
-      at-end : SettledAt bs n t s until (blockColumn low block) block area′ (slotOf r)
-      at-end = settled-in bs n t s until ok other (blockColumn low block) block area′ r (passed .ends) d
+      at-end : SettledAt bs n t terms s until (blockColumn low block) block area′ (slotOf r)
+      at-end = settled-in bs n t terms s until ok other (blockColumn low block) block area′ r (passed .ends) d
 
       -- the pair's walks by that slot are no more
       small : count (walksBy p s z (slotOf r)) ≤ 18446744073709551615
@@ -115,8 +103,8 @@ module _ (bs : List ℕ) (n t s z until low block : ℕ) (table area : List ℕ)
           destination-asked : until ≡ z → count (walksBy p s z (slotOf r)) ≤ 18446744073709551615
           destination-asked q =
               let slot : slotOf r ≡ min t (arrival p s z) = at-end .slot ∙ ap (λ v. min t (arrival p s v)) q in
-              rw (ap (walksBy p s z) slot ∙ foremost-by-arrival bs n t ok s z)
-              (foremost-at-most p (slots-within bs n t ok) s z 18446744073709551615
+              rw (ap (walksBy p s z) slot ∙ foremost-by-arrival bs n t terms ok s z)
+              (foremost-at-most p (slots-within bs n t terms ok) s z 18446744073709551615
               (λ x h. at-end .appearances z x (ready .destination) (omega arith)))
 
       -- the walks by that slot are none, or have few hops
@@ -124,7 +112,7 @@ module _ (bs : List ℕ) (n t s z until low block : ℕ) (table area : List ℕ)
       unfolding walksBy planOf
       few-hops =
           let most = accepted bs n t ok .slots in
-          ⊎-elim inl (λ h. inr (omega arith)) (hops-bound (bounded-ends p (slots-within bs n t ok) s (arrivesBy z (slotOf r))))
+          ⊎-elim inl (λ h. inr (omega arith)) (hops-bound (bounded-ends p (slots-within bs n t terms ok) s (arrivesBy z (slotOf r))))
 
       here-hops : getD area′ z 0 ≡ hops (walksBy p s z (slotOf r))
       here-hops = at-end .entries .station-hops z (ready .destination)
@@ -138,10 +126,10 @@ module _ (bs : List ℕ) (n t s z until low block : ℕ) (table area : List ℕ)
 
       row :
           (j : ℕ) → j < block → low + j ≢ z → getD area′ z 0 ≢ 65535 →
-          getD area′ (4 * n + z * block + j) 0 + throughIn p s z (walksBy p s z (slotOf r)) (low + j) ≡
+          getD area′ (2 * n + z * block + j) 0 + throughIn p s z (walksBy p s z (slotOf r)) (low + j) ≡
           count (walksBy p s z (slotOf r))
       row j h ne path =
-          block-row low block bs n t s (slotOf r) area′ (ready .stations) (at-end .entries) z j (ready .destination) h ne small
+          block-row low block bs n t terms s (slotOf r) area′ (ready .stations) (at-end .entries) z j (ready .destination) h ne small
           (with-path path)
 
       -- what a stored entry is
@@ -173,20 +161,20 @@ module _ (bs : List ℕ) (n t s z until low block : ℕ) (table area : List ℕ)
             few = accepted bs n t ok .stations;
             stations = ready .stations;
             table = ready .table;
-            fits = omega arith;
+            fits = let first = first-part n (waiting t terms) block in omega arith;
             at-most = λ j h ne path. let both = row j h ne path in let whole = here-count in omega arith;
           }
 
       -- and then it is done
       pub block-done :
           (table′ : List ℕ) → StoredBlock n z low block block area′ table table′ →
-          BlockDone bs n t s z until low block table area table′ area′ (slotOf r)
+          BlockDone bs n t terms s z until low block table area table′ area′ (slotOf r)
       block-done table′ st =
           record {
             over = λ q. absurd (d q);
             settled = λ q. record {
               slot = at-end .slot;
-              few = λ none. whole-few bs n t s ok (ready .source) until none (blockColumn low block) block area′ (slotOf r) at-end;
+              few = λ none. whole-few bs n t terms s ok (ready .source) until none (blockColumn low block) block area′ (slotOf r) at-end;
               pair-hops = here-hops;
               pair-count = here-count;
             };
@@ -201,23 +189,23 @@ module _ (bs : List ℕ) (n t s z until low block : ℕ) (table area : List ℕ)
 -- ---- the loop
 
 -- the stations below low have their through counts, and after the first block the work area has the pair's hops and count
-pub record Blocks (bs : List ℕ) (n t s z until : ℕ) (table area : List ℕ) (low : ℕ) (table′ area′ : List ℕ) (slot : ℕ) :
+pub record Blocks (bs : List ℕ) (n t : ℕ) (terms : Terms) (s z until : ℕ) (table area : List ℕ) (low : ℕ) (table′ area′ : List ℕ) (slot : ℕ) :
     Type 0 where
-  pub ready : ThroughsReady bs n t s z until table area
+  pub ready : ThroughsReady bs n t terms s z until table area
   pub within : low ≤ n
   pub some-slot : 0 < low → slot ≢ 0
-  pub settled : 0 < low → PairBy bs n t s z until area′ slot
+  pub settled : 0 < low → PairBy bs n t terms s z until area′ slot
   pub counted : (v : ℕ) → v < low
-      → getD table′ v 0 ≡ throughIn (planOf bs n t) s z (walksBy (planOf bs n t) s z (lastSlot bs n t s until)) v
+      → getD table′ v 0 ≡ throughIn (planOf bs n t terms) s z (walksBy (planOf bs n t terms) s z (lastSlot bs n t terms s until)) v
   pub table-beyond : drop n table′ ≡ drop n table
   pub table-length : length table′ ≡ length table
   pub area-beyond : drop (workSize n t) area′ ≡ drop (workSize n t) area
   pub area-length : length area′ ≡ length area
 
 pub blocks-none :
-    (bs : List ℕ) (n t s z until : ℕ) (table area : List ℕ) (slot : ℕ) → ThroughsReady bs n t s z until table area →
-    Blocks bs n t s z until table area 0 table area slot
-blocks-none bs n t s z until table area slot r =
+    (bs : List ℕ) (n t : ℕ) (terms : Terms) (s z until : ℕ) (table area : List ℕ) (slot : ℕ) → ThroughsReady bs n t terms s z until table area →
+    Blocks bs n t terms s z until table area 0 table area slot
+blocks-none bs n t terms s z until table area slot r =
     record {
       ready = r;
       within = omega arith;
@@ -230,29 +218,32 @@ blocks-none bs n t s z until table area slot r =
       area-length = refl;
     }
 
-module _ (bs : List ℕ) (n t s z until : ℕ) (table area : List ℕ) (low : ℕ) (table′ area′ : List ℕ) (slot : ℕ)
-    (b : Blocks bs n t s z until table area low table′ area′ slot) (more : low < n) (most block : ℕ)
-    (m : most ≡ min n (2 * t)) (k : block ≡ min most (n - low)) where
+module _ (bs : List ℕ) (n t : ℕ) (terms : Terms) (s z until : ℕ) (table area : List ℕ) (low : ℕ) (table′ area′ : List ℕ) (slot : ℕ)
+    (b : Blocks bs n t terms s z until table area low table′ area′ slot) (more : low < n) (most block : ℕ)
+    (m : most ≡ mostColumns n (4 * (t + 1)) (waiting t terms)) (k : block ≡ min most (n - low)) where
   some-block : 0 < block
   some-block =
       let a = accepted bs n t (b .ready .ready .accepted) in
-      let stations = a .some-station in
-      let slots = a .some-slot in
+      let columns = some-column n (4 * (t + 1)) (waiting t terms) (omega arith) (a .some-station) in
       omega arith
+
+  few-columns : block ≤ mostColumns n (4 * (t + 1)) (waiting t terms)
+  few-columns = omega arith
 
   pub block-within : low + block ≤ n
   block-within = omega arith
 
   -- the next block can be counted
-  pub next-ready : BlockReady bs n t s z until low block table′ area′
+  pub next-ready : BlockReady bs n t terms s z until low block table′ area′
   next-ready =
-      let fits = area-fits n t block (omega arith) in
+      let fits = area-fits n t terms block few-columns in
       let room = b .ready .ready .area in
       let same = b .area-length in
       let tables = b .ready .ready .table in
       let kept = b .table-length in
       record {
         accepted = b .ready .ready .accepted;
+        turns = b .ready .ready .turns;
         source = b .ready .ready .source;
         destination = b .ready .ready .destination;
         different = b .ready .ready .different;
@@ -262,14 +253,15 @@ module _ (bs : List ℕ) (n t s z until : ℕ) (table area : List ℕ) (low : �
         fits = omega arith;
       }
 
-  module _ (table″ area″ : List ℕ) (r : ℕ) (done : BlockDone bs n t s z until low block table′ area′ table″ area″ r) where
+  module _ (table″ area″ : List ℕ) (r : ℕ) (done : BlockDone bs n t terms s z until low block table′ area′ table″ area″ r) where
     same-beyond : drop (workSize n t) area″ ≡ drop (workSize n t) area
     same-beyond =
-        later-drop (4 * n + 2 * n * block) (workSize n t) area″ area′ (area-fits n t block (omega arith)) (done .area-beyond) ∙
+        later-drop (areaSize n (waiting t terms) block) (workSize n t) area″ area′ (area-fits n t terms block few-columns)
+        (done .area-beyond) ∙
         b .area-beyond
 
     -- too many
-    pub blocks-refused : r ≡ 0 → Throughs bs n t s z until table area table″ area″ 0
+    pub blocks-refused : r ≡ 0 → Throughs bs n t terms s z until table area table″ area″ 0
     blocks-refused e =
         record {
           over = λ q. done .over e;
@@ -283,7 +275,7 @@ module _ (bs : List ℕ) (n t s z until : ℕ) (table area : List ℕ) (low : �
 
     module _ (d : r ≢ 0) where
       -- the next block
-      pub blocks-more : Blocks bs n t s z until table area (low + block) table″ area″ r
+      pub blocks-more : Blocks bs n t terms s z until table area (low + block) table″ area″ r
       blocks-more =
           record {
             ready = b .ready;
@@ -297,10 +289,10 @@ module _ (bs : List ℕ) (n t s z until : ℕ) (table area : List ℕ) (low : �
                 let same : low + (v - low) ≡ v = omega arith in
                 subst
                 (λ i. getD table″ i 0 ≡
-                throughIn (planOf bs n t) s z (walksBy (planOf bs n t) s z (lastSlot bs n t s until)) i)
+                throughIn (planOf bs n t terms) s z (walksBy (planOf bs n t terms) s z (lastSlot bs n t terms s until)) i)
                 same
                 (done .here d (v - low) (omega arith) ∙
-                ap (λ e. throughIn (planOf bs n t) s z (walksBy (planOf bs n t) s z e) (low + (v - low)))
+                ap (λ e. throughIn (planOf bs n t terms) s z (walksBy (planOf bs n t terms) s z e) (low + (v - low)))
                 (done .settled d .slot)));
             table-beyond = done .table-beyond ∙ b .table-beyond;
             table-length = done .table-length ∙ b .table-length;
@@ -313,16 +305,16 @@ module _ (bs : List ℕ) (n t s z until : ℕ) (table area : List ℕ) (low : �
 
 -- after the last block
 pub blocks-end :
-    (bs : List ℕ) (n t s z until : ℕ) (table area : List ℕ) (low : ℕ) (table′ area′ : List ℕ) (slot : ℕ) → n ≤ low →
-    Blocks bs n t s z until table area low table′ area′ slot → Throughs bs n t s z until table area table′ area′ slot
-blocks-end bs n t s z until table area low table′ area′ slot last b =
+    (bs : List ℕ) (n t : ℕ) (terms : Terms) (s z until : ℕ) (table area : List ℕ) (low : ℕ) (table′ area′ : List ℕ) (slot : ℕ) → n ≤ low →
+    Blocks bs n t terms s z until table area low table′ area′ slot → Throughs bs n t terms s z until table area table′ area′ slot
+blocks-end bs n t terms s z until table area low table′ area′ slot last b =
     let some = accepted bs n t (b .ready .ready .accepted) .some-station in
     record {
       over = λ q. absurd (b .some-slot (omega arith) q);
       settled = λ q. b .settled (omega arith);
       counted = λ q v h.
           b .counted v (omega arith) ∙
-          ap (λ e. throughIn (planOf bs n t) s z (walksBy (planOf bs n t) s z e) v) (sym (b .settled (omega arith) .slot));
+          ap (λ e. throughIn (planOf bs n t terms) s z (walksBy (planOf bs n t terms) s z e) v) (sym (b .settled (omega arith) .slot));
       table-beyond = b .table-beyond;
       table-length = b .table-length;
       area-beyond = b .area-beyond;

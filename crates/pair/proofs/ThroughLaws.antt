@@ -21,7 +21,7 @@ module _ (work : List ℕ) (n z low block j : ℕ) where
 
   pub entry-rest :
       low + j ≢ z → getD work z 0 ≢ 65535 →
-      throughEntry work n z low block j ≡ getD work (n + z) 0 - getD work (4 * n + z * block + j) 0
+      throughEntry work n z low block j ≡ getD work (n + z) 0 - getD work (2 * n + z * block + j) 0
   unfolding throughEntry
   entry-rest ne h = rw (ne-eqb (low + j) z ne, ne-eqb (getD work z 0) 65535 h)
 

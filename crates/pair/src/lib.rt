@@ -1,5 +1,6 @@
 // Operation 4, pair, over the pass.
 ghost use mathlib.Core.Path.{_≡_};
+ghost use Rattle.temporal.specs.Plan.{turning};
 ghost use Rattle.temporal.specs.Bytes.{planOf};
 ghost use Rattle.temporal.specs.Cause.{planFault};
 ghost use Rattle.temporal.specs.OutcomePair.{paired, pair};
@@ -37,7 +38,7 @@ fn through_at(work: &[u64], n: usize, z: usize, low: usize, block: usize, j: usi
     if work[z] == 65535 {
         return 0;
     }
-    let at = 4 * n + z * block + j;
+    let at = 2 * n + z * block + j;
     work[n + z] - work[at]
 }
 
@@ -62,17 +63,18 @@ fn block_throughs(
     plan: &[u8],
     n: usize,
     t: usize,
+    g: usize,
     s: usize,
     z: usize,
     low: usize,
     block: usize,
     until: usize,
 ) -> usize
-    requires { ⌜ BlockReady (now plan) n t s z until low block (now through) (now work) ⌝ }
-    ensures { λ r. ⌜ BlockDone (now (plan .entry)) n t s z until low block
+    requires { ⌜ BlockReady (now plan) n t (turning g) s z until low block (now through) (now work) ⌝ }
+    ensures { λ r. ⌜ BlockDone (now (plan .entry)) n t (turning g) s z until low block
         (now (through .entry)) (now (work .entry)) (now (through .exit)) (now (work .exit)) r ⌝ }
 {
-    let ended = pass::pass_until(work, plan, n, t, s, low, block, until);
+    let ended = pass::pass_until(work, plan, n, t, g, s, low, block, until);
     let slot = pass::settled_slot(ended);
     if slot == 0 {
         return 0;
@@ -89,20 +91,22 @@ pub fn throughs(
     plan: &[u8],
     n: usize,
     t: usize,
+    g: usize,
     s: usize,
     z: usize,
     until: usize,
 ) -> usize
-    requires { ⌜ ThroughsReady (now plan) n t s z until (now through) (now work) ⌝ }
-    ensures { λ r. ⌜ Throughs (now (plan .entry)) n t s z until
+    requires { ⌜ ThroughsReady (now plan) n t (turning g) s z until (now through) (now work) ⌝ }
+    ensures { λ r. ⌜ Throughs (now (plan .entry)) n t (turning g) s z until
         (now (through .entry)) (now (work .entry)) (now (through .exit)) (now (work .exit)) r ⌝ }
 {
-    let most = pass::smaller(n, 2 * t);
+    let q = pass::smaller(g, t);
+    let most = pass::most_columns(n, 4 * (t + 1), q);
     let mut low = 0;
     let mut slot = 0;
     while low < n {
         let block = pass::smaller(most, n - low);
-        slot = block_throughs(through, work, plan, n, t, s, z, low, block, until);
+        slot = block_throughs(through, work, plan, n, t, g, s, z, low, block, until);
         if slot == 0 {
             return 0;
         }
@@ -111,20 +115,21 @@ pub fn throughs(
     slot
 }
 
-// Pair once 1 to 8 are excluded.
+// Pair once 1 to 8 and 12 are excluded.
 fn pair_work(
     through: &mut [u64],
     work: &mut [u64],
     plan: &[u8],
     n: usize,
     t: usize,
+    g: usize,
     s: usize,
     z: usize,
 ) -> PairAnswer
-    requires { ⌜ PairReady (now plan) n t s z (now through) (now work) ⌝ }
-    ensures { λ r. ⌜ pairOutcome r (pairBuffers (now (through .exit)) (now (work .exit))) ≡ paired (planOf (now (plan .entry)) n t) s z (pairBuffers (now (through .entry)) (now (work .entry))) ⌝ }
+    requires { ⌜ PairReady (now plan) n t (turning g) s z (now through) (now work) ⌝ }
+    ensures { λ r. ⌜ pairOutcome r (pairBuffers (now (through .exit)) (now (work .exit))) ≡ paired (planOf (now (plan .entry)) n t (turning g)) s z (pairBuffers (now (through .entry)) (now (work .entry))) ⌝ }
 {
-    if throughs(through, work, plan, n, t, s, z, n) == 0 {
+    if throughs(through, work, plan, n, t, g, s, z, n) == 0 {
         memory::clear(through, n);
         memory::clear(work, 4 * (n * (t + 1)));
         return PairAnswer::Refused(Fault::Call(CallFault::TooMany));
@@ -135,22 +140,23 @@ fn pair_work(
     PairAnswer::Counted(hops, count)
 }
 
-// Pair on an accepted plan: 6, 7 and 8, then the work.
+// Pair on an accepted plan: 12, 6, 7 and 8, then the work.
 fn pair_accepted(
     through: &mut [u64],
     work: &mut [u64],
     plan: &[u8],
     n: usize,
     t: usize,
+    g: usize,
     s: usize,
     z: usize,
 ) -> PairAnswer
     requires { ⌜ planFault (now plan) n t ≡ 0 ⌝ }
-    ensures { λ r. ⌜ pairOutcome r (pairBuffers (now (through .exit)) (now (work .exit))) ≡ pair (now (plan .entry)) n t s z (pairBuffers (now (through .entry)) (now (work .entry))) ⌝ }
+    ensures { λ r. ⌜ pairOutcome r (pairBuffers (now (through .exit)) (now (work .exit))) ≡ pair (now (plan .entry)) n t (turning g) s z (pairBuffers (now (through .entry)) (now (work .entry))) ⌝ }
 {
-    let CallCheck::Refused(fault) = calls::pair_call(n, t, s, z, through.len(), n, work.len())
+    let CallCheck::Refused(fault) = calls::pair_call(n, t, g, s, z, through.len(), n, work.len())
     else {
-        return pair_work(through, work, plan, n, t, s, z);
+        return pair_work(through, work, plan, n, t, g, s, z);
     };
     PairAnswer::Refused(Fault::Call(fault))
 }
@@ -161,15 +167,16 @@ pub fn pair(
     plan: &[u8],
     n: usize,
     t: usize,
+    g: usize,
     s: usize,
     z: usize,
     through: &mut [u64],
     work: &mut [u64],
 ) -> PairAnswer
-    ensures { λ r. ⌜ pairOutcome r (pairBuffers (now (through .exit)) (now (work .exit))) ≡ pair (now (plan .entry)) n t s z (pairBuffers (now (through .entry)) (now (work .entry))) ⌝ }
+    ensures { λ r. ⌜ pairOutcome r (pairBuffers (now (through .exit)) (now (work .exit))) ≡ pair (now (plan .entry)) n t (turning g) s z (pairBuffers (now (through .entry)) (now (work .entry))) ⌝ }
 {
     let CheckAnswer::Refused(fault) = plan::check(plan, n, t) else {
-        return pair_accepted(through, work, plan, n, t, s, z);
+        return pair_accepted(through, work, plan, n, t, g, s, z);
     };
     PairAnswer::Refused(Fault::Plan(fault))
 }

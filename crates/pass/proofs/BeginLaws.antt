@@ -1,199 +1,263 @@
--- The work area at the beginning: before slot 1 the empty walk alone is settled, and nothing is pending.
+-- The work area at the beginning: the empty walk alone is settled, by slot 0, and nothing waits.
 -- Assumes nothing.
-use Prim.Native.Nat.{ℕ, _+_, _*_, _%_, _^_, _<_, _≤_}
+use Prim.Native.Nat.{ℕ, zero, suc, _+_, _*_, _%_, _^_, _<_, _≤_}
 use native.Mathlib.Omega.{arith}
 use native.Mathlib.Decide.{ℕ-discrete}
+use native.Mathlib.Nat.{mul-le-mul-right, suc-mul, mod-lt}
 use mathlib.Core.Path.{_≡_, refl, sym, ap, _∙_}
 use mathlib.Core.Bool.{Bool, true, false, cond}
 use mathlib.Core.List.{List}
-use mathlib.Core.Logic.{inl, inr, by-cases, _≢_}
+use mathlib.Core.Logic.{_⊎_, inl, inr, ⊎-elim, by-cases, _≢_}
 use lib.ListN.{length, getD, set}
 use lib.Seq.{getD-set-same, getD-set-other, lt-length-set}
 use Rattle.temporal.specs.Plan.{Plan, start}
 use Rattle.counting.proofs.Weights.{total, everywhere}
 use Rattle.counting.proofs.Fewest.{fewest-intro}
-use Rattle.counting.proofs.Recurrence.{before, atAppearance, arrivals-zero, before-zero, settle, start-here}
+use Rattle.counting.proofs.Recurrence.{heard, atAppearance, arrivals-zero, heard-zero, start-here}
 use Rattle.counting.proofs.Recurrence.{start-other}
 use Rattle.entries.specs.Entry.{stored}
 use Rattle.entries.proofs.CountLaws.{stored-small}
 use Rattle.memory.specs.Fill.{filled}
 use Rattle.memory.proofs.FillLaws.{filled-length, filled-other, filled-at}
-use Rattle.pass.specs.Row.{rowAt}
-use Rattle.pass.specs.Sweep.{begunArea, Area}
-use Rattle.pass.proofs.PlaceLaws.{row-settled, row-before, set-twice-length}
+use Rattle.pass.specs.Row.{partSize, rowAt, partAt}
+use Rattle.pass.specs.Sweep.{emptied, emptiedFrom, begunArea, Area}
+use Rattle.pass.proofs.PlaceLaws.{row-inside, emptied-length, set-twice-length}
 use Rattle.pass.proofs.BestLaws.{Best, best-same, best-none}
 use Rattle.pass.proofs.StateLaws.{AreaState}
 use Rattle.pass.proofs.PlanWalks.{kept, walksAt}
 
+-- ---- parts that are emptied
+
+module _ (n : ℕ) (w : List ℕ) (at : ℕ) where
+  -- every place outside of hops and counts is as it was
+  emptied-other : (i : ℕ) → (i < at) ⊎ (at + 2 * n ≤ i) → getD (emptied n w at) i 0 ≡ getD w i 0
+  unfolding emptied
+  emptied-other i out =
+      filled-other (filled w at n 65535) (at + n) n 0 i
+      (⊎-elim (λ (h : i < at). inl (omega arith)) (λ (h : at + 2 * n ≤ i). inr (omega arith)) out)
+      ∙ filled-other w at n 65535 i
+      (⊎-elim (λ (h : i < at). inl h) (λ (h : at + 2 * n ≤ i). inr (omega arith)) out)
+
+  emptied-hops : (v : ℕ) → v < n → at + 2 * n ≤ length w → getD (emptied n w at) (at + v) 0 ≡ 65535
+  unfolding emptied
+  emptied-hops v h fits =
+      filled-other (filled w at n 65535) (at + n) n 0 (at + v) (inl (omega arith))
+      ∙ filled-at w at n 65535 v h (omega arith)
+
+  emptied-counts : (v : ℕ) → v < n → at + 2 * n ≤ length w → getD (emptied n w at) (at + v + n) 0 ≡ 0
+  unfolding emptied
+  emptied-counts v h fits =
+      let same : at + n + v ≡ at + v + n = omega arith in
+      let kept = filled-length w at n 65535 in
+      sym (ap (λ i. getD (filled (filled w at n 65535) (at + n) n 0) i 0) same)
+      ∙ filled-at (filled w at n 65535) (at + n) n 0 v h (omega arith)
+
+module _ (n size : ℕ) (small : 2 * n ≤ size) where
+  from-length : (k : ℕ) (w : List ℕ) (at : ℕ) → length (emptiedFrom n size w at k) ≡ length w
+  unfolding emptiedFrom
+  from-length zero w at = refl
+  from-length (suc k) w at = from-length k (emptied n w at) (at + size) ∙ emptied-length n w at
+
+  -- before the first part and behind the last every place is as it was
+  from-before : (k : ℕ) (w : List ℕ) (at i : ℕ) → i < at → getD (emptiedFrom n size w at k) i 0 ≡ getD w i 0
+  unfolding emptiedFrom
+  from-before zero w at i h = refl
+  from-before (suc k) w at i h =
+      from-before k (emptied n w at) (at + size) i (omega arith) ∙ emptied-other n w at i (inl h)
+
+  from-beyond : (k : ℕ) (w : List ℕ) (at i : ℕ) → at + k * size ≤ i → getD (emptiedFrom n size w at k) i 0 ≡ getD w i 0
+  unfolding emptiedFrom
+  from-beyond zero w at i h = refl
+  from-beyond (suc k) w at i h =
+      let more = suc-mul k size in
+      from-beyond k (emptied n w at) (at + size) i (omega arith) ∙ emptied-other n w at i (inr (omega arith))
+
+  -- each part has no walks
+  from-hops : (k : ℕ) (w : List ℕ) (at m v : ℕ) → m < k → v < n → at + k * size ≤ length w
+      → getD (emptiedFrom n size w at k) (at + m * size + v) 0 ≡ 65535
+  unfolding emptiedFrom
+  from-hops zero w at m v h hv fits = absurd (omega arith)
+  from-hops (suc k) w at zero v h hv fits =
+      let more = suc-mul k size in
+      let same : at + 0 * size + v ≡ at + v = omega arith in
+      rw same
+      (from-before k (emptied n w at) (at + size) (at + v) (omega arith) ∙ emptied-hops n w at v hv (omega arith))
+  from-hops (suc k) w at (suc m) v h hv fits =
+      let more = suc-mul k size in
+      let less = suc-mul m size in
+      let same : at + suc m * size + v ≡ at + size + m * size + v = omega arith in
+      let kept = emptied-length n w at in
+      rw same (from-hops k (emptied n w at) (at + size) m v (omega arith) hv (omega arith))
+
+  from-counts : (k : ℕ) (w : List ℕ) (at m v : ℕ) → m < k → v < n → at + k * size ≤ length w
+      → getD (emptiedFrom n size w at k) (at + m * size + v + n) 0 ≡ 0
+  unfolding emptiedFrom
+  from-counts zero w at m v h hv fits = absurd (omega arith)
+  from-counts (suc k) w at zero v h hv fits =
+      let more = suc-mul k size in
+      let same : at + 0 * size + v + n ≡ at + v + n = omega arith in
+      rw same
+      (from-before k (emptied n w at) (at + size) (at + v + n) (omega arith) ∙ emptied-counts n w at v hv (omega arith))
+  from-counts (suc k) w at (suc m) v h hv fits =
+      let more = suc-mul k size in
+      let less = suc-mul m size in
+      let same : at + suc m * size + v + n ≡ at + size + m * size + v + n = omega arith in
+      let kept = emptied-length n w at in
+      rw same (from-counts k (emptied n w at) (at + size) m v (omega arith) hv (omega arith))
+
 -- ---- the entries
 
--- four stretches of n entries are written
-spread : ℕ → List ℕ → List ℕ
-spread n w = filled (filled (filled (filled w 0 n 65535) n n 0) (2 * n) n 65535) (3 * n) n 0
-
-module _ (n : ℕ) (w : List ℕ) (fits : 4 * n ≤ length w) where
-  spread-length : length (spread n w) ≡ length w
-  unfolding spread
-  spread-length =
-      filled-length (filled (filled (filled w 0 n 65535) n n 0) (2 * n) n 65535) (3 * n) n 0
-      ∙ filled-length (filled (filled w 0 n 65535) n n 0) (2 * n) n 65535
-      ∙ filled-length (filled w 0 n 65535) n n 0
-      ∙ filled-length w 0 n 65535
-
-  spread-hops : (v : ℕ) → v < n → getD (spread n w) v 0 ≡ 65535
-  unfolding spread
-  spread-hops v q =
-      let same : 0 + v ≡ v = omega arith in
-      filled-other (filled (filled (filled w 0 n 65535) n n 0) (2 * n) n 65535) (3 * n) n 0 v (inl (omega arith))
-      ∙ filled-other (filled (filled w 0 n 65535) n n 0) (2 * n) n 65535 v (inl (omega arith))
-      ∙ filled-other (filled w 0 n 65535) n n 0 v (inl (omega arith))
-      ∙ sym (ap (λ i. getD (filled w 0 n 65535) i 0) same)
-      ∙ filled-at w 0 n 65535 v q (omega arith)
-
-  spread-counts : (v : ℕ) → v < n → getD (spread n w) (v + n) 0 ≡ 0
-  unfolding spread
-  spread-counts v q =
-      let same : n + v ≡ v + n = omega arith in
-      let kept = filled-length w 0 n 65535 in
-      filled-other (filled (filled (filled w 0 n 65535) n n 0) (2 * n) n 65535) (3 * n) n 0 (v + n) (inl (omega arith))
-      ∙ filled-other (filled (filled w 0 n 65535) n n 0) (2 * n) n 65535 (v + n) (inl (omega arith))
-      ∙ sym (ap (λ i. getD (filled (filled w 0 n 65535) n n 0) i 0) same)
-      ∙ filled-at (filled w 0 n 65535) n n 0 v q (omega arith)
-
-  spread-pending : (v : ℕ) → v < n → getD (spread n w) (2 * n + v) 0 ≡ 65535
-  unfolding spread
-  spread-pending v q =
-      let kept = filled-length (filled w 0 n 65535) n n 0 ∙ filled-length w 0 n 65535 in
-      filled-other (filled (filled (filled w 0 n 65535) n n 0) (2 * n) n 65535) (3 * n) n 0 (2 * n + v)
-      (inl (omega arith))
-      ∙ filled-at (filled (filled w 0 n 65535) n n 0) (2 * n) n 65535 v q (omega arith)
-
-  spread-pending-counts : (v : ℕ) → v < n → getD (spread n w) (2 * n + v + n) 0 ≡ 0
-  unfolding spread
-  spread-pending-counts v q =
-      let same : 3 * n + v ≡ 2 * n + v + n = omega arith in
-      let kept =
-      filled-length (filled (filled w 0 n 65535) n n 0) (2 * n) n 65535
-      ∙ filled-length (filled w 0 n 65535) n n 0 ∙ filled-length w 0 n 65535 in
-      sym (ap (λ i. getD (filled (filled (filled (filled w 0 n 65535) n n 0) (2 * n) n 65535) (3 * n) n 0) i 0) same)
-      ∙ filled-at (filled (filled (filled w 0 n 65535) n n 0) (2 * n) n 65535) (3 * n) n 0 v q (omega arith)
-
-  spread-beyond : (i : ℕ) → 4 * n ≤ i → getD (spread n w) i 0 ≡ getD w i 0
-  unfolding spread
-  spread-beyond i q =
-      filled-other (filled (filled (filled w 0 n 65535) n n 0) (2 * n) n 65535) (3 * n) n 0 i (inr (omega arith))
-      ∙ filled-other (filled (filled w 0 n 65535) n n 0) (2 * n) n 65535 i (inr (omega arith))
-      ∙ filled-other (filled w 0 n 65535) n n 0 i (inr (omega arith))
-      ∙ filled-other w 0 n 65535 i (inr (omega arith))
-
-module _ (n block : ℕ) (w : List ℕ) (s : ℕ) (area : Area n block w) (inside : s < n) where
+module _ (n block q : ℕ) (w : List ℕ) (s : ℕ) (area : Area n block q w) (inside : s < n) where
   positive : 0 < n
   positive = area .some
 
-  fits : 4 * n ≤ length w
-  fits = let f = area .fits in omega arith
+  size : ℕ
+  size = partSize n block
 
-  -- an entry before the rows, other than the source's two
-  begun-other : (i : ℕ) → i < 4 * n → i ≢ s → i ≢ s + n → getD (begunArea n block w s) i 0 ≡ getD (spread n w) i 0
-  unfolding begunArea spread
-  begun-other i q a b =
-      filled-other (set (set (spread n w) s 0) (s + n) 1) (rowAt n block s) block 1 i (inl (omega arith))
-      ∙ getD-set-other (set (spread n w) s 0) (s + n) i 1 0 b
-      ∙ getD-set-other (spread n w) s i 0 0 a
+  bare : List ℕ
+  bare = emptiedFrom n (partSize n block) w 0 (1 + q)
 
-  begun-source : getD (begunArea n block w s) s 0 ≡ 0
-  unfolding begunArea spread
+  room : 0 + (1 + q) * partSize n block ≤ length w
+  room = let f = area .fits in omega arith
+
+  two-parts : 2 * partSize n block ≤ (1 + q) * partSize n block
+  two-parts = mul-le-mul-right {m = 2} {n = 1 + q} (partSize n block) (let p = area .parts in omega arith)
+
+  bare-length : length bare ≡ length w
+  unfolding bare
+  bare-length = from-length n (partSize n block) (omega arith) (1 + q) w 0
+
+  -- an entry outside of the source's row, other than the source's two
+  begun-other : (i : ℕ) → (i < rowAt n block s) ⊎ (rowAt n block s + block ≤ i) → i ≢ s → i ≢ s + n
+      → getD (begunArea n block q w s) i 0 ≡ getD bare i 0
+  unfolding begunArea bare
+  begun-other i out a b =
+      filled-other (set (set (emptiedFrom n (partSize n block) w 0 (1 + q)) s 0) (s + n) 1) (rowAt n block s) block 1 i out
+      ∙ getD-set-other (set (emptiedFrom n (partSize n block) w 0 (1 + q)) s 0) (s + n) i 1 0 b
+      ∙ getD-set-other (emptiedFrom n (partSize n block) w 0 (1 + q)) s i 0 0 a
+
+  begun-source : getD (begunArea n block q w s) s 0 ≡ 0
+  unfolding begunArea bare
   begun-source =
-      filled-other (set (set (spread n w) s 0) (s + n) 1) (rowAt n block s) block 1 s (inl (omega arith))
-      ∙ getD-set-other (set (spread n w) s 0) (s + n) s 1 0 (omega (arith, positive))
-      ∙ getD-set-same (spread n w) s 0 0 (omega (arith, spread-length n w fits, fits))
+      filled-other (set (set bare s 0) (s + n) 1) (rowAt n block s) block 1 s (inl (omega arith))
+      ∙ getD-set-other (set bare s 0) (s + n) s 1 0 (omega (arith, positive))
+      ∙ getD-set-same bare s 0 0 (omega (arith, bare-length, room, two-parts))
 
-  begun-count : getD (begunArea n block w s) (s + n) 0 ≡ 1
-  unfolding begunArea spread
+  begun-count : getD (begunArea n block q w s) (s + n) 0 ≡ 1
+  unfolding begunArea bare
   begun-count =
-      filled-other (set (set (spread n w) s 0) (s + n) 1) (rowAt n block s) block 1 (s + n) (inl (omega arith))
-      ∙ getD-set-same (set (spread n w) s 0) (s + n) 1 0
-      (lt-length-set (spread n w) s 0 (omega (arith, spread-length n w fits, fits)))
+      filled-other (set (set bare s 0) (s + n) 1) (rowAt n block s) block 1 (s + n) (inl (omega arith))
+      ∙ getD-set-same (set bare s 0) (s + n) 1 0
+      (lt-length-set bare s 0 (omega (arith, bare-length, room, two-parts)))
 
-  begun-row : (j : ℕ) → j < block → getD (begunArea n block w s) (rowAt n block s + j) 0 ≡ 1
-  unfolding begunArea spread
-  begun-row j q =
-      filled-at (set (set (spread n w) s 0) (s + n) 1) (rowAt n block s) block 1 j q
-      (omega (arith, set-twice-length (spread n w) s (s + n) 0 1, spread-length n w fits, row-settled inside area))
+  begun-row : (j : ℕ) → j < block → getD (begunArea n block q w s) (rowAt n block s + j) 0 ≡ 1
+  unfolding begunArea bare
+  begun-row j h =
+      filled-at (set (set bare s 0) (s + n) 1) (rowAt n block s) block 1 j h
+      (omega (arith, set-twice-length bare s (s + n) 0 1, bare-length, row-inside n block s inside, room, two-parts))
 
-  begun-beyond : (i : ℕ) → 4 * n + 2 * n * block ≤ i → getD (begunArea n block w s) i 0 ≡ getD w i 0
-  unfolding begunArea spread
-  begun-beyond i q =
-      filled-other (set (set (spread n w) s 0) (s + n) 1) (rowAt n block s) block 1 i
-      (inr (let f = row-before block s (2 * n) (omega arith) in omega arith))
-      ∙ getD-set-other (set (spread n w) s 0) (s + n) i 1 0 (omega (arith, positive))
-      ∙ getD-set-other (spread n w) s i 0 0 (omega (arith, positive))
-      ∙ spread-beyond n w fits i (omega arith)
+  begun-beyond : (i : ℕ) → (1 + q) * partSize n block ≤ i → getD (begunArea n block q w s) i 0 ≡ getD w i 0
+  unfolding bare
+  begun-beyond i h =
+      let r = row-inside n block s inside in
+      let t = two-parts in
+      let p = positive in
+      begun-other i (inr (omega arith)) (omega arith) (omega arith)
+      ∙ from-beyond n (partSize n block) (omega arith) (1 + q) w 0 i (omega arith)
+
+  -- no walks wait in a part
+  waits-hops : (e v : ℕ) → v < n → getD (begunArea n block q w s) (partAt n block q e + v) 0 ≡ 65535
+  unfolding bare partAt
+  waits-hops e v h =
+      let r = row-inside n block s inside in
+      let part = mul-le-mul-right {m = 1} {n = 1 + e % q} (partSize n block) (omega arith) in
+      let p = positive in
+      let same : 0 + (1 + e % q) * partSize n block + v ≡ (1 + e % q) * partSize n block + v = omega arith in
+      begun-other ((1 + e % q) * partSize n block + v) (inr (omega arith)) (omega arith) (omega arith)
+      ∙ sym (ap (λ i. getD (emptiedFrom n (partSize n block) w 0 (1 + q)) i 0) same)
+      ∙ from-hops n (partSize n block) (omega arith) (1 + q) w 0 (1 + e % q) v
+      (let l = mod-lt e (area .parts) in omega arith) h room
+
+  waits-counts : (e v : ℕ) → v < n → getD (begunArea n block q w s) (partAt n block q e + v + n) 0 ≡ 0
+  unfolding bare partAt
+  waits-counts e v h =
+      let r = row-inside n block s inside in
+      let part = mul-le-mul-right {m = 1} {n = 1 + e % q} (partSize n block) (omega arith) in
+      let p = positive in
+      let same : 0 + (1 + e % q) * partSize n block + v + n ≡ (1 + e % q) * partSize n block + v + n = omega arith in
+      begun-other ((1 + e % q) * partSize n block + v + n) (inr (omega arith)) (omega arith) (omega arith)
+      ∙ sym (ap (λ i. getD (emptiedFrom n (partSize n block) w 0 (1 + q)) i 0) same)
+      ∙ from-counts n (partSize n block) (omega arith) (1 + q) w 0 (1 + e % q) v
+      (let l = mod-lt e (area .parts) in omega arith) h room
+
+  -- nor are any settled for another station
+  none-hops : (v : ℕ) → v < n → v ≢ s → getD (begunArea n block q w s) v 0 ≡ 65535
+  unfolding bare
+  none-hops v h d =
+      let same : 0 + 0 * partSize n block + v ≡ v = omega arith in
+      begun-other v (inl (omega arith)) d (omega arith)
+      ∙ sym (ap (λ i. getD (emptiedFrom n (partSize n block) w 0 (1 + q)) i 0) same)
+      ∙ from-hops n (partSize n block) (omega arith) (1 + q) w 0 0 v (omega arith) h room
+
+  none-counts : (v : ℕ) → v < n → v ≢ s → getD (begunArea n block q w s) (v + n) 0 ≡ 0
+  unfolding bare
+  none-counts v h d =
+      let same : 0 + 0 * partSize n block + v + n ≡ v + n = omega arith in
+      begun-other (v + n) (inl (omega arith)) (omega arith) (omega arith)
+      ∙ sym (ap (λ i. getD (emptiedFrom n (partSize n block) w 0 (1 + q)) i 0) same)
+      ∙ from-counts n (partSize n block) (omega arith) (1 + q) w 0 0 v (omega arith) h room
 
   -- the beginning keeps the length
-  pub begun-length : length (begunArea n block w s) ≡ length w
-  unfolding begunArea spread
+  pub begun-length : length (begunArea n block q w s) ≡ length w
+  unfolding begunArea bare
   begun-length =
-      filled-length (set (set (spread n w) s 0) (s + n) 1) (rowAt n block s) block 1
-      ∙ set-twice-length (spread n w) s (s + n) 0 1 ∙ spread-length n w fits
+      filled-length (set (set bare s 0) (s + n) 1) (rowAt n block s) block 1
+      ∙ set-twice-length bare s (s + n) 0 1 ∙ bare-length
 
--- ---- the sequences before slot 1
+-- ---- the sequences by slot 0
 
 module _ (p : Plan) (s : ℕ) (g : ℕ → Bool) where
-  before-one : (v k : ℕ) → total p g (start s) (before p v 1) k ≡ total p g (start s) (atAppearance v 0) k
-  before-one v k = settle p s g v 0 k ∙ omega (arith, before-zero p s g v k)
-
-  kept-source : g s ≡ true → kept p s g s 1 0 ≡ 1
+  kept-source : g s ≡ true → kept p s g s 0 0 ≡ 1
   unfolding kept
-  kept-source e = rw e (before-one s 0 ∙ start-here p s g)
+  kept-source e = rw e (heard-zero p s g s 0 ∙ start-here p s g)
 
-  kept-none : (v k : ℕ) → v ≢ s → kept p s g v 1 k ≡ 0
+  kept-none : (v k : ℕ) → v ≢ s → kept p s g v 0 k ≡ 0
   unfolding kept
-  kept-none v k d = go (g v) (before-one v k ∙ start-other p s g v k d)
+  kept-none v k d = go (g v) (heard-zero p s g v k ∙ start-other p s g v k d)
     where
       go : (b : Bool) {x : ℕ} → x ≡ 0 → cond b x 0 ≡ 0
       go true e = e
       go false e = refl
 
--- At the beginning the work area holds the walks before slot 1, with no contact folded in; a walk of any column may go on
--- from the source.
-pub begun-state : (p : Plan) (s : ℕ) (may : ℕ → ℕ → Bool) (n block : ℕ) (w : List ℕ) → ((c : ℕ) → may c s ≡ true)
-    → Area n block w → s < n
-    → AreaState n block w (walksAt p s may 1 0) (begunArea n block w s)
+-- At the beginning the work area holds the walks by slot 0, with no contact folded in; a walk of any column may go on from the
+-- source.
+pub begun-state : (p : Plan) (s : ℕ) (may : ℕ → ℕ → Bool) (n block q : ℕ) (w : List ℕ) → ((c : ℕ) → may c s ≡ true)
+    → Area n block q w → s < n
+    → AreaState n block q 0 w (walksAt p s may 0 0) (begunArea n block q w s)
 unfolding walksAt everywhere
-begun-state p s may n block w free area inside =
+begun-state p s may n block q w free area inside =
     record {
-      same = begun-length n block w s area inside;
-      beyond = begun-beyond n block w s area inside;
-      settled = λ v q. by-cases (ℕ-discrete v s)
+      same = begun-length n block q w s area inside;
+      beyond = begun-beyond n block q w s area inside;
+      settled = λ v h. by-cases (ℕ-discrete v s)
           (λ e. rw e
-          (best-same (begun-source n block w s area inside) (begun-count n block w s area inside)
-          (λ j i g. begun-row n block w s area inside j i) source))
-          (λ d. best-same
-          (begun-other n block w s area inside v (omega arith) d (omega arith) ∙ spread-hops n w room v q)
-          (begun-other n block w s area inside (v + n) (omega arith) (omega arith) (omega arith)
-          ∙ spread-counts n w room v q)
+          (best-same (begun-source n block q w s area inside) (begun-count n block q w s area inside)
+          (λ j i g. begun-row n block q w s area inside j i) source))
+          (λ d. best-same (none-hops n block q w s area inside v h d) (none-counts n block q w s area inside v h d)
           (λ j i g. refl)
           (best-none (omega arith) (λ k. kept-none p s everywhere v k d)));
-      pending = λ v q. best-same
-          (begun-other n block w s area inside (2 * n + v) (omega arith) (omega arith) (omega arith)
-          ∙ spread-pending n w room v q)
-          (begun-other n block w s area inside (2 * n + v + n) (omega arith) (omega arith) (omega arith)
-          ∙ spread-pending-counts n w room v q)
+      waits = λ e v low high h. best-same (waits-hops n block q w s area inside e v h) (waits-counts n block q w s area inside e v h)
           (λ j i g. refl)
-          (best-none (omega arith) (λ k. arrivals-zero p s everywhere v 1 k));
+          (best-none (omega arith) (λ k. arrivals-zero p s everywhere v e k));
     }
   where
-    room : 4 * n ≤ length w
-    room = fits n block w s area inside
-
-    source : Best block 65535 (kept p s everywhere s 1) (λ c. kept p s (may c) s 1) 0 1 (λ j. 1)
+    source : Best block 65535 (kept p s everywhere s 0) (λ c. kept p s (may c) s 0) 0 1 (λ j. 1)
     source =
         let one = kept-source p s everywhere refl in
         record {
           entry = record {
-            fewest = fewest-intro (omega arith) (omega arith) (λ k q. absurd (omega arith));
+            fewest = fewest-intro (omega arith) (omega arith) (λ k h. absurd (omega arith));
             count = sym (ap stored one ∙ stored-small 1 (omega arith));
           };
-          row = λ j q g. sym (ap (λ x. x % 2 ^ 64) (kept-source p s (may j) (free j)));
+          row = λ j h g. sym (ap (λ x. x % 2 ^ 64) (kept-source p s (may j) (free j)));
         }

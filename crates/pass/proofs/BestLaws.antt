@@ -9,7 +9,7 @@ use mathlib.Core.Path.{_≡_, refl, sym, ap, _∙_}
 use mathlib.Core.Bool.{Bool, true, false, cond}
 use mathlib.Core.Logic.{⊎-elim}
 use borrow.Author.Tests.{lt-ltb, le-ltb, eq-eqb, ne-eqb}
-use Rattle.counting.proofs.Fewest.{Fewest, plus, delayed, plus-first, plus-second}
+use Rattle.counting.proofs.Fewest.{Fewest, plus, delayed, fewest-none, fewest-unique, plus-first, plus-second}
 use Rattle.entries.specs.Entry.{mergedCount}
 use Rattle.entries.proofs.EntryLaws.{Entry, entry-none, entry-ext, entry-merge, entry-later, compare, delayed-at}
 use Rattle.pass.specs.Row.{mergedRow}
@@ -60,6 +60,21 @@ module _ {block limit : ℕ} where
   pub best-none : {N : ℕ → ℕ} {M : ℕ → ℕ → ℕ} {r : ℕ → ℕ} → limit ≤ 65535 → ((k : ℕ) → N k ≡ 0)
       → Best block limit N M 65535 0 r
   best-none {N} small z = record { entry = entry-none N z; row = λ j q g. absurd (omega arith) }
+
+  -- an entry of no walks is one of any other sequences of no walks
+  pub best-empty : {N N′ : ℕ → ℕ} {M M′ : ℕ → ℕ → ℕ} {h c : ℕ} {r : ℕ → ℕ} → limit ≤ 65535 → ((k : ℕ) → N k ≡ 0)
+      → ((k : ℕ) → N′ k ≡ 0)
+      → Best block limit N M h c r
+      → Best block limit N′ M′ h c r
+  best-empty small z z′ b =
+      let none = fewest-unique (b .entry .fewest) (fewest-none z) in
+      record { entry = entry-ext (λ k. z k ∙ sym (z′ k)) (b .entry); row = λ j q g. absurd (omega arith) }
+
+-- of the row less is said
+pub best-limit : {block limit limit′ : ℕ} {N : ℕ → ℕ} {M : ℕ → ℕ → ℕ} {h c : ℕ} {r : ℕ → ℕ} → limit′ ≤ limit
+    → Best block limit N M h c r
+    → Best block limit′ N M h c r
+best-limit less b = record { entry = b .entry; row = λ j q g. b .row j q (omega arith) }
 
 -- walks together: the hops, count and row that merging gives
 module _ (N N′ : ℕ → ℕ) (M M′ : ℕ → ℕ → ℕ) (less : (j k : ℕ) → M j k ≤ N k) (less′ : (j k : ℕ) → M′ j k ≤ N′ k)

@@ -12,7 +12,7 @@ use borrow.Author.Tests.{lt-ltb, le-ltb}
 use lib.Dec.{ltb, eqb}
 use lib.ListN.{getD}
 use Rattle.temporal.specs.Lists.{below, any}
-use Rattle.temporal.specs.Plan.{Plan, start}
+use Rattle.temporal.specs.Plan.{Plan, Terms, start}
 use Rattle.temporal.specs.Walk.{isAppearance, isWalk}
 use Rattle.temporal.specs.Shortest.{shortestWalks, hops, count}
 use Rattle.temporal.specs.Set.{touchedIn}
@@ -25,7 +25,7 @@ use Rattle.temporal.proofs.PlanLaws.{slots-within}
 use Rattle.temporal.proofs.Adequacy.{bounded-ends}
 use Rattle.counting.proofs.Weights.{total, everywhere, total-zero}
 use Rattle.counting.proofs.Fewest.{Fewest, fewest-ext, fewest-unique, fewest-shortest, count-shortest}
-use Rattle.counting.proofs.Recurrence.{atAppearance, station-by, start-later}
+use Rattle.counting.proofs.Recurrence.{atAppearance, start-later}
 use Rattle.counting.proofs.Through.{touched-avoiding}
 use Rattle.pass.specs.Row.{rowAt}
 use Rattle.entries.specs.Entry.{stored}
@@ -81,26 +81,26 @@ start-small p s v = record { small = λ h f. go h }
     go zero = rw (total-zero p everywhere (start s) (atAppearance v 0)) (one (isAppearance v 0 (start s)))
     go (suc k) = rw (start-later p s everywhere v k) (omega arith)
 
-module _ (bs : List ℕ) (n t : ℕ) (ok : planFault bs n t ≡ 0) (s : ℕ) where
+module _ (bs : List ℕ) (n t : ℕ) (terms : Terms) (ok : planFault bs n t ≡ 0) (s : ℕ) where
   -- ---- cause 9
 
   -- an appearance with too many is a cause of refusal
   pub too-many-appearance : (v u : ℕ) → v < n → u ≤ t
-      → 18446744073709551615 < count (shortestWalks (planOf bs n t) s v u)
-      → appearanceTooMany (planOf bs n t) s ≡ true
+      → 18446744073709551615 < count (shortestWalks (planOf bs n t terms) s v u)
+      → appearanceTooMany (planOf bs n t terms) s ≡ true
   unfolding planOf
   too-many-appearance v u hv hu big =
       any-true _ (below n) .1 (
         v,
         mem-below n .1 hv,
-        any-true (λ t′. ltb 18446744073709551615 (count (shortestWalks (planOf bs n t) s v t′))) (below (t + 1)) .1
+        any-true (λ t′. ltb 18446744073709551615 (count (shortestWalks (planOf bs n t terms) s v t′))) (below (t + 1)) .1
             (u, mem-below (t + 1) .1 (omega arith), lt-ltb 18446744073709551615 _ big),
       )
 
   -- where no appearance has too many there is no such cause
   pub few-appearances :
-      ((v u : ℕ) → v < n → u ≤ t → count (shortestWalks (planOf bs n t) s v u) ≤ 18446744073709551615)
-      → appearanceTooMany (planOf bs n t) s ≡ false
+      ((v u : ℕ) → v < n → u ≤ t → count (shortestWalks (planOf bs n t terms) s v u) ≤ 18446744073709551615)
+      → appearanceTooMany (planOf bs n t terms) s ≡ false
   unfolding planOf
   few-appearances small =
       any-false _ (below n) .1 (λ v m. any-false _ (below (t + 1)) .1 (λ u l. le-ltb 18446744073709551615 _
@@ -108,70 +108,70 @@ module _ (bs : List ℕ) (n t : ℕ) (ok : planFault bs n t ≡ 0) (s : ℕ) whe
 
   -- ---- stations
 
-  -- what is settled past slot e is all that ends at a station by slot e
+  -- what is settled by slot e is all that ends at a station by slot e
   station-all : (z e k : ℕ)
-      → kept (planOf bs n t) s everywhere z (e + 1) k
-      ≡ total (planOf bs n t) everywhere (start s) (λ y. cond (arrivesBy z e y) 1 0) k
+      → kept (planOf bs n t terms) s everywhere z e k
+      ≡ total (planOf bs n t terms) everywhere (start s) (λ y. cond (arrivesBy z e y) 1 0) k
   unfolding kept everywhere
-  station-all z e k = sym (station-by (planOf bs n t) s everywhere z e k)
+  station-all z e k = refl
 
   -- and so are those under a permission to go on from there
   station-may : (g : ℕ → Bool) (z e k : ℕ) → g z ≡ true
-      → kept (planOf bs n t) s g z (e + 1) k
-      ≡ total (planOf bs n t) g (start s) (λ y. cond (arrivesBy z e y) 1 0) k
+      → kept (planOf bs n t terms) s g z e k
+      ≡ total (planOf bs n t terms) g (start s) (λ y. cond (arrivesBy z e y) 1 0) k
   unfolding kept
-  station-may g z e k q = rw q (sym (station-by (planOf bs n t) s g z e k))
+  station-may g z e k q = rw q
 
   -- so its fewest hops and its number there are those of the shortest walks by slot e
   station-fewest : (z e : ℕ)
-      → Fewest (kept (planOf bs n t) s everywhere z (e + 1)) (hops (walksBy (planOf bs n t) s z e))
+      → Fewest (kept (planOf bs n t terms) s everywhere z e) (hops (walksBy (planOf bs n t terms) s z e))
   unfolding walksBy
   station-fewest z e =
       fewest-ext (λ k. sym (station-all z e k))
-      (fewest-shortest (planOf bs n t) (start s) (arrivesBy z e)
-      (bounded-ends (planOf bs n t) (slots-within bs n t ok) s (arrivesBy z e))
-      (few-slots bs n t ok))
+      (fewest-shortest (planOf bs n t terms) (start s) (arrivesBy z e)
+      (bounded-ends (planOf bs n t terms) (slots-within bs n t terms ok) s (arrivesBy z e))
+      (few-slots bs n t terms ok))
 
-  station-count : (z e : ℕ) → count (walksBy (planOf bs n t) s z e)
-      ≡ kept (planOf bs n t) s everywhere z (e + 1) (hops (walksBy (planOf bs n t) s z e))
+  station-count : (z e : ℕ) → count (walksBy (planOf bs n t terms) s z e)
+      ≡ kept (planOf bs n t terms) s everywhere z e (hops (walksBy (planOf bs n t terms) s z e))
   unfolding walksBy
   station-count z e =
-      count-shortest (planOf bs n t) (start s) (arrivesBy z e)
-      (bounded-ends (planOf bs n t) (slots-within bs n t ok) s (arrivesBy z e))
+      count-shortest (planOf bs n t terms) (start s) (arrivesBy z e)
+      (bounded-ends (planOf bs n t terms) (slots-within bs n t terms ok) s (arrivesBy z e))
       ∙ sym (station-all z e _)
 
-  module _ (col : ℕ → ℕ) (block : ℕ) (old w : List ℕ) (e j : ℕ)
-      (state : AreaState n block old (walksAt (planOf bs n t) s (mayLeave s col) (e + 1) j) w) where
-    entry : (z : ℕ) → z < n → Best block 65535 (kept (planOf bs n t) s everywhere z (e + 1))
-        (λ c. kept (planOf bs n t) s (mayLeave s col c) z (e + 1)) (getD w z 0) (getD w (z + n) 0)
+  module _ (col : ℕ → ℕ) (block q : ℕ) (old w : List ℕ) (e j : ℕ)
+      (state : AreaState n block q e old (walksAt (planOf bs n t terms) s (mayLeave s col) e j) w) where
+    entry : (z : ℕ) → z < n → Best block 65535 (kept (planOf bs n t terms) s everywhere z e)
+        (λ c. kept (planOf bs n t terms) s (mayLeave s col c) z e) (getD w z 0) (getD w (z + n) 0)
         (λ c. getD w (rowAt n block z + c) 0)
     unfolding walksAt
-    entry z q = state .settled z q
+    entry z h = state .settled z h
 
     -- a station's settled entry overflows just where its count is over 2^64 - 1
     pub station-overflows : (z : ℕ) → z < n
-        → areaOverflows n w z ≡ ltb 18446744073709551615 (count (walksBy (planOf bs n t) s z e))
+        → areaOverflows n w z ≡ ltb 18446744073709551615 (count (walksBy (planOf bs n t terms) s z e))
     station-overflows z q = go (areaOverflows n w z) refl
       where
-        go : (b : Bool) → areaOverflows n w z ≡ b → b ≡ ltb 18446744073709551615 (count (walksBy (planOf bs n t) s z e))
+        go : (b : Bool) → areaOverflows n w z ≡ b → b ≡ ltb 18446744073709551615 (count (walksBy (planOf bs n t terms) s z e))
         go true f =
             let large = overflow-large (entry z q .entry) f in
             let same = fewest-unique (large .fewest) (station-fewest z e) in
             let big =
-            subst (λ x. 18446744073709551615 < kept (planOf bs n t) s everywhere z (e + 1) x) same (large .large) in
-            sym (lt-ltb 18446744073709551615 (count (walksBy (planOf bs n t) s z e))
+            subst (λ x. 18446744073709551615 < kept (planOf bs n t terms) s everywhere z e x) same (large .large) in
+            sym (lt-ltb 18446744073709551615 (count (walksBy (planOf bs n t terms) s z e))
             (omega (arith, station-count z e)))
         go false f =
             let small = overflow-small (entry z q .entry) f .small _ (station-fewest z e) in
-            sym (le-ltb 18446744073709551615 (count (walksBy (planOf bs n t) s z e))
+            sym (le-ltb 18446744073709551615 (count (walksBy (planOf bs n t terms) s z e))
             (omega (arith, station-count z e)))
 
     -- its hops are those of the shortest walks
-    pub at-hops : (z : ℕ) → z < n → getD w z 0 ≡ hops (walksBy (planOf bs n t) s z e)
+    pub at-hops : (z : ℕ) → z < n → getD w z 0 ≡ hops (walksBy (planOf bs n t terms) s z e)
     at-hops z q = fewest-unique (entry z q .entry .fewest) (station-fewest z e)
 
     -- (kept) The settled entries are hops and counts, and a row says how many walks have no station of a column inside.
-    pub counted : CountedBy bs n t s e col block w
+    pub counted : CountedBy bs n t terms s e col block w
     unfolding mayLeave
     counted =
         record {
@@ -179,20 +179,20 @@ module _ (bs : List ℕ) (n t : ℕ) (ok : planFault bs n t ≡ 0) (s : ℕ) whe
           station-counts = λ z q few.
               let place : n + z ≡ z + n = omega arith in
               rw place (entry z q .entry .count
-              ∙ ap (λ h. stored (kept (planOf bs n t) s everywhere z (e + 1) h)) (at-hops z q)
+              ∙ ap (λ h. stored (kept (planOf bs n t terms) s everywhere z e h)) (at-hops z q)
               ∙ ap stored (sym (station-count z e))
               ∙ stored-small _ few);
           rows = λ z c q i d few some.
-              let h = hops (walksBy (planOf bs n t) s z e) in
-              let m = total (planOf bs n t) (mayLeave s col c) (start s) (λ y. cond (arrivesBy z e y) 1 0) h in
-              let parts : touchedIn (planOf bs n t) s z (walksBy (planOf bs n t) s z e) (λ v. eqb (col v) c) + m
-              ≡ count (walksBy (planOf bs n t) s z e) =
-              touched-avoiding bs n t ok s z e (λ v. eqb (col v) c) in
+              let h = hops (walksBy (planOf bs n t terms) s z e) in
+              let m = total (planOf bs n t terms) (mayLeave s col c) (start s) (λ y. cond (arrivesBy z e y) 1 0) h in
+              let parts : touchedIn (planOf bs n t terms) s z (walksBy (planOf bs n t terms) s z e) (λ v. eqb (col v) c) + m
+              ≡ count (walksBy (planOf bs n t terms) s z e) =
+              touched-avoiding bs n t terms ok s z e (λ v. eqb (col v) c) in
               let here = at-hops z q in
               let fits : m < 2 ^ 64 = omega arith in
               let held : getD w (rowAt n block z + c) 0 ≡ m =
               entry z q .row c i (omega arith)
-              ∙ ap (λ x. kept (planOf bs n t) s (mayLeave s col c) z (e + 1) x % 2 ^ 64) here
+              ∙ ap (λ x. kept (planOf bs n t terms) s (mayLeave s col c) z e x % 2 ^ 64) here
               ∙ ap (λ x. x % 2 ^ 64) (station-may (mayLeave s col c) z e h (other-free s col c z d))
               ∙ mod-eq-of-lt fits in
               omega arith;

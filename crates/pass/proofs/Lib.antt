@@ -15,3 +15,5 @@ mod EndLaws
 mod ReachLaws
 mod PassLaws
 pub mod UseLaws
+-- how many columns fit
+pub mod SizeLaws

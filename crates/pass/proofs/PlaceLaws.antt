@@ -1,82 +1,174 @@
 -- Places of the work area: rows lie within it and apart from each other. What the functions over it leave, from what
 -- the functions that they call leave. Assumes nothing.
-use Prim.Native.Nat.{ℕ, suc, _+_, _-_, _*_, _<_, _≤_}
+use Prim.Native.Nat.{ℕ, suc, _+_, _-_, _*_, _/_, _%_, _<_, _≤_}
 use native.Mathlib.Omega.{arith}
-use native.Mathlib.Nat.{mul-le-mul-right, suc-mul}
+use native.Mathlib.Nat.{le-refl, mul-le-mul, mul-le-mul-right, suc-mul, mod-lt, div-add-mod', mul-add-mod-self-right}
+use native.Mathlib.Decide.{decLe}
 use mathlib.Core.Path.{_≡_, refl, sym, ap, subst, _∙_}
 use mathlib.Core.Bool.{Bool, true, false, or-true, or-false}
 use mathlib.Core.List.{List}
-use mathlib.Core.Logic.{_≢_}
+use mathlib.Core.Logic.{_⊎_, inl, inr, by-cases, _≢_}
 use borrow.Author.Tests.{lt-ltb, le-ltb, eq-eqb, ne-eqb}
 use lib.ListN.{length, getD, set, length-set}
 use Rattle.temporal.specs.Bytes.{contactAt}
 use Rattle.plan.specs.declared.Contact.{Contact}
 use Rattle.plan.specs.Record.{contactOf}
 use Rattle.memory.specs.Fill.{filled}
-use Rattle.pass.specs.Row.{rowAt}
+use Rattle.memory.proofs.FillLaws.{filled-length}
+use Rattle.pass.specs.Row.{partSize, rowAt, partAt}
 use Rattle.pass.specs.Entry.{mergedArea, absorbed, Absorbable}
-use Rattle.pass.specs.Sweep.{sentArea, foldedArea, masked, settledOne, sweepOf, settledNext, settledFrom, begunArea, Area}
-use Rattle.pass.specs.Sweep.{FoldableArea}
+use Rattle.pass.specs.Sweep.{sentArea, foldedArea, masked, settledOne, sweepOf, settledNext, settledFrom}
+use Rattle.pass.specs.Sweep.{emptied, emptiedFrom, begunArea, PartFits, Area, FoldableArea}
 use Rattle.entries.proofs.CountLaws.{overflows-some, overflows-none}
+
+-- ---- parts and rows
 
 -- a row ends where a later one begins, or before
 pub row-before : (block e f : ℕ) → e < f → e * block + block ≤ f * block
 row-before block e f h = let a = mul-le-mul-right {m = suc e} {n = f} block h in omega (arith, suc-mul e block)
 
--- each of the 2 n rows lies within a work area that fits
-row-within : (n block e size : ℕ) → e < 2 * n → 4 * n + 2 * n * block ≤ size → rowAt n block e + block ≤ size
-row-within n block e size h fits = let a = row-before block e (2 * n) h in omega arith
+-- the row of a station lies within its part
+pub row-inside : (n block v : ℕ) → v < n → rowAt n block v + block ≤ partSize n block
+row-inside n block v h = let a = row-before block v n h in omega arith
 
--- a station's settled row lies within it
-pub row-settled : {n block v : ℕ} {w : List ℕ} → v < n → Area n block w → rowAt n block v + block ≤ length w
-row-settled {n} {block} {v} {w} h a = row-within n block v (length w) (omega arith) (a .fits)
+module _ {n block base v : ℕ} {w : List ℕ} where
+  -- a station's settled row lies within the list
+  pub row-settled : v < n → PartFits n block base w → rowAt n block v + block ≤ length w
+  row-settled h a = let b = a .behind in let f = a .fits in let r = row-inside n block v h in omega arith
 
--- and its pending row
-pub row-pending : {n block v : ℕ} {w : List ℕ} → v < n → Area n block w → rowAt n block (n + v) + block ≤ length w
-row-pending {n} {block} {v} {w} h a = row-within n block (n + v) (length w) (omega arith) (a .fits)
+  -- and its row in the part
+  pub row-waiting : v < n → PartFits n block base w → base + rowAt n block v + block ≤ length w
+  row-waiting h a = let f = a .fits in let r = row-inside n block v h in omega arith
 
--- an entry before the rows and two rows can be taken in
-pub absorbable : (n block : ℕ) (w : List ℕ) (at row from e f : ℕ) → Area n block w → at + n < 4 * n
-    → e < 2 * n → f < 2 * n → row ≡ rowAt n block e → from ≡ rowAt n block f → Absorbable n block w at row from
-absorbable n block w at row from e f a before he hf row-is from-is =
+  -- an entry of the part can take in what is settled for another station
+  pub absorb-sent : (u row from : ℕ) → v < n → u < n → PartFits n block base w → row ≡ rowAt n block v → from ≡ rowAt n block u
+      → Absorbable n block w (base + v) (base + row) from
+  absorb-sent u row from hv hu a is-row is-from =
+      let b = a .behind in
+      let f = a .fits in
+      let some = a .some in
+      let r = row-inside n block v hv in
+      let q = row-inside n block u hu in
+      record { some = a .some; before = omega arith; row-fits = omega arith; from-fits = omega arith }
+
+  -- the settled entry of a station can take in what waits for it in the part
+  pub absorb-settled : (row : ℕ) → v < n → PartFits n block base w → row ≡ rowAt n block v
+      → Absorbable n block w v row (base + row)
+  absorb-settled row hv a is-row =
+      let b = a .behind in
+      let f = a .fits in
+      let some = a .some in
+      let r = row-inside n block v hv in
+      record { some = a .some; before = omega arith; row-fits = omega arith; from-fits = omega arith }
+
+-- a part fits a list of the same length too
+pub part-kept : {n block base : ℕ} {w w′ : List ℕ} → PartFits n block base w → length w′ ≡ length w → PartFits n block base w′
+part-kept a e = let fits = a .fits in record { some = a .some; behind = a .behind; fits = omega arith }
+
+-- and so does a work area
+pub area-kept : {n block q : ℕ} {w w′ : List ℕ} → Area n block q w → length w′ ≡ length w → Area n block q w′
+area-kept a e = let fits = a .fits in record { some = a .some; parts = a .parts; fits = omega arith }
+
+-- each of its parts lies behind what is settled, within the list
+pub part-fits : {n block q : ℕ} {w : List ℕ} → Area n block q w → (u : ℕ) → PartFits n block (partAt n block q u) w
+unfolding partAt
+part-fits {n} {block} {q} {w} a u =
+    let low = mod-lt u (a .parts) in
+    let size = partSize n block in
+    let first = mul-le-mul-right {m = 1} {n = 1 + u % q} size (omega arith) in
+    let last = mul-le-mul-right {m = suc (1 + u % q)} {n = 1 + q} size (omega arith) in
     let fits = a .fits in
-    let one = row-within n block e (length w) he fits in
-    let two = row-within n block f (length w) hf fits in
     record {
       some = a .some;
-      before = before;
-      row-from = omega arith;
-      row-fits = omega arith;
-      from-fits = omega arith;
-      length-fits = omega arith;
+      behind = omega (arith, first);
+      fits = omega (arith, last, suc-mul (1 + u % q) size, fits);
     }
 
--- a work area of the same length fits too
-pub area-kept : {n block : ℕ} {w w′ : List ℕ} → Area n block w → length w′ ≡ length w → Area n block w′
-area-kept a e = let fits = a .fits in record { some = a .some; fits = omega arith }
+-- a work area has no fewer entries than parts
+pub parts-few : {n block q : ℕ} {w : List ℕ} → Area n block q w → 1 + q ≤ length w
+parts-few {n} {block} {q} {w} a =
+    let some = a .some in
+    let fits = a .fits in
+    let one : 1 ≤ partSize n block = omega arith in
+    let few = mul-le-mul (le-refl (1 + q)) one in
+    omega arith
+
+-- what is settled lies within it
+pub first-part : {n block q : ℕ} {w : List ℕ} → Area n block q w → partSize n block ≤ length w
+first-part {n} {block} {q} {w} a =
+    let fits = a .fits in
+    let one = mul-le-mul-right {m = 1} {n = 1 + q} (partSize n block) (omega arith) in
+    omega arith
+
+-- where a part begins is a number below the work area's size
+pub part-small : (n block q u size : ℕ) → 0 < q → size ≡ partSize n block → (1 + q) * partSize n block < 18446744073709551616
+    → (1 + u % q) * size < 18446744073709551616
+part-small n block q u size parts is small =
+    let low = mod-lt u parts in
+    let most = mul-le-mul-right {m = 1 + u % q} {n = 1 + q} (partSize n block) (omega arith) in
+    rw is (omega arith)
+
+-- parts of slots less than q apart do not meet
+module _ (q : ℕ) where
+  pub place-apart : (w e : ℕ) → w < e → e < w + q → w % q ≢ e % q
+  place-apart w e low high same =
+      let a = div-add-mod' w q in
+      let b = div-add-mod' e q in
+      by-cases (decLe (e / q) (w / q))
+      (λ h. let c = mul-le-mul-right {m = e / q} {n = w / q} q h in omega arith)
+      (λ h.
+      let c = mul-le-mul-right {m = suc (w / q)} {n = e / q} q (omega arith) in
+      let d = suc-mul (w / q) q in
+      omega arith)
+
+  -- q slots later it is the same part
+  pub place-again : (w : ℕ) → (w + q) % q ≡ w % q
+  place-again w =
+      let one : w + q ≡ 1 * q + w = omega arith in
+      ap (λ x. x % q) one ∙ mul-add-mod-self-right 1 q w
+
+module _ (n block q : ℕ) where
+  -- one of two such parts ends where the other begins, or before
+  pub parts-apart : (w e : ℕ) → w % q ≢ e % q
+      → (partAt n block q w + partSize n block ≤ partAt n block q e)
+      ⊎ (partAt n block q e + partSize n block ≤ partAt n block q w)
+  unfolding partAt
+  parts-apart w e d =
+      let size = partSize n block in
+      by-cases (decLe (suc (w % q)) (e % q))
+      (λ h.
+      let c = mul-le-mul-right {m = suc (1 + w % q)} {n = 1 + e % q} size (omega arith) in
+      inl (omega (arith, c, suc-mul (1 + w % q) size)))
+      (λ h.
+      let c = mul-le-mul-right {m = suc (1 + e % q)} {n = 1 + w % q} size (omega arith) in
+      inr (omega (arith, c, suc-mul (1 + e % q) size)))
+
+  pub part-again : (w : ℕ) → partAt n block q (w + q) ≡ partAt n block q w
+  unfolding partAt
+  part-again w = ap (λ x. (1 + x) * partSize n block) (place-again q w)
 
 -- ---- a send
 
-module _ (n block : ℕ) (w : List ℕ) (v x : ℕ) where
+module _ (n block base : ℕ) (w : List ℕ) (v x : ℕ) where
   -- where the row is looked at
-  pub sent-row : (row from : ℕ) (out : List ℕ) → row ≡ rowAt n block (n + x) → from ≡ rowAt n block v
+  pub sent-row : (row from : ℕ) (out : List ℕ) → row ≡ rowAt n block x → from ≡ rowAt n block v
       → getD w v 0 < 65535 → getD w v 0 < getD w x 0
-      → out ≡ absorbed n block w (2 * n + x) row from (getD w v 0 + 1) (getD w (v + n) 0)
-      → out ≡ sentArea n block w v x
+      → out ≡ absorbed n block w (base + x) (base + row) from (getD w v 0 + 1) (getD w (v + n) 0)
+      → out ≡ sentArea n block base w v x
   unfolding sentArea
   sent-row row from out a b some fewer e =
       rw (lt-ltb (getD w v 0) 65535 some, lt-ltb (getD w v 0) (getD w x 0) fewer) (e ∙ rw (a, b))
 
   -- where it is not
   pub sent-pruned : (out : List ℕ) → getD w v 0 < 65535 → getD w x 0 ≤ getD w v 0
-      → out ≡ mergedArea n w (2 * n + x) (getD w v 0 + 1) (getD w (v + n) 0)
-      → out ≡ sentArea n block w v x
+      → out ≡ mergedArea n w (base + x) (getD w v 0 + 1) (getD w (v + n) 0)
+      → out ≡ sentArea n block base w v x
   unfolding sentArea
   sent-pruned out some more e =
       rw (lt-ltb (getD w v 0) 65535 some, le-ltb (getD w v 0) (getD w x 0) more) e
 
   -- a station without walks sends nothing
-  pub sent-none : 65535 ≤ getD w v 0 → sentArea n block w v x ≡ w
+  pub sent-none : 65535 ≤ getD w v 0 → sentArea n block base w v x ≡ w
   unfolding sentArea
   sent-none none = rw (le-ltb (getD w v 0) 65535 none)
 
@@ -86,19 +178,19 @@ pub record EndsWithin (n : ℕ) (r : Contact) : Type 0 where
   pub hearer : r .hearer < n
 
 -- the record that was read lies within the plan
-pub read-within : (bs : List ℕ) (n block j : ℕ) (w : List ℕ) (r : Contact) → FoldableArea bs n block j w
+pub read-within : (bs : List ℕ) (n block base j : ℕ) (w : List ℕ) (r : Contact) → FoldableArea bs n block base j w
     → contactOf r ≡ contactAt bs j → EndsWithin n r
-read-within bs n block j w r f e =
+read-within bs n block base j w r f e =
     record {
       sender = subst (λ c. c .sender < n) (sym e) (f .sender-station);
       hearer = subst (λ c. c .hearer < n) (sym e) (f .hearer-station);
     }
 
 -- a send over the record that was read folds it in
-pub folded-by : (bs : List ℕ) (n block j : ℕ) (w out : List ℕ) (r : Contact) → contactOf r ≡ contactAt bs j
-    → out ≡ sentArea n block w (r .sender) (r .hearer) → out ≡ foldedArea n block w (contactAt bs j)
+pub folded-by : (bs : List ℕ) (n block base j : ℕ) (w out : List ℕ) (r : Contact) → contactOf r ≡ contactAt bs j
+    → out ≡ sentArea n block base w (r .sender) (r .hearer) → out ≡ foldedArea n block base w (contactAt bs j)
 unfolding foldedArea
-folded-by bs n block j w out r e sent = sent ∙ ap (foldedArea n block w) e
+folded-by bs n block base j w out r e sent = sent ∙ ap (foldedArea n block base w) e
 
 -- ---- a mask
 
@@ -121,90 +213,145 @@ module _ (n block s : ℕ) (col : ℕ → ℕ) (w : List ℕ) (v : ℕ) where
 
 -- ---- settling
 
-module _ (n block s : ℕ) (col : ℕ → ℕ) (w : List ℕ) (v : ℕ) where
-  -- something is pending
-  settled-some : (row from : ℕ) (one two : List ℕ) → row ≡ rowAt n block v → from ≡ rowAt n block (n + v)
-      → getD w (2 * n + v) 0 < 65535
-      → one ≡ absorbed n block w v row from (getD w (2 * n + v) 0) (getD w (2 * n + v + n) 0)
+module _ (n block base s : ℕ) (col : ℕ → ℕ) (w : List ℕ) (v : ℕ) where
+  -- something waits
+  settled-some : (row : ℕ) (one two : List ℕ) → row ≡ rowAt n block v
+      → getD w (base + v) 0 < 65535
+      → one ≡ absorbed n block w v row (base + row) (getD w (base + v) 0) (getD w (base + v + n) 0)
       → two ≡ masked n block s col one v
-      → set (set two (2 * n + v) 65535) (2 * n + v + n) 0 ≡ settledOne n block s col w v
+      → set (set two (base + v) 65535) (base + v + n) 0 ≡ settledOne n block base s col w v
   unfolding settledOne
-  settled-some row from one two a b some first second =
-      rw (lt-ltb (getD w (2 * n + v) 0) 65535 some, second, first, a, b)
+  settled-some row one two a some first second =
+      rw (lt-ltb (getD w (base + v) 0) 65535 some, second, first, a)
 
   -- its count is over 2^64 - 1
-  pub settled-over : (over : Bool) (row from : ℕ) (one two : List ℕ) → row ≡ rowAt n block v
-      → from ≡ rowAt n block (n + v) → getD w (2 * n + v) 0 < 65535
-      → one ≡ absorbed n block w v row from (getD w (2 * n + v) 0) (getD w (2 * n + v + n) 0)
+  pub settled-over : (over : Bool) (row : ℕ) (one two : List ℕ) → row ≡ rowAt n block v
+      → getD w (base + v) 0 < 65535
+      → one ≡ absorbed n block w v row (base + row) (getD w (base + v) 0) (getD w (base + v + n) 0)
       → two ≡ masked n block s col one v
-      → getD w (2 * n + v + n) 0 ≡ 0
-      → sweepOf true (set (set two (2 * n + v) 65535) (2 * n + v + n) 0) ≡ settledNext n block s col (sweepOf over w) v
+      → getD w (base + v + n) 0 ≡ 0
+      → sweepOf true (set (set two (base + v) 65535) (base + v + n) 0) ≡ settledNext n block base s col (sweepOf over w) v
   unfolding settledNext
-  settled-over over row from one two a b some first second big =
-      rw (overflows-some (getD w (2 * n + v) 0) (getD w (2 * n + v + n) 0) some, eq-eqb (getD w (2 * n + v + n) 0) 0 big, or-true over)
-      (ap (sweepOf true) (settled-some row from one two a b some first second))
+  settled-over over row one two a some first second big =
+      rw (overflows-some (getD w (base + v) 0) (getD w (base + v + n) 0) some, eq-eqb (getD w (base + v + n) 0) 0 big, or-true over)
+      (ap (sweepOf true) (settled-some row one two a some first second))
 
   -- it is not
-  pub settled-within : (over : Bool) (row from : ℕ) (one two : List ℕ) → row ≡ rowAt n block v
-      → from ≡ rowAt n block (n + v) → getD w (2 * n + v) 0 < 65535
-      → one ≡ absorbed n block w v row from (getD w (2 * n + v) 0) (getD w (2 * n + v + n) 0)
+  pub settled-within : (over : Bool) (row : ℕ) (one two : List ℕ) → row ≡ rowAt n block v
+      → getD w (base + v) 0 < 65535
+      → one ≡ absorbed n block w v row (base + row) (getD w (base + v) 0) (getD w (base + v + n) 0)
       → two ≡ masked n block s col one v
-      → getD w (2 * n + v + n) 0 ≢ 0
-      → sweepOf over (set (set two (2 * n + v) 65535) (2 * n + v + n) 0) ≡ settledNext n block s col (sweepOf over w) v
+      → getD w (base + v + n) 0 ≢ 0
+      → sweepOf over (set (set two (base + v) 65535) (base + v + n) 0) ≡ settledNext n block base s col (sweepOf over w) v
   unfolding settledNext
-  settled-within over row from one two a b some first second small =
-      rw (overflows-some (getD w (2 * n + v) 0) (getD w (2 * n + v + n) 0) some, ne-eqb (getD w (2 * n + v + n) 0) 0 small, or-false over)
-      (ap (sweepOf over) (settled-some row from one two a b some first second))
+  settled-within over row one two a some first second small =
+      rw (overflows-some (getD w (base + v) 0) (getD w (base + v + n) 0) some, ne-eqb (getD w (base + v + n) 0) 0 small, or-false over)
+      (ap (sweepOf over) (settled-some row one two a some first second))
 
-  -- nothing is pending
-  pub settled-none : (over : Bool) → 65535 ≤ getD w (2 * n + v) 0
-      → sweepOf over w ≡ settledNext n block s col (sweepOf over w) v
+  -- nothing waits
+  pub settled-none : (over : Bool) → 65535 ≤ getD w (base + v) 0
+      → sweepOf over w ≡ settledNext n block base s col (sweepOf over w) v
   unfolding settledNext settledOne
   settled-none over none =
-      rw (overflows-none (getD w (2 * n + v) 0) (getD w (2 * n + v + n) 0) none, or-false over, le-ltb (getD w (2 * n + v) 0) 65535 none)
+      rw (overflows-none (getD w (base + v) 0) (getD w (base + v + n) 0) none, or-false over, le-ltb (getD w (base + v) 0) 65535 none)
 
 -- the stations below v of n are settled
-pub record SettlingArea (n block s : ℕ) (col : ℕ → ℕ) (old : List ℕ) (v : ℕ) (over : Bool) (now : List ℕ) : Type 0 where
+pub record SettlingArea (n block base s : ℕ) (col : ℕ → ℕ) (old : List ℕ) (v : ℕ) (over : Bool) (now : List ℕ) : Type 0 where
   pub within : v ≤ n
   pub same : length now ≡ length old
-  pub rest : settledFrom n block s col (sweepOf over now) v (n - v) ≡ settledFrom n block s col (sweepOf false old) 0 n
+  pub rest : settledFrom n block base s col (sweepOf over now) v (n - v) ≡ settledFrom n block base s col (sweepOf false old) 0 n
 
-module _ (n block s : ℕ) (col : ℕ → ℕ) (old : List ℕ) where
+module _ (n block base s : ℕ) (col : ℕ → ℕ) (old : List ℕ) where
   -- at first no station is settled
-  pub settling-none : SettlingArea n block s col old 0 false old
+  pub settling-none : SettlingArea n block base s col old 0 false old
   settling-none =
       let same : n - 0 ≡ n = omega arith in
-      record { within = omega arith; same = refl; rest = ap (settledFrom n block s col (sweepOf false old) 0) same }
+      record { within = omega arith; same = refl; rest = ap (settledFrom n block base s col (sweepOf false old) 0) same }
 
   -- one station more
-  pub settling-more : (v : ℕ) (over over′ : Bool) (now now′ : List ℕ) → v < n → SettlingArea n block s col old v over now
-      → length now′ ≡ length now → sweepOf over′ now′ ≡ settledNext n block s col (sweepOf over now) v
-      → SettlingArea n block s col old (v + 1) over′ now′
+  pub settling-more : (v : ℕ) (over over′ : Bool) (now now′ : List ℕ) → v < n → SettlingArea n block base s col old v over now
+      → length now′ ≡ length now → sweepOf over′ now′ ≡ settledNext n block base s col (sweepOf over now) v
+      → SettlingArea n block base s col old (v + 1) over′ now′
   unfolding settledFrom
   settling-more v over over′ now now′ h x kept e =
       let more : n - v ≡ suc (n - (v + 1)) = omega arith in
       record {
         within = omega arith;
         same = kept ∙ x .same;
-        rest = rw e (sym (ap (settledFrom n block s col (sweepOf over now) v) more) ∙ x .rest);
+        rest = rw e (sym (ap (settledFrom n block base s col (sweepOf over now) v) more) ∙ x .rest);
       }
 
   -- at last all are
-  pub settling-all : (v : ℕ) (over : Bool) (now : List ℕ) → n ≤ v → SettlingArea n block s col old v over now
-      → sweepOf over now ≡ settledFrom n block s col (sweepOf false old) 0 n
+  pub settling-all : (v : ℕ) (over : Bool) (now : List ℕ) → n ≤ v → SettlingArea n block base s col old v over now
+      → sweepOf over now ≡ settledFrom n block base s col (sweepOf false old) 0 n
   unfolding settledFrom
   settling-all v over now h x =
       let none : n - v ≡ 0 = omega arith in
-      sym (ap (settledFrom n block s col (sweepOf over now) v) none) ∙ x .rest
+      sym (ap (settledFrom n block base s col (sweepOf over now) v) none) ∙ x .rest
 
 -- ---- the beginning
 
--- four fills, two stores and a row of ones begin the pass
-pub begun-by : (n block s row : ℕ) (w a b c d out : List ℕ) → a ≡ filled w 0 n 65535 → b ≡ filled a n n 0
-    → c ≡ filled b (2 * n) n 65535 → d ≡ filled c (3 * n) n 0 → row ≡ rowAt n block s
-    → out ≡ filled (set (set d s 0) (s + n) 1) row block 1 → out ≡ begunArea n block w s
+-- the first i of k parts are empty
+pub record Emptying (n size k : ℕ) (old : List ℕ) (at i : ℕ) (now : List ℕ) : Type 0 where
+  pub within : i ≤ k
+  pub place : at ≡ i * size
+  pub same : length now ≡ length old
+  pub rest : emptiedFrom n size now at (k - i) ≡ emptiedFrom n size old 0 k
+
+-- two fills empty a part
+pub emptied-by : (n : ℕ) (w : List ℕ) (at : ℕ) (one out : List ℕ) → one ≡ filled w at n 65535 → out ≡ filled one (at + n) n 0
+    → out ≡ emptied n w at
+unfolding emptied
+emptied-by n w at one out first second = second ∙ ap (λ l. filled l (at + n) n 0) first
+
+-- to empty a part keeps the length
+pub emptied-length : (n : ℕ) (w : List ℕ) (at : ℕ) → length (emptied n w at) ≡ length w
+unfolding emptied
+emptied-length n w at = filled-length (filled w at n 65535) (at + n) n 0 ∙ filled-length w at n 65535
+
+module _ (n size k : ℕ) (old : List ℕ) where
+  -- at first no part is
+  pub emptying-none : Emptying n size k old 0 0 old
+  emptying-none =
+      let same : k - 0 ≡ k = omega arith in
+      record { within = omega arith; place = omega arith; same = refl; rest = ap (emptiedFrom n size old 0) same }
+
+  -- there is room for one more
+  pub emptying-room : (at i : ℕ) (now : List ℕ) → 2 * n ≤ size → k * size ≤ length old → i < k
+      → Emptying n size k old at i now → (at + 2 * n ≤ length now) × (at + size ≤ length old)
+  emptying-room at i now small fits h x =
+      let a = mul-le-mul-right {m = suc i} {n = k} size h in
+      let b = suc-mul i size in
+      let place = x .place in
+      let same = x .same in
+      (omega arith, omega arith)
+
+  -- one part more
+  pub emptying-more : (at i : ℕ) (now now′ : List ℕ) → i < k → Emptying n size k old at i now → now′ ≡ emptied n now at
+      → Emptying n size k old (at + size) (i + 1) now′
+  unfolding emptiedFrom
+  emptying-more at i now now′ h x e =
+      let more : k - i ≡ suc (k - (i + 1)) = omega arith in
+      let place = x .place in
+      record {
+        within = omega arith;
+        place = omega (arith, suc-mul i size, place);
+        same = ap length e ∙ emptied-length n now at ∙ x .same;
+        rest = rw e (sym (ap (emptiedFrom n size now at) more) ∙ x .rest);
+      }
+
+  -- at last all are
+  pub emptying-all : (at i : ℕ) (now : List ℕ) → k ≤ i → Emptying n size k old at i now → now ≡ emptiedFrom n size old 0 k
+  unfolding emptiedFrom
+  emptying-all at i now h x =
+      let none : k - i ≡ 0 = omega arith in
+      sym (ap (emptiedFrom n size now at) none) ∙ x .rest
+
+-- parts that are emptied, two stores and a row of ones begin the pass
+pub begun-by : (n block q s row : ℕ) (w d out : List ℕ) → d ≡ emptiedFrom n (partSize n block) w 0 (1 + q) → row ≡ rowAt n block s
+    → out ≡ filled (set (set d s 0) (s + n) 1) row block 1 → out ≡ begunArea n block q w s
 unfolding begunArea
-begun-by n block s row w a b c d out ea eb ec ed er eo = cc
+begun-by n block q s row w d out ed er eo = cc
 
 -- two stores keep a list's length
 pub set-twice-length : (w : List ℕ) (i j a b : ℕ) → length (set (set w i a) j b) ≡ length w

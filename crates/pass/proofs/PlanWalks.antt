@@ -1,56 +1,70 @@
--- The sequences that the pass keeps: walks from a source by their hops, settled before a slot and pending in it, all of
--- them and, by column, those that keep to the column's permission. A contact more and a slot more, by the recurrence.
+-- The sequences that the pass keeps: walks from a source by their hops, settled by a slot and waiting of later ones, all of them
+-- and, by column, those that keep to the column's permission. A contact more and a slot more, by the recurrence.
 -- Assumes nothing.
-use Prim.Native.Nat.{ℕ, suc, _+_, _<_, _≤_}
+use Prim.Native.Nat.{ℕ, suc, _+_, _-_, _<_, _≤_}
 use native.Mathlib.Omega.{arith}
 use native.Mathlib.Numerals.{add-one}
-use mathlib.Core.Path.{_≡_, refl, sym, _∙_}
-use mathlib.Core.Bool.{Bool, true, false, cond, _&&_}
+use mathlib.Core.Path.{_≡_, refl, sym, ap, _∙_, fun-ext}
+use mathlib.Core.Bool.{Bool, true, false, cond}
 use mathlib.Core.List.{List}
-use mathlib.Core.Logic.{_≢_}
+use mathlib.Core.Logic.{_⊎_, ⊎-elim, _≢_}
+use borrow.Author.Tests.{eq-eqb, ne-eqb}
+use lib.Dec.{eqb}
 use mathlib.Core.Option.{some}
 use lib.ListN.{length, getElem?}
-use Rattle.temporal.specs.Plan.{Contact, Plan, start, mayFollow}
-use Rattle.temporal.specs.Walk.{isAt}
+use Rattle.temporal.specs.Plan.{Contact, Plan, start}
+use Rattle.temporal.specs.Foremost.{arrivesBy}
+use Rattle.temporal.proofs.RuleLaws.{Waits}
 use Rattle.temporal.proofs.WalkLaws.{SlotsWithin}
 use Rattle.counting.proofs.Weights.{total, everywhere, cond-less, total-less}
 use Rattle.counting.proofs.Fewest.{Fewest, plus, delayed}
-use Rattle.counting.proofs.Recurrence.{before, atAppearance, arrivals, arrivals-suc, inflow-to-hearer}
-use Rattle.counting.proofs.Recurrence.{inflow-other-station, arrivals-same, arrivals-zero, arrivals-all, settle}
-use Rattle.counting.proofs.Recurrence.{arrivals-less}
+use Rattle.counting.proofs.Recurrence.{heard, atAppearance, arrivals, arrivals-suc, inflow-to-hearer}
+use Rattle.counting.proofs.Recurrence.{inflow-other-slot, inflow-other-station, arrivals-same, arrivals-zero, arrivals-all}
+use Rattle.counting.proofs.Recurrence.{arrivals-less, heard-more, heard-ready}
 use Rattle.entries.proofs.HopLaws.{walks-few}
+use Rattle.pass.specs.Row.{partAt}
 use Rattle.pass.specs.Sweep.{foldedArea, Area}
-use Rattle.pass.proofs.StateLaws.{Walks, Sound, AreaState, sent-state}
+use Rattle.pass.proofs.BestLaws.{best-ext}
+use Rattle.pass.proofs.StateLaws.{Walks, Sound, AreaState, state-on, sent-state}
 use Rattle.pass.proofs.SettleLaws.{Settles}
 
--- the walks to v that a contact in slot u may follow, by hops, where the permission g lets them go on from v
+-- the walks to v by slot c, by hops, where the permission g lets them go on from v
 unfoldable pub kept : Plan → ℕ → (ℕ → Bool) → ℕ → ℕ → ℕ → ℕ
-kept p s g v u k = cond (g v) (total p g (start s) (before p v u) k) 0
+kept p s g v c k = cond (g v) (total p g (start s) (heard v c) k) 0
 
--- before slot u, with the contacts below position j folded in; a walk of column c may go on from v where may c v
+-- settled by slot c, with the contacts below position j folded in; a walk of column i may go on from v where may i v
 unfoldable pub walksAt : Plan → ℕ → (ℕ → ℕ → Bool) → ℕ → ℕ → Walks
-walksAt p s may u j =
+walksAt p s may c j =
     record {
-      settled = λ v. kept p s everywhere v u;
-      settled-avoiding = λ v c. kept p s (may c) v u;
-      pending = λ v. arrivals p s everywhere j v u;
-      pending-avoiding = λ v c. arrivals p s (may c) j v u;
+      settled = λ v. kept p s everywhere v c;
+      settled-avoiding = λ v i. kept p s (may i) v c;
+      waits = λ e v. arrivals p s everywhere j v e;
+      waits-avoiding = λ e v i. arrivals p s (may i) j v e;
     }
 
 -- ---- a contact more
 
-module _ (p : Plan) (s : ℕ) (g : ℕ → Bool) (j : ℕ) (c : Contact) (u : ℕ) (there : getElem? (p .contacts) j ≡ some c)
-    (slot : c .slot ≡ u) where
-  -- what it brings from its sender is added for its hearer
-  at-hearer : (k : ℕ)
-      → plus (arrivals p s g j (c .hearer) u) (delayed (kept p s g (c .sender) u)) k ≡ arrivals p s g (j + 1) (c .hearer) u k
+module _ (p : Plan) (q : ℕ) (waits : Waits p q) (s : ℕ) (g : ℕ → Bool) (j : ℕ) (c : Contact) (u : ℕ)
+    (there : getElem? (p .contacts) j ≡ some c) (slot : c .slot ≡ u) where
+  -- (kept) what it brings from its sender is added for its hearer
+  at-hearer : 0 < u → u ≤ p .slots → (k : ℕ)
+      → plus (arrivals p s g j (c .hearer) u) (delayed (kept p s g (c .sender) (u - q))) k
+      ≡ arrivals p s g (j + 1) (c .hearer) u k
   unfolding plus kept
-  at-hearer k = rw (add-one, arrivals-suc p s g j there (c .hearer) u k, inflow-to-hearer p s g c u k slot)
+  at-hearer low high k =
+      rw (add-one, arrivals-suc p s g j there (c .hearer) u k, inflow-to-hearer p s g c u k slot)
+      (ap (λ f. arrivals p s g j (c .hearer) u k + delayed f k)
+      (fun-ext (λ k. ap (λ x. cond (g (c .sender)) x 0) (sym (heard-ready p s g q waits (c .sender) u k low high)))))
 
-  -- and nothing for another station
-  at-other : (v k : ℕ) → v ≢ c .hearer → arrivals p s g j v u k ≡ arrivals p s g (j + 1) v u k
-  at-other v k d =
-      rw (add-one, arrivals-suc p s g j there v u k, inflow-other-station p s g c v u k d) (omega arith)
+  -- and nothing for another station or slot
+  at-other : (e v k : ℕ) → (e ≢ u) ⊎ (v ≢ c .hearer) → arrivals p s g j v e k ≡ arrivals p s g (j + 1) v e k
+  at-other e v k d =
+      rw (
+        add-one,
+        arrivals-suc p s g j there v e k,
+        ⊎-elim (λ other. inflow-other-slot p s g c v e k (λ same. other (sym same ∙ slot)))
+            (λ other. inflow-other-station p s g c v e k other) d,
+      ) (omega arith)
 
 -- ---- those under a permission are no more
 
@@ -58,86 +72,143 @@ wider : (g : ℕ → Bool) (v : ℕ) → g v ≡ true → everywhere v ≡ true
 unfolding everywhere
 wider g v e = refl
 
-kept-less : (p : Plan) (s : ℕ) (g : ℕ → Bool) (v u k : ℕ) → kept p s g v u k ≤ kept p s everywhere v u k
+kept-less : (p : Plan) (s : ℕ) (g : ℕ → Bool) (v c k : ℕ) → kept p s g v c k ≤ kept p s everywhere v c k
 unfolding kept
-kept-less p s g v u k =
-    cond-less (g v) (everywhere v) (wider g v) (total-less p g everywhere (wider g) (start s) (before p v u) k)
+kept-less p s g v c k =
+    cond-less (g v) (everywhere v) (wider g v) (total-less p g everywhere (wider g) (start s) (heard v c) k)
 
-sound-at : (p : Plan) (s : ℕ) (may : ℕ → ℕ → Bool) (u j : ℕ) → Sound (walksAt p s may u j)
+sound-at : (p : Plan) (s : ℕ) (may : ℕ → ℕ → Bool) (c j : ℕ) → Sound (walksAt p s may c j)
 unfolding walksAt
-sound-at p s may u j =
+sound-at p s may c j =
     record {
-      settled = λ v c k. kept-less p s (may c) v u k;
-      pending = λ v c k. arrivals-less p s (may c) everywhere (wider (may c)) j v u k;
+      settled = λ v i k. kept-less p s (may i) v c k;
+      waits = λ e v i k. arrivals-less p s (may i) everywhere (wider (may i)) j v e k;
     }
 
 -- ---- a slot is settled
 
 -- nothing is kept where it may not go on
-kept-closed : (p : Plan) (s : ℕ) (g : ℕ → Bool) (v u k : ℕ) → g v ≡ false → kept p s g v u k ≡ 0
+kept-closed : (p : Plan) (s : ℕ) (g : ℕ → Bool) (v c k : ℕ) → g v ≡ false → kept p s g v c k ≡ 0
 unfolding kept
-kept-closed p s g v u k e = rw e
+kept-closed p s g v c k e = rw e
 
-module _ (p : Plan) (s : ℕ) (may : ℕ → ℕ → Bool) (u j : ℕ) (later : 0 < u)
-    (past : (i : ℕ) (c : Contact) → j ≤ i → getElem? (p .contacts) i ≡ some c → c .slot ≢ u)
-    (done : (i : ℕ) (c : Contact) → i < j → getElem? (p .contacts) i ≡ some c → c .slot ≢ suc u)
+-- no contact below position j is in a slot past all of them
+pub none-arrived : (p : Plan) (s : ℕ) (g : ℕ → Bool) (j e : ℕ)
+    → ((i : ℕ) (c : Contact) → i < j → getElem? (p .contacts) i ≡ some c → c .slot ≢ e)
+    → (v k : ℕ) → arrivals p s g j v e k ≡ 0
+none-arrived p s g j e none v k =
+    sym (arrivals-same p s g v e k 0 j (omega arith) (λ i c from before there. none i c before there))
+    ∙ arrivals-zero p s g v e k
+
+module _ (p : Plan) (s : ℕ) (may : ℕ → ℕ → Bool) (u j : ℕ)
+    (past : (i : ℕ) (c : Contact) → j ≤ i → getElem? (p .contacts) i ≡ some c → c .slot ≢ suc u)
     (within : j ≤ length (p .contacts)) where
-  -- all that arrives in slot u has arrived
-  pub arrived : (g : ℕ → Bool) (v k : ℕ) → total p g (start s) (atAppearance v u) k ≡ arrivals p s g j v u k
+  -- all that arrives in slot u + 1 has arrived
+  pub arrived : (g : ℕ → Bool) (v k : ℕ) → total p g (start s) (atAppearance v (suc u)) k ≡ arrivals p s g j v (suc u) k
   arrived g v k =
-      arrivals-all p s g v u k later
-      ∙ sym (arrivals-same p s g v u k j (length (p .contacts)) within (λ i c from q there. past i c from there))
+      arrivals-all p s g v (suc u) k (omega arith)
+      ∙ sym (arrivals-same p s g v (suc u) k j (length (p .contacts)) within (λ i c from h there. past i c from there))
 
   kept-settled : (g : ℕ → Bool) (v k : ℕ)
-      → cond (g v) (plus (kept p s g v u) (arrivals p s g j v u) k) 0 ≡ kept p s g v (suc u) k
+      → cond (g v) (plus (kept p s g v u) (arrivals p s g j v (suc u)) k) 0 ≡ kept p s g v (suc u) k
   unfolding kept plus
-  kept-settled g v k = go (g v) _ _ _ _ (settle p s g v u k) (arrived g v k)
+  kept-settled g v k = go (g v) _ _ _ _ (heard-more p s g v u k) (arrived g v k)
     where
       go : (b : Bool) (x y z a : ℕ) → x ≡ y + z → z ≡ a → cond b (cond b y 0 + a) 0 ≡ cond b x 0
       go true x y z a e f = omega arith
       go false x y z a e f = refl
 
-  -- settling slot u makes of the walks before it those before the next
-  pub settles-slot : Settles may (walksAt p s may u j) (walksAt p s may (suc u) j)
-  unfolding walksAt everywhere
+-- what is settled by slot u + 1, and of that slot nothing waits any more
+unfoldable pub walksTaken : Plan → ℕ → (ℕ → ℕ → Bool) → ℕ → ℕ → Walks
+walksTaken p s may u j =
+    record {
+      settled = λ v. kept p s everywhere v (suc u);
+      settled-avoiding = λ v i. kept p s (may i) v (suc u);
+      waits = λ e v k. cond (eqb e (suc u)) 0 (arrivals p s everywhere j v e k);
+      waits-avoiding = λ e v i k. cond (eqb e (suc u)) 0 (arrivals p s (may i) j v e k);
+    }
+
+module _ (p : Plan) (s : ℕ) (may : ℕ → ℕ → Bool) (u j : ℕ)
+    (past : (i : ℕ) (c : Contact) → j ≤ i → getElem? (p .contacts) i ≡ some c → c .slot ≢ suc u)
+    (within : j ≤ length (p .contacts)) where
+  -- settling slot u + 1 makes of the walks by slot u those by slot u + 1
+  pub settles-slot : Settles may (suc u) (walksAt p s may u j) (walksTaken p s may u j)
+  unfolding walksAt walksTaken everywhere
   settles-slot =
       record {
         sound = sound-at p s may u j;
-        sound-after = sound-at p s may (suc u) j;
-        closed = λ v c k e. kept-closed p s (may c) v u k e;
-        settled = λ v k. kept-settled everywhere v k;
-        avoids = λ v c k. kept-settled (may c) v k;
-        cleared = λ v k. sym (arrivals-same p s everywhere v (suc u) k 0 j (omega arith)
-            (λ i c from before there. done i c before there))
-            ∙ arrivals-zero p s everywhere v (suc u) k;
+        sound-after = record {
+          settled = λ v i k. kept-less p s (may i) v (suc u) k;
+          waits = λ e v i k. none-less (eqb e (suc u)) (arrivals-less p s (may i) everywhere (wider (may i)) j v e k);
+        };
+        closed = λ v i k e. kept-closed p s (may i) v u k e;
+        settled = λ v k. kept-settled p s may u j past within everywhere v k;
+        avoids = λ v i k. kept-settled p s may u j past within (may i) v k;
+        cleared = λ v k. ap (λ b. cond b 0 (arrivals p s everywhere j v (suc u) k)) (eq-eqb (suc u) (suc u) refl);
+        others = λ e v k other. sym (ap (λ b. cond b 0 (arrivals p s everywhere j v e k)) (ne-eqb e (suc u) other));
+        others-avoid = λ e v i k other. sym (ap (λ b. cond b 0 (arrivals p s (may i) j v e k)) (ne-eqb e (suc u) other));
       }
+    where
+      none-less : (b : Bool) {x y : ℕ} → x ≤ y → cond b 0 x ≤ cond b 0 y
+      none-less true h = omega arith
+      none-less false h = h
+
+-- The q slots past u + 1, after slot u + 1 is settled: the state is that by slot u + 1, where no record of the slot that is new is
+-- folded in.
+pub state-taken : (p : Plan) (s : ℕ) (may : ℕ → ℕ → Bool) (u j n block q : ℕ) (old w : List ℕ) → 0 < q
+    → ((i : ℕ) (c : Contact) → i < j → getElem? (p .contacts) i ≡ some c → c .slot ≢ u + 1 + q)
+    → AreaState n block q u old (walksTaken p s may u j) w
+    → AreaState n block q (u + 1) old (walksAt p s may (u + 1) j) w
+unfolding walksTaken walksAt
+state-taken p s may u j n block q old w parts none state =
+    rw add-one (on (state-on parts
+    (λ v k. ap (λ b. cond b 0 (arrivals p s everywhere j v (u + 1) k)) (eq-eqb (u + 1) (suc u) (omega arith)))
+    (λ v k. ap (λ b. cond b 0 (arrivals p s everywhere j v (u + 1 + q) k)) (ne-eqb (u + 1 + q) (suc u) (omega arith))
+    ∙ none-arrived p s everywhere j (u + 1 + q) none v k)
+    state))
+  where
+    -- of a slot past u + 1 all that arrived waits
+    on : AreaState n block q (u + 1) old (walksTaken p s may u j) w → AreaState n block q (suc u) old (walksAt p s may (suc u) j) w
+    on x =
+        record {
+          same = x .same;
+          beyond = x .beyond;
+          settled = x .settled;
+          waits = λ e v low high h.
+              best-ext (λ k. ap (λ b. cond b 0 (arrivals p s everywhere j v e k)) (ne-eqb e (suc u) (omega arith)))
+              (λ i k. ap (λ b. cond b 0 (arrivals p s (may i) j v e k)) (ne-eqb e (suc u) (omega arith)))
+              (x .waits e v (omega arith) (omega arith) h);
+        }
 
 -- ---- a walk's hops
 
 -- the fewest hops of settled walks are no more than the slots
-few-hops : (p : Plan) → SlotsWithin p → (s v u h : ℕ) → Fewest (kept p s everywhere v u) h → h < 65535
+few-hops : (p : Plan) → SlotsWithin p → (s v c h : ℕ) → Fewest (kept p s everywhere v c) h → h < 65535
     → h ≤ p .slots
-unfolding kept everywhere before
-few-hops p fits s v u h f q = walks-few p fits s h (λ y. isAt v y && mayFollow p (y .slot) u) (f .some q)
+unfolding kept everywhere
+few-hops p fits s v c h f q = walks-few p fits s h (arrivesBy v c) (f .some q)
 
 -- ---- a record is folded in
 
-module _ (p : Plan) (fits : SlotsWithin p) (few : p .slots ≤ 255) (s : ℕ) (may : ℕ → ℕ → Bool) (n block : ℕ)
-    (old : List ℕ) (area : Area n block old) where
+module _ (p : Plan) (q : ℕ) (waits : Waits p q) (fits : SlotsWithin p) (few : p .slots ≤ 255) (s : ℕ) (may : ℕ → ℕ → Bool)
+    (n block : ℕ) (old : List ℕ) (area : Area n block q old) where
   -- settled walks can take one hop more
-  one-more : {h : ℕ} (v u : ℕ) → Fewest (kept p s everywhere v u) h → h < 65535 → h + 1 < 65535
-  one-more {h} v u f q = let most = few-hops p fits s v u h f q in omega arith
+  one-more : {h : ℕ} (v c : ℕ) → Fewest (kept p s everywhere v c) h → h < 65535 → h + 1 < 65535
+  one-more {h} v c f g = let most = few-hops p fits s v c h f g in omega arith
 
-  -- Folding the contact at position j, in slot u: its walks have arrived too.
+  -- (kept) Folding the contact at position j, in slot u: its walks have arrived too.
   pub folded-state : (u j : ℕ) (c : Contact) (w : List ℕ) → getElem? (p .contacts) j ≡ some c → c .slot ≡ u
-      → c .sender < n → c .hearer < n
-      → AreaState n block old (walksAt p s may u j) w
-      → AreaState n block old (walksAt p s may u (j + 1)) (foldedArea n block w c)
+      → 0 < u → u ≤ p .slots → c .sender < n → c .hearer < n
+      → AreaState n block q (u - q) old (walksAt p s may (u - q) j) w
+      → AreaState n block q (u - q) old (walksAt p s may (u - q) (j + 1)) (foldedArea n block (partAt n block q u) w c)
   unfolding foldedArea walksAt
-  folded-state u j c w there slot sender hearer state =
-      sent-state n block old area (walksAt p s may u j) (walksAt p s may u (j + 1)) w (c .sender) (c .hearer) sender hearer
-      (sound-at p s may u j) state (one-more (c .sender) u (state .settled (c .sender) sender .entry .fewest))
-      (λ v k. refl) (λ v x k. refl)
-      (at-hearer p s everywhere j c u there slot) (λ x. at-hearer p s (may x) j c u there slot)
-      (λ v k. at-other p s everywhere j c u there slot v k)
-      (λ v x k. at-other p s (may x) j c u there slot v k)
+  folded-state u j c w there slot low high sender hearer state =
+      let parts = waits .some in
+      sent-state n block q (u - q) old area (walksAt p s may (u - q) j) (walksAt p s may (u - q) (j + 1)) w u (c .sender)
+      (c .hearer) (omega arith) (omega arith) sender hearer
+      (sound-at p s may (u - q) j) state (one-more (c .sender) (u - q) (state .settled (c .sender) sender .entry .fewest))
+      (λ v k. refl) (λ v i k. refl)
+      (at-hearer p q waits s everywhere j c u there slot low high)
+      (λ i. at-hearer p q waits s (may i) j c u there slot low high)
+      (λ e v k. at-other p q waits s everywhere j c u there slot e v k)
+      (λ e v i k. at-other p q waits s (may i) j c u there slot e v k)

@@ -8,6 +8,7 @@ use mathlib.Core.Logic.{⊎-elim, _⊎_}
 use borrow.Author.Tests.{ltb-true, ltb-false, lt-ltb, le-ltb}
 use lib.Dec.{ltb}
 use lib.ListN.{getD}
+use Rattle.temporal.specs.Plan.{Terms}
 use Rattle.temporal.specs.Lists.{below, any}
 use Rattle.temporal.specs.Shortest.{shortestPaths, hops, count}
 use Rattle.temporal.specs.Foremost.{arrival, arrivesBy, walksBy}
@@ -59,59 +60,59 @@ reached-station n w v e = go (ltb v n) refl e
     go true q f = ltb-true v n q
     go false q f = absurd (let z : _≡_ {A = ℕ} 0 1 = cc in omega arith)
 
-module _ (bs : List ℕ) (n t : ℕ) (ok : planFault bs n t ≡ 0) (s until : ℕ) where
+module _ (bs : List ℕ) (n t : ℕ) (terms : Terms) (ok : planFault bs n t ≡ 0) (s until : ℕ) where
   -- the shortest walks by a slot are none, or have few hops
-  few-hops-by : (e : ℕ) → (walksBy (planOf bs n t) s until e ≡ []) ⊎ (hops (walksBy (planOf bs n t) s until e) ≤ t)
+  few-hops-by : (e : ℕ) → (walksBy (planOf bs n t terms) s until e ≡ []) ⊎ (hops (walksBy (planOf bs n t terms) s until e) ≤ t)
   unfolding walksBy planOf
-  few-hops-by e = hops-bound (bounded-ends (planOf bs n t) (slots-within bs n t ok) s (arrivesBy until e))
+  few-hops-by e = hops-bound (bounded-ends (planOf bs n t terms) (slots-within bs n t terms ok) s (arrivesBy until e))
 
-  module _ (col : ℕ → ℕ) (block : ℕ) (old w : List ℕ) (e j : ℕ) where
+  module _ (col : ℕ → ℕ) (block q : ℕ) (old w : List ℕ) (e j : ℕ) where
     -- not reached by slot e: the arrival is later
-    pub not-yet : e ≤ t → s < n → AreaState n block old (walksAt (planOf bs n t) s (mayLeave s col) (e + 1) j) w
+    pub not-yet : e ≤ t → s < n → AreaState n block q e old (walksAt (planOf bs n t terms) s (mayLeave s col) e j) w
         → reachedEntry n w until ≡ false
-        → e < arrival (planOf bs n t) s until
+        → e < arrival (planOf bs n t terms) s until
     unfolding reachedEntry planOf
-    not-yet inside source state q = go (ltb until n) refl q
+    not-yet inside source state f = go (ltb until n) refl f
       where
         go : (b : Bool) → ltb until n ≡ b → cond b (ltb (getD w until 0) 65535) false ≡ false
-            → e < arrival (planOf bs n t) s until
+            → e < arrival (planOf bs n t terms) s until
         go true r f =
             let many = ltb-false (getD w until 0) 65535 f in
-            let here = at-hops bs n t ok s col block old w e j state until (ltb-true until n r) in
+            let here = at-hops bs n t terms ok s col block q old w e j state until (ltb-true until n r) in
             let most = accepted bs n t ok .slots in
             ⊎-elim
-            (λ empty. arrival-past (planOf bs n t) (slots-within bs n t ok) s until (few-slots bs n t ok) e inside empty)
+            (λ empty. arrival-past (planOf bs n t terms) (slots-within bs n t terms ok) s until (few-slots bs n t terms ok) e inside empty)
             (λ few. absurd (omega arith))
             (few-hops-by e)
         go false r f =
             let most = accepted bs n t ok .slots in
-            let never = arrival-outside bs n t ok s until source (ltb-false until n r) in
+            let never = arrival-outside bs n t terms ok s until source (ltb-false until n r) in
             omega arith
 
     -- reached by slot e: the arrival is not later
-    pub now-reached : AreaState n block old (walksAt (planOf bs n t) s (mayLeave s col) (e + 1) j) w
+    pub now-reached : AreaState n block q e old (walksAt (planOf bs n t terms) s (mayLeave s col) e j) w
         → reachedEntry n w until ≡ true
-        → arrival (planOf bs n t) s until ≤ e
+        → arrival (planOf bs n t terms) s until ≤ e
     unfolding reachedEntry
-    now-reached state q = go (ltb until n) refl q
+    now-reached state f = go (ltb until n) refl f
       where
         go : (b : Bool) → ltb until n ≡ b → cond b (ltb (getD w until 0) 65535) false ≡ true
-            → arrival (planOf bs n t) s until ≤ e
+            → arrival (planOf bs n t terms) s until ≤ e
         go true r f =
             let few = ltb-true (getD w until 0) 65535 f in
-            let here = at-hops bs n t ok s col block old w e j state until (ltb-true until n r) in
+            let here = at-hops bs n t terms ok s col block q old w e j state until (ltb-true until n r) in
             ⊎-elim
-            (λ empty. absurd (let many = hops-empty (walksBy (planOf bs n t) s until e) empty in omega arith))
-            (λ m. arrival-by (planOf bs n t) (slots-within bs n t ok) s until e (m .0) (m .1))
-            (empty-or-member (walksBy (planOf bs n t) s until e))
+            (λ empty. absurd (let many = hops-empty (walksBy (planOf bs n t terms) s until e) empty in omega arith))
+            (λ m. arrival-by (planOf bs n t terms) (slots-within bs n t terms ok) s until e (m .0) (m .1))
+            (empty-or-member (walksBy (planOf bs n t terms) s until e))
         go false r f = absurd (let z : _≡_ {A = ℕ} 0 1 = cc in omega arith)
 
-module _ (bs : List ℕ) (n t : ℕ) (ok : planFault bs n t ≡ 0) (s : ℕ) where
+module _ (bs : List ℕ) (n t : ℕ) (terms : Terms) (ok : planFault bs n t ≡ 0) (s : ℕ) where
   -- (kept) settled entries past the last slot that are over 2^64 - 1 are those of stations that have too many
   pub stations-over : (f : ℕ → Bool)
-      → ((v : ℕ) → v < n → f v ≡ ltb 18446744073709551615 (count (walksBy (planOf bs n t) s v t)))
-      → any f (below n) ≡ stationTooMany (planOf bs n t) s
+      → ((v : ℕ) → v < n → f v ≡ ltb 18446744073709551615 (count (walksBy (planOf bs n t terms) s v t)))
+      → any f (below n) ≡ stationTooMany (planOf bs n t terms) s
   unfolding planOf
   stations-over f e =
       any-ext (below n) (λ v m.
-      e v (mem-below n .0 m) ∙ rw (shortest-by-last bs n t ok s v))
+      e v (mem-below n .0 m) ∙ rw (shortest-by-last bs n t terms ok s v))

@@ -1,46 +1,49 @@
--- The state of the work area: for each station the settled entry and the pending entry are the best of sequences of
+-- The state of the work area: for each station the settled entry, and the entries that wait of q slots, are the best of sequences of
 -- numbers of walks by hops. The law of a send, over any sequences. Assumes nothing.
-use Prim.Native.Nat.{ℕ, zero, suc, _+_, _*_, _<_, _≤_, min}
+use Prim.Native.Nat.{ℕ, zero, suc, _+_, _*_, _%_, _<_, _≤_, min}
 use native.Mathlib.Omega.{arith}
 use native.Mathlib.Decide.{decLe, ℕ-discrete}
+use native.Mathlib.Nat.{mul-le-mul-right, suc-mul, mod-lt}
 use mathlib.Core.Path.{_≡_, refl, sym, _∙_}
 use mathlib.Core.List.{List}
-use mathlib.Core.Logic.{_⊎_, inl, inr, by-cases, _≢_}
+use mathlib.Core.Logic.{_⊎_, inl, inr, ⊎-elim, by-cases, _≢_}
 use lib.ListN.{length, getD}
 use Rattle.counting.proofs.Fewest.{plus, delayed}
-use Rattle.pass.specs.Row.{mergedRow, rowAt}
+use Rattle.pass.specs.Row.{mergedRow, partSize, rowAt, partAt}
 use Rattle.entries.specs.Entry.{mergedCount}
 use Rattle.entries.proofs.EntryLaws.{delayed-zero, plus-none}
-use Rattle.pass.specs.Sweep.{sentArea, Area}
-use Rattle.pass.proofs.PlaceLaws.{row-before, absorbable, area-kept, sent-row, sent-pruned, sent-none}
-use Rattle.pass.proofs.BestLaws.{Best, best-ext, best-same, best-merge, best-delayed, row-more}
-use Rattle.pass.proofs.TookLaws.{Took, merged-took, absorbed-took}
+use Rattle.pass.specs.Sweep.{sentArea, PartFits, Area}
+use Rattle.pass.proofs.PlaceLaws.{row-before, row-inside, row-settled, row-waiting, area-kept, part-fits}
+use Rattle.pass.proofs.PlaceLaws.{place-apart, parts-apart, part-again, sent-row, sent-pruned, sent-none}
+use Rattle.pass.proofs.BestLaws.{Best, best-ext, best-same, best-empty, best-merge, best-delayed, row-more}
+use Rattle.pass.proofs.TookLaws.{Took, merged-took, absorbed-took, took-outside}
 
 -- the entry at a place, with the row at another, is the best of N and M
 abbrev pub BestAt : ℕ → ℕ → (ℕ → ℕ) → (ℕ → ℕ → ℕ) → ℕ → ℕ → ℕ → List ℕ → Type 0
 BestAt block limit N M n at row w = Best block limit N M (getD w at 0) (getD w (at + n) 0) (λ j. getD w (row + j) 0)
 
--- the sequences of the stations, settled and pending, and those of them, by column, that avoid the column's stations
+-- the sequences of the stations, settled and waiting by slot, and those of them, by column, that avoid the column's stations
 pub record Walks : Type 0 where
   pub settled : ℕ → ℕ → ℕ
   pub settled-avoiding : ℕ → ℕ → ℕ → ℕ
-  pub pending : ℕ → ℕ → ℕ
-  pub pending-avoiding : ℕ → ℕ → ℕ → ℕ
+  pub waits : ℕ → ℕ → ℕ → ℕ
+  pub waits-avoiding : ℕ → ℕ → ℕ → ℕ → ℕ
 
 -- those that avoid a column's stations are no more
 pub record Sound (x : Walks) : Type 0 where
   pub settled : (v j k : ℕ) → x .settled-avoiding v j k ≤ x .settled v k
-  pub pending : (v j k : ℕ) → x .pending-avoiding v j k ≤ x .pending v k
+  pub waits : (e v j k : ℕ) → x .waits-avoiding e v j k ≤ x .waits e v k
 
--- the work area holds them. The row of a pending entry with more hops than the settled one is not looked at.
-pub record AreaState (n block : ℕ) (old : List ℕ) (x : Walks) (w : List ℕ) : Type 0 where
+-- The work area holds them, with what waits of the q slots past c. The row of a waiting entry with more hops than the settled one is
+-- not looked at.
+pub record AreaState (n block q c : ℕ) (old : List ℕ) (x : Walks) (w : List ℕ) : Type 0 where
   pub same : length w ≡ length old
-  pub beyond : (i : ℕ) → 4 * n + 2 * n * block ≤ i → getD w i 0 ≡ getD old i 0
+  pub beyond : (i : ℕ) → (1 + q) * partSize n block ≤ i → getD w i 0 ≡ getD old i 0
   pub settled : (v : ℕ) → v < n
       → BestAt block 65535 (x .settled v) (x .settled-avoiding v) n v (rowAt n block v) w
-  pub pending : (v : ℕ) → v < n
-      → BestAt block (min 65535 (getD w v 0 + 1)) (x .pending v) (x .pending-avoiding v) n (2 * n + v)
-      (rowAt n block (n + v)) w
+  pub waits : (e v : ℕ) → c < e → e ≤ c + q → v < n
+      → BestAt block (min 65535 (getD w v 0 + 1)) (x .waits e v) (x .waits-avoiding e v) n (partAt n block q e + v)
+      (partAt n block q e + rowAt n block v) w
 
 -- fewer walks are fewer one hop later
 pub delayed-less : {N M : ℕ → ℕ} → ((k : ℕ) → M k ≤ N k) → (k : ℕ) → delayed M k ≤ delayed N k
@@ -52,19 +55,50 @@ delayed-less h (suc k) = h k
 pub record Agree (n : ℕ) (x y : Walks) : Type 0 where
   pub settled : (v : ℕ) → v < n → (k : ℕ) → x .settled v k ≡ y .settled v k
   pub settled-avoiding : (v : ℕ) → v < n → (j k : ℕ) → x .settled-avoiding v j k ≡ y .settled-avoiding v j k
-  pub pending : (v : ℕ) → v < n → (k : ℕ) → x .pending v k ≡ y .pending v k
-  pub pending-avoiding : (v : ℕ) → v < n → (j k : ℕ) → x .pending-avoiding v j k ≡ y .pending-avoiding v j k
+  pub waits : (e v : ℕ) → v < n → (k : ℕ) → x .waits e v k ≡ y .waits e v k
+  pub waits-avoiding : (e v : ℕ) → v < n → (j k : ℕ) → x .waits-avoiding e v j k ≡ y .waits-avoiding e v j k
 
 -- the state is one of sequences that agree
-pub state-ext : {n block : ℕ} {old : List ℕ} {x y : Walks} {w : List ℕ} → Agree n x y → AreaState n block old x w
-    → AreaState n block old y w
-state-ext e s =
+pub state-ext : {n block q c : ℕ} {old : List ℕ} {x y : Walks} {w : List ℕ} → Agree n x y → AreaState n block q c old x w
+    → AreaState n block q c old y w
+state-ext a s =
     record {
       same = s .same;
       beyond = s .beyond;
-      settled = λ v q. best-ext (e .settled v q) (e .settled-avoiding v q) (s .settled v q);
-      pending = λ v q. best-ext (e .pending v q) (e .pending-avoiding v q) (s .pending v q);
+      settled = λ v h. best-ext (a .settled v h) (a .settled-avoiding v h) (s .settled v h);
+      waits = λ e v low high h. best-ext (a .waits e v h) (a .waits-avoiding e v h) (s .waits e v low high h);
     }
+
+-- the q slots past c are the q slots past c + 1, where nothing waits of the first and of the new one
+pub state-on : {n block q c : ℕ} {old : List ℕ} {x : Walks} {w : List ℕ} → 0 < q
+    → ((v k : ℕ) → x .waits (c + 1) v k ≡ 0) → ((v k : ℕ) → x .waits (c + 1 + q) v k ≡ 0)
+    → AreaState n block q c old x w
+    → AreaState n block q (c + 1) old x w
+state-on {n} {block} {q} {c} {old} {x} {w} some first last s =
+    record {
+      same = s .same;
+      beyond = s .beyond;
+      settled = s .settled;
+      waits = λ e v low high h. by-cases (ℕ-discrete e (c + 1 + q))
+          (λ new. rw new (rw (part-again n block q (c + 1))
+          (best-empty (omega arith) (first v) (last v) (s .waits (c + 1) v (omega arith) (omega arith) h))))
+          (λ old. s .waits e v (omega arith) (omega arith) h);
+    }
+
+-- two of the q slots past c have different parts
+pub slots-apart : (q c e u : ℕ) → c < e → e ≤ c + q → c < u → u ≤ c + q → e ≢ u → e % q ≢ u % q
+slots-apart q c e u from to low high other =
+    by-cases (decLe (suc e) u)
+    (λ h. place-apart q e u h (omega arith))
+    (λ h same. place-apart q u e (omega arith) (omega arith) (sym same))
+
+-- a part ends within the work area
+pub part-end : (n block q u : ℕ) → 0 < q → partAt n block q u + partSize n block ≤ (1 + q) * partSize n block
+unfolding partAt
+part-end n block q u some =
+    let low = mod-lt u some in
+    let last = mul-le-mul-right {m = suc (1 + u % q)} {n = 1 + q} (partSize n block) (omega arith) in
+    omega (arith, last, suc-mul (1 + u % q) (partSize n block))
 
 -- an entry of a row lies outside of any other row
 pub row-outside : (n block e f j : ℕ) → e ≢ f → j < block
@@ -74,116 +108,165 @@ row-outside n block e f j d q =
     (λ h. inl (let a = row-before block e f h in omega arith))
     (λ h. inr (let a = row-before block f e (omega arith) in omega arith))
 
-module _ (n block : ℕ) (old : List ℕ) (area : Area n block old) where
-  -- ---- one pending entry took walks in
+module _ (n block q c : ℕ) (old : List ℕ) (area : Area n block q old) where
+  -- ---- one waiting entry took walks in
 
-  took-state : (x y : Walks) (w w′ : List ℕ) (b : ℕ) → b < n → AreaState n block old x w → (h c : ℕ) (r : ℕ → ℕ)
-      → Took n block (2 * n + b) (rowAt n block (n + b)) w w′ h c r
-      → Best block (min 65535 (getD w b 0 + 1)) (y .pending b) (y .pending-avoiding b) h c r
+  took-state : (x y : Walks) (w w′ : List ℕ) (u b : ℕ) → c < u → u ≤ c + q → b < n → AreaState n block q c old x w
+      → (h d : ℕ) (r : ℕ → ℕ)
+      → Took n block (partAt n block q u + b) (partAt n block q u + rowAt n block b) w w′ h d r
+      → Best block (min 65535 (getD w b 0 + 1)) (y .waits u b) (y .waits-avoiding u b) h d r
       → ((v k : ℕ) → x .settled v k ≡ y .settled v k)
       → ((v j k : ℕ) → x .settled-avoiding v j k ≡ y .settled-avoiding v j k)
-      → ((v k : ℕ) → v ≢ b → x .pending v k ≡ y .pending v k)
-      → ((v j k : ℕ) → v ≢ b → x .pending-avoiding v j k ≡ y .pending-avoiding v j k)
-      → AreaState n block old y w′
-  took-state x y w w′ b hb s h c r took best es esa ep epa =
+      → ((e v k : ℕ) → (e ≢ u) ⊎ (v ≢ b) → x .waits e v k ≡ y .waits e v k)
+      → ((e v j k : ℕ) → (e ≢ u) ⊎ (v ≢ b) → x .waits-avoiding e v j k ≡ y .waits-avoiding e v j k)
+      → AreaState n block q c old y w′
+  took-state x y w w′ u b low high hb s h d r took best es esa ep epa =
       record {
         same = took .same ∙ s .same;
-        beyond = λ i q. took .other i (omega arith) (omega arith)
-            (inr (let f = row-before block (n + b) (2 * n) (omega arith) in omega arith))
-            ∙ s .beyond i q;
-        settled = λ v q. best-ext (es v) (esa v)
-            (best-same (settled-hops v q)
-            (took .other (v + n) (omega arith) (omega arith) (inl (omega arith)))
-            (λ j i g. took .other (rowAt n block v + j) (omega arith) (omega arith)
-            (row-outside n block v (n + b) j (omega arith) i))
-            (s .settled v q));
-        pending = λ v q. by-cases (ℕ-discrete v b)
-            (λ e. rw e (rw (settled-hops b hb)
-            (best-same (took .hops) (took .count) (λ j i g. took .entries j i) best)))
-            (λ d. rw (settled-hops v q) (best-ext (λ k. ep v k d) (λ j k. epa v j k d)
-            (best-same
-            (took .other (2 * n + v) (omega arith) (omega arith) (inl (omega arith)))
-            (took .other (2 * n + v + n) (omega arith) (omega arith) (inl (omega arith)))
-            (λ j i g. took .other (rowAt n block (n + v) + j) (omega arith) (omega arith)
-            (row-outside n block (n + v) (n + b) j (omega arith) i))
-            (s .pending v q))));
+        beyond = λ i far. outside i (inr (let f = part .fits in let g = area-end in omega arith)) ∙ s .beyond i far;
+        settled = λ v hv. best-ext (es v) (esa v)
+            (best-same (settled-hops v hv)
+            (outside (v + n) (inl (let f = part .behind in omega arith)))
+            (λ j i g. outside (rowAt n block v + j)
+            (inl (let f = part .behind in let g = row-inside n block v hv in omega arith)))
+            (s .settled v hv));
+        waits = λ e v from to hv. by-cases (ℕ-discrete e u)
+            (λ same. rw same (here v hv))
+            (λ other. there e v from to hv other);
       }
     where
+      part : PartFits n block (partAt n block q u) w
+      part = part-fits (area-kept area (s .same)) u
+
+      outside : (i : ℕ) → (i < partAt n block q u) ⊎ (partAt n block q u + partSize n block ≤ i) → getD w′ i 0 ≡ getD w i 0
+      outside = took-outside n block (partAt n block q u) b w w′ h d r hb took
+
+      area-end : partAt n block q u + partSize n block ≤ (1 + q) * partSize n block
+      area-end = part-end n block q u (area .parts)
+
       settled-hops : (v : ℕ) → v < n → getD w′ v 0 ≡ getD w v 0
-      settled-hops v q = took .other v (omega arith) (omega arith) (inl (omega arith))
+      settled-hops v hv = outside v (inl (let f = part .behind in omega arith))
+
+      -- in the same part
+      here : (v : ℕ) → v < n
+          → BestAt block (min 65535 (getD w′ v 0 + 1)) (y .waits u v) (y .waits-avoiding u v) n (partAt n block q u + v)
+          (partAt n block q u + rowAt n block v) w′
+      here v hv =
+          by-cases (ℕ-discrete v b)
+          (λ e. rw e (rw (settled-hops b hb) (best-same (took .hops) (took .count) (λ j i g. took .entries j i) best)))
+          (λ o. rw (settled-hops v hv) (best-ext (λ k. ep u v k (inr o)) (λ j k. epa u v j k (inr o))
+          (best-same
+          (took .other (partAt n block q u + v) (omega arith) (omega arith) (inl (omega arith)))
+          (took .other (partAt n block q u + v + n) (omega arith) (omega arith) (inl (omega arith)))
+          (λ j i g. took .other (partAt n block q u + rowAt n block v + j) (omega arith) (omega arith)
+          (⊎-elim (λ (l : rowAt n block v + j < rowAt n block b). inl (omega arith))
+          (λ (l : rowAt n block b + block ≤ rowAt n block v + j). inr (omega arith)) (row-outside n block v b j o i)))
+          (s .waits u v low high hv))))
+
+      -- in another part
+      there : (e v : ℕ) → c < e → e ≤ c + q → v < n → e ≢ u
+          → BestAt block (min 65535 (getD w′ v 0 + 1)) (y .waits e v) (y .waits-avoiding e v) n (partAt n block q e + v)
+          (partAt n block q e + rowAt n block v) w′
+      there e v from to hv other =
+          let row = row-inside n block v hv in
+          rw (settled-hops v hv) (best-ext (λ k. ep e v k (inl other)) (λ j k. epa e v j k (inl other))
+          (best-same
+          (apart (partAt n block q e + v) v refl (omega arith))
+          (apart (partAt n block q e + v + n) (v + n) (omega arith) (omega arith))
+          (λ j i g. apart (partAt n block q e + rowAt n block v + j) (rowAt n block v + j) (omega arith) (omega arith))
+          (s .waits e v from to hv)))
+        where
+          apart : (i o : ℕ) → i ≡ partAt n block q e + o → o < partSize n block → getD w′ i 0 ≡ getD w i 0
+          apart i o is small =
+              outside i
+              (⊎-elim (λ (a : partAt n block q e + partSize n block ≤ partAt n block q u). inl (omega arith))
+              (λ (a : partAt n block q u + partSize n block ≤ partAt n block q e). inr (omega arith))
+              (parts-apart n block q e u (slots-apart q c e u from to low high other)))
 
   -- ---- a send from station a to station b
 
-  -- what is settled for a, one hop later, is pending for b too
-  pub sent-state : (x y : Walks) (w : List ℕ) (a b : ℕ) → a < n → b < n → Sound x → AreaState n block old x w
+  -- what is settled for a, one hop later, waits for b too, of slot u
+  pub sent-state : (x y : Walks) (w : List ℕ) (u a b : ℕ) → c < u → u ≤ c + q → a < n → b < n → Sound x
+      → AreaState n block q c old x w
       → (getD w a 0 < 65535 → getD w a 0 + 1 < 65535)
       → ((v k : ℕ) → x .settled v k ≡ y .settled v k)
       → ((v j k : ℕ) → x .settled-avoiding v j k ≡ y .settled-avoiding v j k)
-      → ((k : ℕ) → plus (x .pending b) (delayed (x .settled a)) k ≡ y .pending b k)
-      → ((j k : ℕ) → plus (x .pending-avoiding b j) (delayed (x .settled-avoiding a j)) k ≡ y .pending-avoiding b j k)
-      → ((v k : ℕ) → v ≢ b → x .pending v k ≡ y .pending v k)
-      → ((v j k : ℕ) → v ≢ b → x .pending-avoiding v j k ≡ y .pending-avoiding v j k)
-      → AreaState n block old y (sentArea n block w a b)
-  sent-state x y w a b ha hb sound s few es esa here herea ep epa =
-      by-cases (decLe 65535 (getD w a 0)) nothing (λ q. something (omega arith))
+      → ((k : ℕ) → plus (x .waits u b) (delayed (x .settled a)) k ≡ y .waits u b k)
+      → ((j k : ℕ) → plus (x .waits-avoiding u b j) (delayed (x .settled-avoiding a j)) k ≡ y .waits-avoiding u b j k)
+      → ((e v k : ℕ) → (e ≢ u) ⊎ (v ≢ b) → x .waits e v k ≡ y .waits e v k)
+      → ((e v j k : ℕ) → (e ≢ u) ⊎ (v ≢ b) → x .waits-avoiding e v j k ≡ y .waits-avoiding e v j k)
+      → AreaState n block q c old y (sentArea n block (partAt n block q u) w a b)
+  sent-state x y w u a b low high ha hb sound s few es esa here herea ep epa =
+      by-cases (decLe 65535 (getD w a 0)) nothing (λ g. something (omega arith))
     where
-      area′ : Area n block w
-      area′ = area-kept area (s .same)
+      base : ℕ
+      base = partAt n block q u
 
-      positive : 0 < n
-      positive = area .some
-
-      fits : 4 * n ≤ length w
-      fits = let f = area′ .fits in omega arith
+      part : PartFits n block (partAt n block q u) w
+      part = part-fits (area-kept area (s .same)) u
 
       less : (j k : ℕ) → delayed (x .settled-avoiding a j) k ≤ delayed (x .settled a) k
       less j = delayed-less (sound .settled a j)
 
-      nothing : 65535 ≤ getD w a 0 → AreaState n block old y (sentArea n block w a b)
-      nothing q =
+      nothing : 65535 ≤ getD w a 0 → AreaState n block q c old y (sentArea n block (partAt n block q u) w a b)
+      nothing none-there =
           let f = s .settled a ha .entry .fewest in
           let none : (k : ℕ) → x .settled a k ≡ 0 = f .never (let g = f .bound in omega arith) in
-          rw (sent-none n block w a b q) (state-ext (record {
+          rw (sent-none n block (partAt n block q u) w a b none-there) (state-ext (record {
             settled = λ v i. es v;
             settled-avoiding = λ v i. esa v;
-            pending = λ v i k. by-cases (ℕ-discrete v b)
-                (λ e. rw e (plus-none (x .pending b) (delayed (x .settled a)) k (delayed-zero none k) ∙ here k))
-                (λ d. ep v k d);
-            pending-avoiding = λ v i j k. by-cases (ℕ-discrete v b)
-                (λ e. rw e
-                (plus-none (x .pending-avoiding b j) (delayed (x .settled-avoiding a j)) k
+            waits = λ e v i k. by-cases (ℕ-discrete e u)
+                (λ se. by-cases (ℕ-discrete v b)
+                (λ sv. rw (se, sv) (plus-none (x .waits u b) (delayed (x .settled a)) k (delayed-zero none k) ∙ here k))
+                (λ d. ep e v k (inr d)))
+                (λ d. ep e v k (inl d));
+            waits-avoiding = λ e v i j k. by-cases (ℕ-discrete e u)
+                (λ se. by-cases (ℕ-discrete v b)
+                (λ sv. rw (se, sv)
+                (plus-none (x .waits-avoiding u b j) (delayed (x .settled-avoiding a j)) k
                 (delayed-zero (λ k. omega (arith, sound .settled a j k, none k)) k)
                 ∙ herea j k))
-                (λ d. epa v j k d);
+                (λ d. epa e v j k (inr d)))
+                (λ d. epa e v j k (inl d));
           }) s)
 
-      something : getD w a 0 < 65535 → AreaState n block old y (sentArea n block w a b)
-      something q =
+      something : getD w a 0 < 65535 → AreaState n block q c old y (sentArea n block (partAt n block q u) w a b)
+      something some =
+          let behind = part .behind in
+          let fits = part .fits in
+          let positive = part .some in
+          let row-a = row-inside n block a ha in
+          let row-b = row-inside n block b hb in
           by-cases (decLe (getD w b 0) (getD w a 0))
-          (λ more. rw (sym (sent-pruned n block w a b _ q more refl))
-          (took-state x y w _ b hb s _ _ _
-          (merged-took n block w (2 * n + b) (rowAt n block (n + b)) (getD w a 0 + 1) (getD w (a + n) 0) positive
-          (omega arith) (omega arith) fits)
+          (λ more. rw (sym (sent-pruned n block (partAt n block q u) w a b _ some more refl))
+          (took-state x y w _ u b low high hb s _ _ _
+          (merged-took n block w (partAt n block q u + b) (partAt n block q u + rowAt n block b) (getD w a 0 + 1)
+          (getD w (a + n) 0) positive (omega arith) (omega arith))
           (best-same refl refl (λ j i g. sym (row-more _ _ _ _ (omega arith))) best) es esa ep epa))
-          (λ fewer. rw (sym (sent-row n block w a b _ _ _ refl refl q (omega arith) refl))
-          (took-state x y w _ b hb s _ _ _
-          (absorbed-took n block w (2 * n + b) (rowAt n block (n + b)) (rowAt n block a) (getD w a 0 + 1)
-          (getD w (a + n) 0)
-          (absorbable n block w (2 * n + b) (rowAt n block (n + b)) (rowAt n block a) (n + b) a area′ (omega arith)
-          (omega arith) (omega arith) refl refl)
-          (inr (let r = row-before block a (n + b) (omega arith) in omega arith)))
+          (λ fewer. rw (sym (sent-row n block (partAt n block q u) w a b _ _ _ refl refl some (omega arith) refl))
+          (took-state x y w _ u b low high hb s _ _ _
+          (absorbed-took n block w (partAt n block q u + b) (partAt n block q u + rowAt n block b) (rowAt n block a)
+          (getD w a 0 + 1) (getD w (a + n) 0)
+          (record {
+            some = positive;
+            before = omega arith;
+            row-fits = row-waiting hb part;
+            from-fits = row-settled ha part;
+          })
+          (inr (omega arith)))
           best es esa ep epa))
         where
-          best : Best block (min 65535 (getD w b 0 + 1)) (y .pending b) (y .pending-avoiding b)
-              (min (getD w (2 * n + b) 0) (getD w a 0 + 1))
-              (mergedCount (getD w (2 * n + b) 0) (getD w (2 * n + b + n) 0) (getD w a 0 + 1) (getD w (a + n) 0))
-              (λ j. mergedRow (getD w (2 * n + b) 0) (getD w a 0 + 1) (getD w (rowAt n block (n + b) + j) 0)
-              (getD w (rowAt n block a + j) 0))
+          best : Best block (min 65535 (getD w b 0 + 1)) (y .waits u b) (y .waits-avoiding u b)
+              (min (getD w (partAt n block q u + b) 0) (getD w a 0 + 1))
+              (mergedCount (getD w (partAt n block q u + b) 0) (getD w (partAt n block q u + b + n) 0) (getD w a 0 + 1)
+              (getD w (a + n) 0))
+              (λ j. mergedRow (getD w (partAt n block q u + b) 0) (getD w a 0 + 1)
+              (getD w (partAt n block q u + rowAt n block b + j) 0) (getD w (rowAt n block a + j) 0))
           best =
               best-ext here herea
-              (best-merge (x .pending b) (delayed (x .settled a)) (x .pending-avoiding b)
-              (λ j. delayed (x .settled-avoiding a j)) (sound .pending b) less
-              (getD w (2 * n + b) 0) (getD w (2 * n + b + n) 0) (getD w a 0 + 1) (getD w (a + n) 0)
+              (best-merge (x .waits u b) (delayed (x .settled a)) (x .waits-avoiding u b)
+              (λ j. delayed (x .settled-avoiding a j)) (sound .waits u b) less
+              (getD w (partAt n block q u + b) 0) (getD w (partAt n block q u + b + n) 0) (getD w a 0 + 1) (getD w (a + n) 0)
               (min 65535 (getD w b 0 + 1)) 65535 (min 65535 (getD w b 0 + 1))
-              (s .pending b hb) (best-delayed (s .settled a ha) (few q))
-              (λ g o. omega arith) (λ g o. let f = few q in omega arith))
+              (s .waits u b low high hb) (best-delayed (s .settled a ha) (few some))
+              (λ g o. omega arith) (λ g o. let f = few some in omega arith))

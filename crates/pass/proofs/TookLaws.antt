@@ -6,20 +6,20 @@ use native.Mathlib.Decide.{decLe, ℕ-discrete}
 use mathlib.Core.Path.{_≡_, refl, sym, ap, _∙_}
 use mathlib.Core.Bool.{Bool, true, false, cond, not, or-true, or-false}
 use mathlib.Core.List.{List}
-use mathlib.Core.Logic.{_⊎_, inl, ⊎-elim, by-cases, _≢_}
+use mathlib.Core.Logic.{_⊎_, inl, inr, ⊎-elim, by-cases, _≢_}
 use borrow.Author.Tests.{ltb-true, lt-ltb, eq-eqb, ne-eqb}
 use lib.Dec.{ltb, eqb}
 use lib.ListN.{length, getD, set, length-set}
 use lib.Seq.{getD-set-same, getD-set-other, lt-length-set}
 use Rattle.counting.proofs.Through.{avoidingSet}
-use Rattle.pass.specs.Row.{combined, mergedRow, rowAt}
+use Rattle.pass.specs.Row.{combined, mergedRow, partSize, rowAt}
 use Rattle.entries.specs.Entry.{mergedCount}
 use Rattle.pass.specs.Entry.{mergedArea, absorbed, Absorbable}
-use Rattle.pass.specs.Sweep.{masked, settledOne, Area}
+use Rattle.pass.specs.Sweep.{masked, settledOne, PartFits}
 use Rattle.pass.proofs.RowLaws.{combined-length, combined-other, combined-at}
 use Rattle.pass.proofs.EntryLaws.{merged-length}
-use Rattle.pass.proofs.PlaceLaws.{masked-source, masked-none, masked-own, row-before}
-use Rattle.pass.proofs.PlaceLaws.{absorbable, row-settled, set-twice-length}
+use Rattle.pass.proofs.PlaceLaws.{masked-source, masked-none, masked-own}
+use Rattle.pass.proofs.PlaceLaws.{row-inside, row-settled, row-waiting, set-twice-length}
 use Rattle.pass.proofs.ColumnLaws.{mayLeave}
 
 -- the entry at a place has new hops, a new count and a new row, and every other place is as it was
@@ -50,12 +50,10 @@ module _ (n : ℕ) (w : List ℕ) (at l d : ℕ) (some : 0 < n) (fits : at + n <
       ∙ getD-set-other w at i (min (getD w at 0) l) 0 a
 
 -- hops and count alone are taken in
-pub merged-took : (n block : ℕ) (w : List ℕ) (at row l d : ℕ) → 0 < n → at + n < 4 * n → 4 * n ≤ row
-    → 4 * n ≤ length w
+pub merged-took : (n block : ℕ) (w : List ℕ) (at row l d : ℕ) → 0 < n → at + n < row → at + n < length w
     → Took n block at row w (mergedArea n w at l d) (min (getD w at 0) l)
     (mergedCount (getD w at 0) (getD w (at + n) 0) l d) (λ j. getD w (row + j) 0)
-merged-took n block w at row l d some before behind fits =
-    let inside : at + n < length w = omega arith in
+merged-took n block w at row l d some before inside =
     record {
       hops = merged-hops n w at l d some inside;
       count = merged-count n w at l d some inside;
@@ -73,14 +71,14 @@ pub absorbed-took : (n block : ℕ) (w : List ℕ) (at row from l d : ℕ) → A
 unfolding absorbed
 absorbed-took n block w at row from l d a apart =
     let before = a .before in
-    let behind = a .row-from in
+    let room = a .row-fits in
     let one = combined (mergedRow (getD w at 0) l) w row from block in
     let kept : length one ≡ length w = combined-length (mergedRow (getD w at 0) l) w row from block in
     let at-hops : getD one at 0 ≡ getD w at 0 =
     combined-other (mergedRow (getD w at 0) l) w row from block at (inl (omega arith)) in
     let at-count : getD one (at + n) 0 ≡ getD w (at + n) 0 =
     combined-other (mergedRow (getD w at 0) l) w row from block (at + n) (inl (omega arith)) in
-    let took = merged-took n block one at row l d (a .some) before behind (let q = a .length-fits in omega arith) in
+    let took = merged-took n block one at row l d (a .some) before (omega arith) in
     record {
       hops = took .hops ∙ ap (λ x. min x l) at-hops;
       count = took .count ∙ rw (at-hops, at-count);
@@ -143,67 +141,92 @@ module _ (n block s : ℕ) (col : ℕ → ℕ) (w : List ℕ) (v : ℕ) where
           (masked-own n block s col w v (rowAt n block v) (col v) refl refl d (omega arith)))
           ∙ getD-set-other w (rowAt n block v + col v) (rowAt n block v + j) 0 0 (omega arith))
 
+-- ---- a part in which an entry took walks in
+
+-- where the entry and its row lie in a part, every place outside of the part is as it was
+pub took-outside : (n block base v : ℕ) (old new : List ℕ) (h c : ℕ) (r : ℕ → ℕ) → v < n
+    → Took n block (base + v) (base + rowAt n block v) old new h c r
+    → (i : ℕ) → (i < base) ⊎ (base + partSize n block ≤ i)
+    → getD new i 0 ≡ getD old i 0
+took-outside n block base v old new h c r inside took i out =
+    let row = row-inside n block v inside in
+    took .other i
+    (⊎-elim (λ (q : i < base). omega arith) (λ (q : base + partSize n block ≤ i). omega arith) out)
+    (⊎-elim (λ (q : i < base). omega arith) (λ (q : base + partSize n block ≤ i). omega arith) out)
+    (⊎-elim (λ (q : i < base). inl (omega arith)) (λ (q : base + partSize n block ≤ i). inr (omega arith)) out)
+
 -- ---- a station settled
 
--- its entry took in what was pending, with its column 0; nothing is pending; every other place is as it was
-pub record Settled (n block s : ℕ) (col : ℕ → ℕ) (v : ℕ) (old new : List ℕ) : Type 0 where
-  pub hops : getD new v 0 ≡ min (getD old v 0) (getD old (2 * n + v) 0)
+-- its entry took in what waited in a part, with its column 0; nothing waits there; every other place is as it was
+pub record Settled (n block base s : ℕ) (col : ℕ → ℕ) (v : ℕ) (old new : List ℕ) : Type 0 where
+  pub hops : getD new v 0 ≡ min (getD old v 0) (getD old (base + v) 0)
   pub count : getD new (v + n) 0
-      ≡ mergedCount (getD old v 0) (getD old (v + n) 0) (getD old (2 * n + v) 0) (getD old (2 * n + v + n) 0)
+      ≡ mergedCount (getD old v 0) (getD old (v + n) 0) (getD old (base + v) 0) (getD old (base + v + n) 0)
   pub entries : (j : ℕ) → j < block → getD new (rowAt n block v + j) 0
       ≡ cond (mayLeave s col j v)
-      (mergedRow (getD old v 0) (getD old (2 * n + v) 0) (getD old (rowAt n block v + j) 0)
-      (getD old (rowAt n block (n + v) + j) 0)) 0
-  pub no-hops : getD new (2 * n + v) 0 ≡ 65535
-  pub no-count : getD new (2 * n + v + n) 0 ≡ 0
-  pub other : (i : ℕ) → i ≢ v → i ≢ v + n → i ≢ 2 * n + v → i ≢ 2 * n + v + n
+      (mergedRow (getD old v 0) (getD old (base + v) 0) (getD old (rowAt n block v + j) 0)
+      (getD old (base + rowAt n block v + j) 0)) 0
+  pub no-hops : getD new (base + v) 0 ≡ 65535
+  pub no-count : getD new (base + v + n) 0 ≡ 0
+  pub other : (i : ℕ) → i ≢ v → i ≢ v + n → i ≢ base + v → i ≢ base + v + n
       → (i < rowAt n block v) ⊎ (rowAt n block v + block ≤ i)
       → getD new i 0 ≡ getD old i 0
   pub same : length new ≡ length old
 
--- settling a station with something pending leaves that
-pub settled-took : (n block s : ℕ) (col : ℕ → ℕ) (w : List ℕ) (v : ℕ) → Area n block w → v < n → getD w (2 * n + v) 0 < 65535
-    → Settled n block s col v w (settledOne n block s col w v)
+-- settling a station for which something waits leaves that
+pub settled-took : (n block base s : ℕ) (col : ℕ → ℕ) (w : List ℕ) (v : ℕ) → PartFits n block base w → v < n
+    → getD w (base + v) 0 < 65535
+    → Settled n block base s col v w (settledOne n block base s col w v)
 unfolding settledOne
-settled-took n block s col w v area inside some =
-    rw (lt-ltb (getD w (2 * n + v) 0) 65535 some)
+settled-took n block base s col w v part inside some =
+    rw (lt-ltb (getD w (base + v) 0) 65535 some)
     record {
       hops = outer v (omega arith) (omega arith)
           ∙ masked-other n block s col one v v (inl (omega arith)) ∙ took .hops;
       count = outer (v + n) (omega arith) (omega arith)
           ∙ masked-other n block s col one v (v + n) (inl (omega arith)) ∙ took .count;
-      entries = λ j q. outer (rowAt n block v + j) (omega arith) (omega arith)
-          ∙ masked-at n block s col one v j q (let k = took .same in let f = row-settled inside area in omega arith)
+      entries = λ j q. outer (rowAt n block v + j) (omega (arith, row, behind)) (omega (arith, row, behind))
+          ∙ masked-at n block s col one v j q (let k = took .same in let f = row-settled inside part in omega arith)
           ∙ ap (λ x. cond (mayLeave s col j v) x 0) (took .entries j q);
-      no-hops = getD-set-other (set two (2 * n + v) 65535) (2 * n + v + n) (2 * n + v) 0 0 (omega arith)
-          ∙ getD-set-same two (2 * n + v) 65535 0 (omega (arith, two-length));
-      no-count = getD-set-same (set two (2 * n + v) 65535) (2 * n + v + n) 0 0
-          (lt-length-set two (2 * n + v) 65535 (omega (arith, two-length)));
+      no-hops = getD-set-other (set two (base + v) 65535) (base + v + n) (base + v) 0 0 (omega arith)
+          ∙ getD-set-same two (base + v) 65535 0 (omega (arith, two-length));
+      no-count = getD-set-same (set two (base + v) 65535) (base + v + n) 0 0
+          (lt-length-set two (base + v) 65535 (omega (arith, two-length)));
       other = λ i a b c d out. outer i c d ∙ masked-other n block s col one v i out ∙ took .other i a b out;
-      same = set-twice-length two (2 * n + v) (2 * n + v + n) 65535 0 ∙ two-length;
+      same = set-twice-length two (base + v) (base + v + n) 65535 0 ∙ two-length;
     }
   where
     positive : 0 < n
-    positive = area .some
+    positive = part .some
 
-    fits : 4 * n ≤ length w
-    fits = let f = area .fits in omega arith
+    behind : partSize n block ≤ base
+    behind = part .behind
+
+    fits : base + partSize n block ≤ length w
+    fits = part .fits
+
+    row : rowAt n block v + block ≤ partSize n block
+    row = row-inside n block v inside
 
     one : List ℕ
     one =
-        absorbed n block w v (rowAt n block v) (rowAt n block (n + v)) (getD w (2 * n + v) 0)
-        (getD w (2 * n + v + n) 0)
+        absorbed n block w v (rowAt n block v) (base + rowAt n block v) (getD w (base + v) 0)
+        (getD w (base + v + n) 0)
 
-    took : Took n block v (rowAt n block v) w one (min (getD w v 0) (getD w (2 * n + v) 0))
-        (mergedCount (getD w v 0) (getD w (v + n) 0) (getD w (2 * n + v) 0) (getD w (2 * n + v + n) 0))
-        (λ j. mergedRow (getD w v 0) (getD w (2 * n + v) 0) (getD w (rowAt n block v + j) 0)
-        (getD w (rowAt n block (n + v) + j) 0))
+    took : Took n block v (rowAt n block v) w one (min (getD w v 0) (getD w (base + v) 0))
+        (mergedCount (getD w v 0) (getD w (v + n) 0) (getD w (base + v) 0) (getD w (base + v + n) 0))
+        (λ j. mergedRow (getD w v 0) (getD w (base + v) 0) (getD w (rowAt n block v + j) 0)
+        (getD w (base + rowAt n block v + j) 0))
     took =
-        absorbed-took n block w v (rowAt n block v) (rowAt n block (n + v)) (getD w (2 * n + v) 0)
-        (getD w (2 * n + v + n) 0)
-        (absorbable n block w v (rowAt n block v) (rowAt n block (n + v)) v (n + v) area (omega arith) (omega arith)
-        (omega arith) refl refl)
-        (inl (let r = row-before block v (n + v) (omega arith) in omega arith))
+        absorbed-took n block w v (rowAt n block v) (base + rowAt n block v) (getD w (base + v) 0)
+        (getD w (base + v + n) 0)
+        (record {
+          some = positive;
+          before = omega arith;
+          row-fits = row-settled inside part;
+          from-fits = row-waiting inside part;
+        })
+        (inl (omega arith))
 
     two : List ℕ
     two = masked n block s col one v
@@ -211,8 +234,8 @@ settled-took n block s col w v area inside some =
     two-length : length two ≡ length w
     two-length = masked-length n block s col one v ∙ took .same
 
-    outer : (i : ℕ) → i ≢ 2 * n + v → i ≢ 2 * n + v + n
-        → getD (set (set two (2 * n + v) 65535) (2 * n + v + n) 0) i 0 ≡ getD two i 0
+    outer : (i : ℕ) → i ≢ base + v → i ≢ base + v + n
+        → getD (set (set two (base + v) 65535) (base + v + n) 0) i 0 ≡ getD two i 0
     outer i c d =
-        getD-set-other (set two (2 * n + v) 65535) (2 * n + v + n) i 0 0 d
-        ∙ getD-set-other two (2 * n + v) i 65535 0 c
+        getD-set-other (set two (base + v) 65535) (base + v + n) i 0 0 d
+        ∙ getD-set-other two (base + v) i 65535 0 c

@@ -10,6 +10,7 @@ use mathlib.Core.Logic.{_⊎_, inl, inr, by-cases, _≢_}
 use borrow.Author.Tests.{lt-ltb, le-ltb, eq-eqb, ne-eqb}
 use lib.Dec.{eqb}
 use lib.ListN.{getD}
+use Rattle.temporal.specs.Plan.{Terms}
 use Rattle.temporal.specs.Lists.{below}
 use Rattle.temporal.specs.Bytes.{planOf}
 use Rattle.temporal.specs.Cause.{planFault, appearanceTooMany, stationTooMany, tooMany}
@@ -51,36 +52,36 @@ module _ (low block : ℕ) where
       (λ d. ne-eqb _ j (block-other j v h d) ∙ sym (ne-eqb (low + j) v (λ e. d (sym e))))
 
   -- what a row says of a station of the block: how many walks do not have it inside
-  pub block-row : (bs : List ℕ) (n t s e : ℕ) (work : List ℕ) → low + block ≤ n
-      → CountedBy bs n t s e (blockColumn low block) block work
-      → (z j : ℕ) → z < n → j < block → low + j ≢ z → count (walksBy (planOf bs n t) s z e) ≤ 18446744073709551615
-      → hops (walksBy (planOf bs n t) s z e) < 65535
-      → getD work (4 * n + z * block + j) 0 + throughIn (planOf bs n t) s z (walksBy (planOf bs n t) s z e) (low + j)
-      ≡ count (walksBy (planOf bs n t) s z e)
+  pub block-row : (bs : List ℕ) (n t : ℕ) (terms : Terms) (s e : ℕ) (work : List ℕ) → low + block ≤ n
+      → CountedBy bs n t terms s e (blockColumn low block) block work
+      → (z j : ℕ) → z < n → j < block → low + j ≢ z → count (walksBy (planOf bs n t terms) s z e) ≤ 18446744073709551615
+      → hops (walksBy (planOf bs n t terms) s z e) < 65535
+      → getD work (2 * n + z * block + j) 0 + throughIn (planOf bs n t terms) s z (walksBy (planOf bs n t terms) s z e) (low + j)
+      ≡ count (walksBy (planOf bs n t terms) s z e)
   unfolding planOf
-  block-row bs n t s e work all x z j inside column d few some =
-      let same : throughIn (planOf bs n t) s z (walksBy (planOf bs n t) s z e) (low + j)
-      ≡ touchedIn (planOf bs n t) s z (walksBy (planOf bs n t) s z e) (λ v. eqb (blockColumn low block v) j) =
-      sym (touched-one-in (planOf bs n t) s z (walksBy (planOf bs n t) s z e) (low + j) (omega arith))
-      ∙ ap (touchedIn (planOf bs n t) s z (walksBy (planOf bs n t) s z e)) (sym (fun-ext (block-column j column))) in
-      ap (λ k. getD work (4 * n + z * block + j) 0 + k) same
+  block-row bs n t terms s e work all x z j inside column d few some =
+      let same : throughIn (planOf bs n t terms) s z (walksBy (planOf bs n t terms) s z e) (low + j)
+      ≡ touchedIn (planOf bs n t terms) s z (walksBy (planOf bs n t terms) s z e) (λ v. eqb (blockColumn low block v) j) =
+      sym (touched-one-in (planOf bs n t terms) s z (walksBy (planOf bs n t terms) s z e) (low + j) (omega arith))
+      ∙ ap (touchedIn (planOf bs n t terms) s z (walksBy (planOf bs n t terms) s z e)) (sym (fun-ext (block-column j column))) in
+      ap (λ k. getD work (2 * n + z * block + j) 0 + k) same
       ∙ x .rows z j inside column (block-other j z column (λ q. d (sym q))) few some
 
 -- ---- a pass that ends in a slot
 
 -- the slot in which it ends is one of the plan's, where it waits for another station than the source
-module _ (bs : List ℕ) (n t s until : ℕ) (ok : planFault bs n t ≡ 0) (other : s ≢ until) (col : ℕ → ℕ) (block : ℕ)
+module _ (bs : List ℕ) (n t : ℕ) (terms : Terms) (s until : ℕ) (ok : planFault bs n t ≡ 0) (other : s ≢ until) (col : ℕ → ℕ) (block : ℕ)
     (work : List ℕ) where
   -- settled in a slot
-  pub settled-in : (r : Ended) → EndedAs bs n t s until col block work r → slotOf r ≢ 0
-      → SettledAt bs n t s until col block work (slotOf r)
+  pub settled-in : (r : Ended) → EndedAs bs n t terms s until col block work r → slotOf r ≢ 0
+      → SettledAt bs n t terms s until col block work (slotOf r)
   unfolding slotOf EndedAs
   settled-in (ended.Settled e) x d = x
   settled-in ended.StationTooMany x d = absurd (d refl)
   settled-in ended.AppearanceTooMany x d = absurd (d refl)
 
   -- or not at all
-  pub not-settled : (r : Ended) → EndedAs bs n t s until col block work r → slotOf r ≡ 0 → Overfull bs n t s until
+  pub not-settled : (r : Ended) → EndedAs bs n t terms s until col block work r → slotOf r ≡ 0 → Overfull bs n t terms s until
   unfolding slotOf EndedAs
   not-settled (ended.Settled e) x d =
       let slot = x .slot in
@@ -88,43 +89,43 @@ module _ (bs : List ℕ) (n t s until : ℕ) (ok : planFault bs n t ≡ 0) (othe
       let some = accepted bs n t ok .some-slot in
       absurd (omega arith)
     where
-      after : 0 < arrival (planOf bs n t) s until
-      after = arrival-after-start (planOf bs n t) (slots-within bs n t ok) s until (few-slots bs n t ok) other
+      after : 0 < arrival (planOf bs n t terms) s until
+      after = arrival-after-start (planOf bs n t terms) (slots-within bs n t terms ok) s until (few-slots bs n t terms ok) other
   not-settled ended.StationTooMany x d = inr x
   not-settled ended.AppearanceTooMany x d = inl x
 
 -- ---- a pass through every slot
 
-module _ (bs : List ℕ) (n t s : ℕ) (ok : planFault bs n t ≡ 0) (source : s < n) (col : ℕ → ℕ) (block : ℕ) (work : List ℕ)
+module _ (bs : List ℕ) (n t : ℕ) (terms : Terms) (s : ℕ) (ok : planFault bs n t ≡ 0) (source : s < n) (col : ℕ → ℕ) (block : ℕ) (work : List ℕ)
   where
     -- it is settled in the last slot where it meets no count over 2^64 - 1
-    pub whole-settled : (r : Ended) → overOf r ≡ false → EndedAs bs n t s n col block work r
-        → SettledAt bs n t s n col block work t
+    pub whole-settled : (r : Ended) → overOf r ≡ false → EndedAs bs n t terms s n col block work r
+        → SettledAt bs n t terms s n col block work t
     unfolding overOf EndedAs
     whole-settled (ended.Settled e) q x =
-        let never = arrival-outside bs n t ok s n source (omega arith) in
+        let never = arrival-outside bs n t terms ok s n source (omega arith) in
         let most = accepted bs n t ok .slots in
         let last : e ≡ t = let slot = x .slot in omega arith in
-        subst (λ e. SettledAt bs n t s n col block work e) last x
+        subst (λ e. SettledAt bs n t terms s n col block work e) last x
     whole-settled ended.StationTooMany q x = absurd (let z : _≡_ {A = ℕ} 0 1 = cc in omega arith)
     whole-settled ended.AppearanceTooMany q x = absurd (let z : _≡_ {A = ℕ} 0 1 = cc in omega arith)
 
     -- no appearance has more where it is settled
-    pub whole-appearances : (e : ℕ) → SettledAt bs n t s n col block work e → appearanceTooMany (planOf bs n t) s ≡ false
+    pub whole-appearances : (e : ℕ) → SettledAt bs n t terms s n col block work e → appearanceTooMany (planOf bs n t terms) s ≡ false
     unfolding overOf EndedAs
     whole-appearances e x =
-        few-appearances bs n t ok s (whole-settled (ended.Settled e) refl x .appearances)
+        few-appearances bs n t terms ok s (whole-settled (ended.Settled e) refl x .appearances)
 
     -- (kept) then no station has more either
-    whole-stations : SettledAt bs n t s n col block work t → stationTooMany (planOf bs n t) s ≡ false
+    whole-stations : SettledAt bs n t terms s n col block work t → stationTooMany (planOf bs n t terms) s ≡ false
     unfolding planOf
     whole-stations x =
         any-false _ (below n) .1 (λ v m.
         let small = x .stations (omega arith) v (mem-below n .0 m) in
-        le-ltb 18446744073709551615 _ (rw (shortest-by-last bs n t ok s v) at small))
+        le-ltb 18446744073709551615 _ (rw (shortest-by-last bs n t terms ok s v) at small))
 
     -- whether it meets one is cause 9
-    pub whole-over : (r : Ended) → EndedAs bs n t s n col block work r → overOf r ≡ tooMany (planOf bs n t) s
+    pub whole-over : (r : Ended) → EndedAs bs n t terms s n col block work r → overOf r ≡ tooMany (planOf bs n t terms) s
     unfolding overOf EndedAs tooMany
     whole-over (ended.Settled e) x =
         let y = whole-settled (ended.Settled e) refl x in
@@ -138,45 +139,45 @@ module _ (bs : List ℕ) (n t s : ℕ) (ok : planFault bs n t ≡ 0) (source : s
     whole-over ended.AppearanceTooMany x = sym (rw x)
 
     -- (kept) the settled entries are hops and counts of the shortest paths
-    pub whole-counted : SettledAt bs n t s n col block work t → Counted bs n t s 0 0 work
+    pub whole-counted : SettledAt bs n t terms s n col block work t → Counted bs n t terms s 0 0 work
     whole-counted x =
         record {
-          station-hops = λ z q. x .entries .station-hops z q ∙ ap hops (shortest-by-last bs n t ok s z);
+          station-hops = λ z q. x .entries .station-hops z q ∙ ap hops (shortest-by-last bs n t terms ok s z);
           station-counts = λ z q.
-              x .entries .station-counts z q (x .stations (omega arith) z q) ∙ ap count (shortest-by-last bs n t ok s z);
+              x .entries .station-counts z q (x .stations (omega arith) z q) ∙ ap count (shortest-by-last bs n t terms ok s z);
           rows = λ z c q i. absurd (omega arith);
         }
 
 -- settled where it waits for none: no cause 9
-pub whole-few : (bs : List ℕ) (n t s : ℕ) → planFault bs n t ≡ 0 → s < n → (until : ℕ) → until ≡ n
-    → (col : ℕ → ℕ) (block : ℕ) (work : List ℕ) (e : ℕ) → SettledAt bs n t s until col block work e
-    → tooMany (planOf bs n t) s ≡ false
+pub whole-few : (bs : List ℕ) (n t : ℕ) (terms : Terms) (s : ℕ) → planFault bs n t ≡ 0 → s < n → (until : ℕ) → until ≡ n
+    → (col : ℕ → ℕ) (block : ℕ) (work : List ℕ) (e : ℕ) → SettledAt bs n t terms s until col block work e
+    → tooMany (planOf bs n t terms) s ≡ false
 unfolding overOf EndedAs
-whole-few bs n t s ok source until none col block work e x =
-    sym (whole-over bs n t s ok source col block work (ended.Settled e)
-    (subst (λ u. SettledAt bs n t s u col block work e) none x))
+whole-few bs n t terms s ok source until none col block work e x =
+    sym (whole-over bs n t terms s ok source col block work (ended.Settled e)
+    (subst (λ u. SettledAt bs n t terms s u col block work e) none x))
 
 -- what the pass promises of a block, from what it promises of columns
-pub block-passed : (bs : List ℕ) (n t s low block : ℕ) (old new : List ℕ) (r : Bool) (e : Ended)
-    → PassReady bs n t s low block old
-    → ColumnsPassed bs n t s n (blockColumn low block) block old new e
+pub block-passed : (bs : List ℕ) (n t : ℕ) (terms : Terms) (s low block : ℕ) (old new : List ℕ) (r : Bool) (e : Ended)
+    → PassReady bs n t terms s low block old
+    → ColumnsPassed bs n t terms s n (blockColumn low block) block old new e
     → r ≡ overOf e
-    → Passed bs n t s low block old new r
+    → Passed bs n t terms s low block old new r
 unfolding through
-block-passed bs n t s low block old new r e ready x is =
+block-passed bs n t terms s low block old new r e ready x is =
     record {
-      too-many = is ∙ whole-over bs n t s ok source col block new e (x .ends);
+      too-many = is ∙ whole-over bs n t terms s ok source col block new e (x .ends);
       counted = λ q.
           let y = settled q in
-          let c = whole-counted bs n t s ok source col block new y in
+          let c = whole-counted bs n t terms s ok source col block new y in
           record {
             station-hops = c .station-hops;
             station-counts = c .station-counts;
             rows = λ z j inside column d some.
                 subst
-                (λ l. hops l < 65535 → getD new (4 * n + z * block + j) 0 + throughIn (planOf bs n t) s z l (low + j) ≡ count l)
-                (shortest-by-last bs n t ok s z)
-                (block-row low block bs n t s t new (ready .stations) (y .entries) z j inside column d
+                (λ l. hops l < 65535 → getD new (2 * n + z * block + j) 0 + throughIn (planOf bs n t terms) s z l (low + j) ≡ count l)
+                (shortest-by-last bs n t terms ok s z)
+                (block-row low block bs n t terms s t new (ready .stations) (y .entries) z j inside column d
                 (y .stations (omega arith) z inside))
                 some;
           };
@@ -193,15 +194,21 @@ block-passed bs n t s low block old new r e ready x is =
     col : ℕ → ℕ
     col = blockColumn low block
 
-    settled : r ≡ false → SettledAt bs n t s n col block new t
-    settled q = whole-settled bs n t s ok source col block new e (sym is ∙ q) (x .ends)
+    settled : r ≡ false → SettledAt bs n t terms s n col block new t
+    settled q = whole-settled bs n t terms s ok source col block new e (sym is ∙ q) (x .ends)
 
 -- an area that is ready for a block is ready for its columns
-pub block-ready : (bs : List ℕ) (n t s low block : ℕ) (old : List ℕ) → PassReady bs n t s low block old
-    → ColumnsReady bs n t s n block old
-block-ready bs n t s low block old ready =
+pub block-ready : (bs : List ℕ) (n t : ℕ) (terms : Terms) (s low block : ℕ) (old : List ℕ) → PassReady bs n t terms s low block old
+    → ColumnsReady bs n t terms s n block old
+block-ready bs n t terms s low block old ready =
     let inside = ready .source in
-    record { accepted = ready .accepted; source = ready .source; other = λ q. omega arith; fits = ready .fits }
+    record {
+      accepted = ready .accepted;
+      turns = ready .turns;
+      source = ready .source;
+      other = λ q. omega arith;
+      fits = ready .fits;
+    }
 
 -- ---- a set of stations
 
@@ -222,27 +229,27 @@ module _ (z : ℕ) (set : List ℕ) where
       go false false = refl
 
 -- what the pass promises of a set, from what it promises of columns
-pub set-passed : (bs : List ℕ) (n t s z : ℕ) (set old new : List ℕ) (r : Bool) (e : Ended) → SetReady bs n t s z old
-    → ColumnsPassed bs n t s n (columnOf (columns.Members z) set 1) 1 old new e
+pub set-passed : (bs : List ℕ) (n t : ℕ) (terms : Terms) (s z : ℕ) (set old new : List ℕ) (r : Bool) (e : Ended) → SetReady bs n t terms s z old
+    → ColumnsPassed bs n t terms s n (columnOf (columns.Members z) set 1) 1 old new e
     → r ≡ overOf e
-    → SetPassed bs n t s z set old new r
+    → SetPassed bs n t terms s z set old new r
 unfolding touched
-set-passed bs n t s z set old new r e ready x is =
+set-passed bs n t terms s z set old new r e ready x is =
     record {
-      too-many = is ∙ whole-over bs n t s ok source col 1 new e (x .ends);
-      counted = λ q. whole-counted bs n t s ok source col 1 new (settled q);
+      too-many = is ∙ whole-over bs n t terms s ok source col 1 new e (x .ends);
+      counted = λ q. whole-counted bs n t terms s ok source col 1 new (settled q);
       members = λ q some.
-          let place : 4 * n + z ≡ 4 * n + z * 1 + 0 = omega arith in
+          let place : 2 * n + z ≡ 2 * n + z * 1 + 0 = omega arith in
           let y = settled q in
-          let l = walksBy (planOf bs n t) s z t in
-          let same : touchedIn (planOf bs n t) s z l (λ v. eqb (getD set v 0) 1)
-          ≡ touchedIn (planOf bs n t) s z l (λ v. eqb (columnOf (columns.Members z) set 1 v) 0) =
-          sym (touched-others (planOf bs n t) s z l (λ v. eqb (getD set v 0) 1))
-          ∙ ap (touchedIn (planOf bs n t) s z l) (sym (fun-ext (set-column z set))) in
+          let l = walksBy (planOf bs n t terms) s z t in
+          let same : touchedIn (planOf bs n t terms) s z l (λ v. eqb (getD set v 0) 1)
+          ≡ touchedIn (planOf bs n t terms) s z l (λ v. eqb (columnOf (columns.Members z) set 1 v) 0) =
+          sym (touched-others (planOf bs n t terms) s z l (λ v. eqb (getD set v 0) 1))
+          ∙ ap (touchedIn (planOf bs n t terms) s z l) (sym (fun-ext (set-column z set))) in
           subst
-          (λ l. hops l < 65535 → getD new (4 * n + z) 0 + touchedIn (planOf bs n t) s z l (λ v. eqb (getD set v 0) 1) ≡ count l)
-          (shortest-by-last bs n t ok s z)
-          (λ few. rw place (ap (λ k. getD new (4 * n + z * 1 + 0) 0 + k) same
+          (λ l. hops l < 65535 → getD new (2 * n + z) 0 + touchedIn (planOf bs n t terms) s z l (λ v. eqb (getD set v 0) 1) ≡ count l)
+          (shortest-by-last bs n t terms ok s z)
+          (λ few. rw place (ap (λ k. getD new (2 * n + z * 1 + 0) 0 + k) same
           ∙ y .entries .rows z 0 (ready .destination) (omega arith) (set-destination z set)
           (y .stations (omega arith) z (ready .destination)) few))
           some;
@@ -259,11 +266,17 @@ set-passed bs n t s z set old new r e ready x is =
     col : ℕ → ℕ
     col = columnOf (columns.Members z) set 1
 
-    settled : r ≡ false → SettledAt bs n t s n col 1 new t
-    settled q = whole-settled bs n t s ok source col 1 new e (sym is ∙ q) (x .ends)
+    settled : r ≡ false → SettledAt bs n t terms s n col 1 new t
+    settled q = whole-settled bs n t terms s ok source col 1 new e (sym is ∙ q) (x .ends)
 
 -- an area that is ready for a set is ready for its columns
-pub set-ready : (bs : List ℕ) (n t s z : ℕ) (old : List ℕ) → SetReady bs n t s z old → ColumnsReady bs n t s n 1 old
-set-ready bs n t s z old ready =
+pub set-ready : (bs : List ℕ) (n t : ℕ) (terms : Terms) (s z : ℕ) (old : List ℕ) → SetReady bs n t terms s z old → ColumnsReady bs n t terms s n 1 old
+set-ready bs n t terms s z old ready =
     let inside = ready .source in
-    record { accepted = ready .accepted; source = ready .source; other = λ q. omega arith; fits = ready .fits }
+    record {
+      accepted = ready .accepted;
+      turns = ready .turns;
+      source = ready .source;
+      other = λ q. omega arith;
+      fits = ready .fits;
+    }

@@ -25,11 +25,9 @@ areaOverflows n w at = overflows (getD w at 0) (getD w (at + n) 0)
 unfoldable pub reachedEntry : ℕ → List ℕ → ℕ → Bool
 reachedEntry n w v = cond (ltb v n) (ltb (getD w v 0) 65535) false
 
--- what taking in asks: the entry lies before the rows, and the rows within the list
+-- what taking in asks: the entry lies before its row, and the rows within the list
 pub record Absorbable (n block : ℕ) (w : List ℕ) (at row from : ℕ) : Type 0 where
   pub some : 0 < n
-  pub before : at + n < 4 * n
-  pub row-from : 4 * n ≤ row
+  pub before : at + n < row
   pub row-fits : row + block ≤ length w
   pub from-fits : from + block ≤ length w
-  pub length-fits : 4 * n ≤ length w

@@ -8,6 +8,7 @@ use mathlib.Core.List.{List}
 use mathlib.Core.Logic.{_⊎_, _≢_}
 use lib.Dec.{ltb, eqb}
 use lib.ListN.{length, getD, drop}
+use Rattle.temporal.specs.Plan.{Terms}
 use Rattle.temporal.specs.Bytes.{planOf}
 use Rattle.temporal.specs.Cause.{planFault, appearanceTooMany, stationTooMany}
 use Rattle.temporal.specs.Shortest.{shortestWalks, hops, count}
@@ -15,51 +16,52 @@ use Rattle.temporal.specs.Set.{touchedIn}
 use Rattle.temporal.specs.Foremost.{arrival, walksBy}
 use Rattle.pass.specs.declared.Ended.{Ended}
 use Rattle.pass.specs.declared.Ended.the-variants as ended
-use Rattle.pass.specs.Passed.{areaSize}
+use Rattle.pass.specs.Passed.{waiting, areaSize}
 
--- an accepted plan, a source in it that the pass does not wait for, and a work area that is long enough
-pub record ColumnsReady (bs : List ℕ) (n t s until block : ℕ) (work : List ℕ) : Type 0 where
+-- an accepted plan, a turnaround, a source in it that the pass does not wait for, and a work area that is long enough
+pub record ColumnsReady (bs : List ℕ) (n t : ℕ) (terms : Terms) (s until block : ℕ) (work : List ℕ) : Type 0 where
   pub accepted : planFault bs n t ≡ 0
+  pub turns : 0 < terms .turnaround
   pub source : s < n
   pub other : s ≢ until
-  pub fits : areaSize n block ≤ length work
+  pub fits : areaSize n (waiting t terms) block ≤ length work
 
--- The entries by slot e: station z has its hops at z and its count at n + z, and at 4 n + z block + j stands how many of its
+-- The entries by slot e: station z has its hops at z and its count at n + z, and at 2 n + z block + j stands how many of its
 -- shortest walks by slot e have no station of column j inside. Nothing is said of a count over 2^64 - 1 and beside it, nor of a
 -- row's entry where j stands for z or where there is no walk.
-pub record CountedBy (bs : List ℕ) (n t s e : ℕ) (col : ℕ → ℕ) (block : ℕ) (work : List ℕ) : Type 0 where
-  pub station-hops : (z : ℕ) → z < n → getD work z 0 ≡ hops (walksBy (planOf bs n t) s z e)
-  pub station-counts : (z : ℕ) → z < n → count (walksBy (planOf bs n t) s z e) ≤ 18446744073709551615
-      → getD work (n + z) 0 ≡ count (walksBy (planOf bs n t) s z e)
-  pub rows : (z j : ℕ) → z < n → j < block → col z ≢ j → count (walksBy (planOf bs n t) s z e) ≤ 18446744073709551615
-      → hops (walksBy (planOf bs n t) s z e) < 65535
-      → getD work (4 * n + z * block + j) 0 + touchedIn (planOf bs n t) s z (walksBy (planOf bs n t) s z e) (λ v. eqb (col v) j)
-      ≡ count (walksBy (planOf bs n t) s z e)
+pub record CountedBy (bs : List ℕ) (n t : ℕ) (terms : Terms) (s e : ℕ) (col : ℕ → ℕ) (block : ℕ) (work : List ℕ) : Type 0 where
+  pub station-hops : (z : ℕ) → z < n → getD work z 0 ≡ hops (walksBy (planOf bs n t terms) s z e)
+  pub station-counts : (z : ℕ) → z < n → count (walksBy (planOf bs n t terms) s z e) ≤ 18446744073709551615
+      → getD work (n + z) 0 ≡ count (walksBy (planOf bs n t terms) s z e)
+  pub rows : (z j : ℕ) → z < n → j < block → col z ≢ j → count (walksBy (planOf bs n t terms) s z e) ≤ 18446744073709551615
+      → hops (walksBy (planOf bs n t terms) s z e) < 65535
+      → getD work (2 * n + z * block + j) 0 + touchedIn (planOf bs n t terms) s z (walksBy (planOf bs n t terms) s z e) (λ v. eqb (col v) j)
+      ≡ count (walksBy (planOf bs n t terms) s z e)
 
 -- A pass that ends settled in slot e: the slot in which it reaches the station until, or the last where it does not. No appearance
 -- by that slot has over 2^64 - 1; nor has a station, where the pass waits for none.
-pub record SettledAt (bs : List ℕ) (n t s until : ℕ) (col : ℕ → ℕ) (block : ℕ) (work : List ℕ) (e : ℕ) : Type 0 where
-  pub slot : e ≡ min t (arrival (planOf bs n t) s until)
-  pub appearances : (v x : ℕ) → v < n → x ≤ e → count (shortestWalks (planOf bs n t) s v x) ≤ 18446744073709551615
-  pub stations : n ≤ until → (z : ℕ) → z < n → count (walksBy (planOf bs n t) s z e) ≤ 18446744073709551615
-  pub entries : CountedBy bs n t s e col block work
+pub record SettledAt (bs : List ℕ) (n t : ℕ) (terms : Terms) (s until : ℕ) (col : ℕ → ℕ) (block : ℕ) (work : List ℕ) (e : ℕ) : Type 0 where
+  pub slot : e ≡ min t (arrival (planOf bs n t terms) s until)
+  pub appearances : (v x : ℕ) → v < n → x ≤ e → count (shortestWalks (planOf bs n t terms) s v x) ≤ 18446744073709551615
+  pub stations : n ≤ until → (z : ℕ) → z < n → count (walksBy (planOf bs n t terms) s z e) ≤ 18446744073709551615
+  pub entries : CountedBy bs n t terms s e col block work
 
 -- a pass that meets a station with over 2^64 - 1, and no such appearance; it waits for no station
-pub record StationMet (bs : List ℕ) (n t s until : ℕ) : Type 0 where
+pub record StationMet (bs : List ℕ) (n t : ℕ) (terms : Terms) (s until : ℕ) : Type 0 where
   pub waits-for-none : n ≤ until
-  pub appearances : appearanceTooMany (planOf bs n t) s ≡ false
-  pub station : stationTooMany (planOf bs n t) s ≡ true
+  pub appearances : appearanceTooMany (planOf bs n t terms) s ≡ false
+  pub station : stationTooMany (planOf bs n t terms) s ≡ true
 
 -- how a pass ends
-unfoldable pub EndedAs : List ℕ → ℕ → ℕ → ℕ → ℕ → (ℕ → ℕ) → ℕ → List ℕ → Ended → Type 0
-EndedAs bs n t s until col block work (ended.Settled e) = SettledAt bs n t s until col block work e
-EndedAs bs n t s until col block work ended.StationTooMany = StationMet bs n t s until
-EndedAs bs n t s until col block work ended.AppearanceTooMany = appearanceTooMany (planOf bs n t) s ≡ true
+unfoldable pub EndedAs : List ℕ → ℕ → ℕ → Terms → ℕ → ℕ → (ℕ → ℕ) → ℕ → List ℕ → Ended → Type 0
+EndedAs bs n t terms s until col block work (ended.Settled e) = SettledAt bs n t terms s until col block work e
+EndedAs bs n t terms s until col block work ended.StationTooMany = StationMet bs n t terms s until
+EndedAs bs n t terms s until col block work ended.AppearanceTooMany = appearanceTooMany (planOf bs n t terms) s ≡ true
 
 -- What the pass promises: how it ends, and that nothing past its part of the work area is touched.
-pub record ColumnsPassed (bs : List ℕ) (n t s until : ℕ) (col : ℕ → ℕ) (block : ℕ) (old new : List ℕ) (r : Ended) : Type 0 where
-  pub ends : EndedAs bs n t s until col block new r
-  pub beyond : drop (areaSize n block) new ≡ drop (areaSize n block) old
+pub record ColumnsPassed (bs : List ℕ) (n t : ℕ) (terms : Terms) (s until : ℕ) (col : ℕ → ℕ) (block : ℕ) (old new : List ℕ) (r : Ended) : Type 0 where
+  pub ends : EndedAs bs n t terms s until col block new r
+  pub beyond : drop (areaSize n (waiting t terms) block) new ≡ drop (areaSize n (waiting t terms) block) old
   pub same-length : length new ≡ length old
 
 -- whether a pass met a count over 2^64 - 1
@@ -75,8 +77,8 @@ slotOf ended.StationTooMany = 0
 slotOf ended.AppearanceTooMany = 0
 
 -- what it met then: an appearance, or a station where it waits for none
-abbrev pub Overfull : List ℕ → ℕ → ℕ → ℕ → ℕ → Type 0
-Overfull bs n t s until = (appearanceTooMany (planOf bs n t) s ≡ true) ⊎ StationMet bs n t s until
+abbrev pub Overfull : List ℕ → ℕ → ℕ → Terms → ℕ → ℕ → Type 0
+Overfull bs n t terms s until = (appearanceTooMany (planOf bs n t terms) s ≡ true) ⊎ StationMet bs n t terms s until
 
 -- how a pass ends past the last slot t, where the Boolean says whether some station's settled entry is over 2^64 - 1
 unfoldable pub lastEnded : ℕ → ℕ → ℕ → Bool → Ended

@@ -24,9 +24,17 @@ wrapped a b = (a + b) % 2 ^ 64
 unfoldable pub mergedRow : ℕ → ℕ → ℕ → ℕ → ℕ
 mergedRow h l a b = cond (ltb l h) b (cond (eqb l h) ((a + b) % 2 ^ 64) a)
 
--- rows number 0 to 2 n - 1, of block entries each, behind 4 n entries: where row e begins
+-- The work area has parts of equal size: n hops, n counts, then a row of block entries for each of the n stations.
+abbrev pub partSize : ℕ → ℕ → ℕ
+partSize n block = 2 * n + n * block
+
+-- where the row of station v begins in a part
 abbrev pub rowAt : ℕ → ℕ → ℕ → ℕ
-rowAt n block e = 4 * n + e * block
+rowAt n block v = 2 * n + v * block
+
+-- Part 0 has what is settled. What waits of slot u is in one of q parts behind it, in turn: where that part begins.
+unfoldable pub partAt : ℕ → ℕ → ℕ → ℕ → ℕ
+partAt n block q u = (1 + u % q) * partSize n block
 
 -- two stretches of k entries lie within a list
 pub record RowsFit (w : List ℕ) (to from k : ℕ) : Type 0 where

@@ -1,13 +1,14 @@
 // The forward pass: hops and counts from a source to every station, and for each of a block of stations how many shortest
 // paths do not have it inside; or how many shortest paths of a pair have no member of a set of stations inside. Everything
-// lives in a lent work area.
+// lives in a lent work area: what may be sent on, and behind it what is heard and waits, in a part for each slot of the turnaround.
 ghost use mathlib.Core.Path.{_≡_};
 ghost use mathlib.Core.Bool.{false};
 ghost use Prim.Native.Nat.{_+_, _*_, _<_, _≤_, min};
 ghost use lib.ListN.{length};
 ghost use Rattle.temporal.specs.Lists.{any, below};
+ghost use Rattle.temporal.specs.Plan.{turning};
 ghost use Rattle.temporal.specs.Bytes.{contactAt};
-ghost use Rattle.pass.specs.Row.{combined, second, wrapped, mergedRow, rowAt, RowsFit};
+ghost use Rattle.pass.specs.Row.{combined, second, wrapped, mergedRow, partSize, rowAt, partAt, RowsFit};
 ghost use Rattle.pass.specs.Entry.{mergedArea, absorbed, areaOverflows, reachedEntry, Absorbable};
 ghost use Rattle.pass.specs.Sweep.{
   sentArea,
@@ -16,12 +17,15 @@ ghost use Rattle.pass.specs.Sweep.{
   settledNext,
   sweepOf,
   settledFrom,
+  emptied,
+  emptiedFrom,
   begunArea,
+  PartFits,
   Area,
   FoldableArea,
 };
 ghost use Rattle.pass.specs.Column.{blockColumn, columnOf};
-ghost use Rattle.pass.specs.Passed.{PassReady, Passed, SetReady, SetPassed};
+ghost use Rattle.pass.specs.Passed.{mostColumns, PassReady, Passed, SetReady, SetPassed};
 ghost use Rattle.pass.specs.PassedColumns.{ColumnsReady, ColumnsPassed, overOf, slotOf, lastEnded};
 
 // Which column of a row stands for a station. From(low): column j for station low + j. Members(z): column 0 for each member
@@ -46,6 +50,14 @@ pub fn smaller(a: usize, b: usize) -> usize
         return b;
     }
     a
+}
+
+// The most columns of a row for which the pass fits e entries a station, with q parts of what waits.
+pub fn most_columns(n: usize, e: usize, q: usize) -> usize
+    requires { ⌜ (q < 18446744073709551615) × (2 * (1 + q) ≤ e) ⌝ }
+    ensures { λ r. ⌜ r ≡ mostColumns n e q ⌝ }
+{
+    smaller(n, e / (1 + q) - 2)
 }
 
 // Copies a row to another.
@@ -122,25 +134,25 @@ fn absorb(
     merge(work, n, at, l, d);
 }
 
-// Where row e begins.
-fn row_at(n: usize, block: usize, e: usize) -> usize
-    requires { ⌜ rowAt n block e < 18446744073709551616 ⌝ }
-    ensures { λ r. ⌜ r ≡ rowAt n block e ⌝ }
+// Where the row of station v begins in a part.
+fn row_at(n: usize, block: usize, v: usize) -> usize
+    requires { ⌜ rowAt n block v < 18446744073709551616 ⌝ }
+    ensures { λ r. ⌜ r ≡ rowAt n block v ⌝ }
 {
-    4 * n + e * block
+    2 * n + v * block
 }
 
-// Sends what is settled for v on over one hop more, to what is pending for x.
-fn send(work: &mut [u64], n: usize, block: usize, v: usize, x: usize)
-    requires { ⌜ Area n block (now work) × (v < n) × (x < n) ⌝ }
-    ensures { λ _. ⌜ now (work .exit) ≡ sentArea n block (now (work .entry)) v x ⌝ }
+// Sends what is settled for v on over one hop more, to what waits for x in the part that begins at base.
+fn send(work: &mut [u64], n: usize, block: usize, base: usize, v: usize, x: usize)
+    requires { ⌜ PartFits n block base (now work) × (v < n) × (x < n) ⌝ }
+    ensures { λ _. ⌜ now (work .exit) ≡ sentArea n block base (now (work .entry)) v x ⌝ }
 {
     let h = work[v];
     if h < 65535 {
-        let at = 2 * n + x;
+        let at = base + x;
         let d = work[v + n];
         if h < work[x] {
-            let row = row_at(n, block, n + x);
+            let row = base + row_at(n, block, x);
             let from = row_at(n, block, v);
             absorb(work, n, block, at, row, from, h + 1, d);
             return;
@@ -150,12 +162,12 @@ fn send(work: &mut [u64], n: usize, block: usize, v: usize, x: usize)
 }
 
 // Folds the record at j in.
-fn fold_record(work: &mut [u64], plan: &[u8], n: usize, block: usize, j: usize)
-    requires { ⌜ FoldableArea (now plan) n block j (now work) ⌝ }
-    ensures { λ _. ⌜ now (work .exit) ≡ foldedArea n block (now (work .entry)) (contactAt (now (plan .entry)) j) ⌝ }
+fn fold_record(work: &mut [u64], plan: &[u8], n: usize, block: usize, base: usize, j: usize)
+    requires { ⌜ FoldableArea (now plan) n block base j (now work) ⌝ }
+    ensures { λ _. ⌜ now (work .exit) ≡ foldedArea n block base (now (work .entry)) (contactAt (now (plan .entry)) j) ⌝ }
 {
     let c = plan::contact_at(plan, j);
-    send(work, n, block, c.sender, c.hearer);
+    send(work, n, block, base, c.sender, c.hearer);
 }
 
 // The column that stands for station v, or none.
@@ -193,7 +205,7 @@ fn mask(
     set: &[u8],
     v: usize,
 )
-    requires { ⌜ Area n block (now work) × (v < n) ⌝ }
+    requires { ⌜ rowAt n block v + block ≤ length (now work) ⌝ }
     ensures { λ _. ⌜ now (work .exit) ≡ masked n block source (columnOf columns (now (set .entry)) block) (now (work .entry)) v ⌝ }
 {
     if v == source {
@@ -206,29 +218,29 @@ fn mask(
     }
 }
 
-// Settles what is pending for v. True where the flag was, or where its count is over 2^64 - 1.
+// Settles what waits for v in the part that begins at base. True where the flag was, or where its count is over 2^64 - 1.
 fn settle_one(
     work: &mut [u64],
     n: usize,
     block: usize,
+    base: usize,
     source: usize,
     columns: Columns,
     set: &[u8],
     v: usize,
     over: bool,
 ) -> bool
-    requires { ⌜ Area n block (now work) × (v < n) ⌝ }
+    requires { ⌜ PartFits n block base (now work) × (v < n) ⌝ }
     ensures { λ r. ⌜ sweepOf r (now (work .exit)) ≡
-        settledNext n block source (columnOf columns (now (set .entry)) block) (sweepOf over (now (work .entry))) v ⌝ }
+        settledNext n block base source (columnOf columns (now (set .entry)) block) (sweepOf over (now (work .entry))) v ⌝ }
 {
-    let at = 2 * n + v;
+    let at = base + v;
     let h = work[at];
     if h < 65535 {
         let counted = at + n;
         let d = work[counted];
         let row = row_at(n, block, v);
-        let from = row_at(n, block, n + v);
-        absorb(work, n, block, v, row, from, h, d);
+        absorb(work, n, block, v, row, base + row, h, d);
         mask(work, n, block, source, columns, set, v);
         work[at] = 65535;
         work[counted] = 0;
@@ -239,41 +251,70 @@ fn settle_one(
     over
 }
 
-// Settles a slot for every station. True where a count is over 2^64 - 1.
+// Settles a part for every station. True where a count is over 2^64 - 1.
 fn settle(
     work: &mut [u64],
     n: usize,
     block: usize,
+    base: usize,
     source: usize,
     columns: Columns,
     set: &[u8],
 ) -> bool
-    requires { ⌜ Area n block (now work) ⌝ }
+    requires { ⌜ PartFits n block base (now work) ⌝ }
     ensures { λ r. ⌜ sweepOf r (now (work .exit)) ≡
-        settledFrom n block source (columnOf columns (now (set .entry)) block) (sweepOf false (now (work .entry))) 0 n ⌝ }
+        settledFrom n block base source (columnOf columns (now (set .entry)) block) (sweepOf false (now (work .entry))) 0 n ⌝ }
 {
     let mut over = false;
     let mut v = 0;
     while v < n {
-        over = settle_one(work, n, block, source, columns, set, v, over);
+        over = settle_one(work, n, block, base, source, columns, set, v, over);
         v += 1;
     }
     over
 }
 
-// Clears the work area and settles the empty walk of the source.
-fn begin(work: &mut [u64], n: usize, block: usize, source: usize)
-    requires { ⌜ Area n block (now work) × (source < n) ⌝ }
-    ensures { λ _. ⌜ now (work .exit) ≡ begunArea n block (now (work .entry)) source ⌝ }
+// Empties the part that begins at a place.
+fn empty_part(work: &mut [u64], n: usize, at: usize)
+    requires { ⌜ at + 2 * n ≤ length (now work) ⌝ }
+    ensures { λ _. ⌜ now (work .exit) ≡ emptied n (now (work .entry)) at ⌝ }
 {
-    memory::fill_part(work, 0, n, 65535);
-    memory::fill_part(work, n, n, 0);
-    memory::fill_part(work, 2 * n, n, 65535);
-    memory::fill_part(work, 3 * n, n, 0);
+    memory::fill_part(work, at, n, 65535);
+    memory::fill_part(work, at + n, n, 0);
+}
+
+// Empties the first k parts of a size.
+fn empty_parts(work: &mut [u64], n: usize, size: usize, k: usize)
+    requires { ⌜ (2 * n ≤ size) × (k * size ≤ length (now work)) ⌝ }
+    ensures { λ _. ⌜ now (work .exit) ≡ emptiedFrom n size (now (work .entry)) 0 k ⌝ }
+{
+    let mut at = 0;
+    let mut i = 0;
+    while i < k {
+        empty_part(work, n, at);
+        at += size;
+        i += 1;
+    }
+}
+
+// Clears the work area and settles the empty walk of the source.
+fn begin(work: &mut [u64], n: usize, block: usize, q: usize, source: usize)
+    requires { ⌜ Area n block q (now work) × (source < n) ⌝ }
+    ensures { λ _. ⌜ now (work .exit) ≡ begunArea n block q (now (work .entry)) source ⌝ }
+{
+    empty_parts(work, n, 2 * n + n * block, 1 + q);
     work[source] = 0;
     work[source + n] = 1;
     let row = row_at(n, block, source);
     memory::fill_part(work, row, block, 1);
+}
+
+// Where the part begins in which waits what is heard in slot u, of q parts.
+fn part_at(n: usize, block: usize, q: usize, u: usize) -> usize
+    requires { ⌜ (0 < q) × ((1 + q) * partSize n block < 18446744073709551616) ⌝ }
+    ensures { λ r. ⌜ r ≡ partAt n block q u ⌝ }
+{
+    (1 + u % q) * (2 * n + n * block)
 }
 
 // Whether the settled entry of some station has a count over 2^64 - 1.
@@ -316,39 +357,46 @@ fn end_pass(work: &[u64], n: usize, t: usize, until: usize) -> Ended
     Ended::Settled(t)
 }
 
-// The pass: the records slot by slot, a slot's records folded in and then settled, until the station until is reached or the
-// last slot is settled.
+// The pass: the records slot by slot, until the station until is reached or the last slot is settled. What is heard in a slot
+// waits in its part and is settled, q slots later, before that part is used again; past the last slot the parts are settled one by
+// one.
 fn pass_columns(
     work: &mut [u64],
     plan: &[u8],
     n: usize,
     t: usize,
+    g: usize,
     source: usize,
     columns: Columns,
     set: &[u8],
     block: usize,
     until: usize,
 ) -> Ended
-    requires { ⌜ ColumnsReady (now plan) n t source until block (now work) ⌝ }
-    ensures { λ r. ⌜ ColumnsPassed (now (plan .entry)) n t source until (columnOf columns (now (set .entry)) block) block
+    requires { ⌜ ColumnsReady (now plan) n t (turning g) source until block (now work) ⌝ }
+    ensures { λ r. ⌜ ColumnsPassed (now (plan .entry)) n t (turning g) source until (columnOf columns (now (set .entry)) block) block
         (now (work .entry)) (now (work .exit)) r ⌝ }
 {
-    begin(work, n, block, source);
+    let q = smaller(g, t);
+    begin(work, n, block, q, source);
+    let mut base = part_at(n, block, q, 1);
     let mut u = 1;
     let mut j = 0;
-    while u <= t {
+    while u < t + q {
         if plan::in_slot(plan, j, u) {
-            fold_record(work, plan, n, block, j);
+            fold_record(work, plan, n, block, base, j);
             j += 1;
             continue;
         }
-        if settle(work, n, block, source, columns, set) {
-            return Ended::AppearanceTooMany;
-        }
-        if reached(work, n, until) {
-            return Ended::Settled(u);
-        }
         u += 1;
+        base = part_at(n, block, q, u);
+        if q < u {
+            if settle(work, n, block, base, source, columns, set) {
+                return Ended::AppearanceTooMany;
+            }
+            if reached(work, n, until) {
+                return Ended::Settled(u - q);
+            }
+        }
     }
     end_pass(work, n, t, until)
 }
@@ -360,13 +408,14 @@ pub fn pass_until(
     plan: &[u8],
     n: usize,
     t: usize,
+    g: usize,
     source: usize,
     low: usize,
     block: usize,
     until: usize,
 ) -> Ended
-    requires { ⌜ ColumnsReady (now plan) n t source until block (now work) ⌝ }
-    ensures { λ r. ⌜ ColumnsPassed (now (plan .entry)) n t source until (blockColumn low block) block
+    requires { ⌜ ColumnsReady (now plan) n t (turning g) source until block (now work) ⌝ }
+    ensures { λ r. ⌜ ColumnsPassed (now (plan .entry)) n t (turning g) source until (blockColumn low block) block
         (now (work .entry)) (now (work .exit)) r ⌝ }
 {
     pass_columns(
@@ -374,6 +423,7 @@ pub fn pass_until(
         plan,
         n,
         t,
+        g,
         source,
         Columns::From(low),
         &plan[0..0],
@@ -422,14 +472,15 @@ pub fn pass(
     plan: &[u8],
     n: usize,
     t: usize,
+    g: usize,
     source: usize,
     low: usize,
     block: usize,
 ) -> bool
-    requires { ⌜ PassReady (now plan) n t source low block (now work) ⌝ }
-    ensures { λ r. ⌜ Passed (now (plan .entry)) n t source low block (now (work .entry)) (now (work .exit)) r ⌝ }
+    requires { ⌜ PassReady (now plan) n t (turning g) source low block (now work) ⌝ }
+    ensures { λ r. ⌜ Passed (now (plan .entry)) n t (turning g) source low block (now (work .entry)) (now (work .exit)) r ⌝ }
 {
-    let ended = pass_until(work, plan, n, t, source, low, block, n);
+    let ended = pass_until(work, plan, n, t, g, source, low, block, n);
     over(ended)
 }
 
@@ -439,18 +490,20 @@ pub fn set_pass(
     plan: &[u8],
     n: usize,
     t: usize,
+    g: usize,
     source: usize,
     destination: usize,
     set: &[u8],
 ) -> bool
-    requires { ⌜ SetReady (now plan) n t source destination (now work) ⌝ }
-    ensures { λ r. ⌜ SetPassed (now (plan .entry)) n t source destination (now (set .entry)) (now (work .entry)) (now (work .exit)) r ⌝ }
+    requires { ⌜ SetReady (now plan) n t (turning g) source destination (now work) ⌝ }
+    ensures { λ r. ⌜ SetPassed (now (plan .entry)) n t (turning g) source destination (now (set .entry)) (now (work .entry)) (now (work .exit)) r ⌝ }
 {
     let ended = pass_columns(
         work,
         plan,
         n,
         t,
+        g,
         source,
         Columns::Members(destination),
         set,

@@ -18,7 +18,7 @@ planNumber plan-fault.Slot = 3
 planNumber plan-fault.Ends = 4
 planNumber plan-fault.Order = 5
 
--- causes 6 to 10, and 11 of document 02
+-- causes 6 to 10, and 11 and 12 of document 02
 abbrev pub callNumber : CallFault → ℕ
 callNumber call-fault.Station = 6
 callNumber call-fault.SameStation = 7
@@ -26,6 +26,7 @@ callNumber call-fault.Short = 8
 callNumber call-fault.TooMany = 9
 callNumber call-fault.NotShortestPath = 10
 callNumber call-fault.SetByte = 11
+callNumber call-fault.Turnaround = 12
 
 abbrev pub faultNumber : Fault → ℕ
 faultNumber (fault.Plan f) = planNumber f

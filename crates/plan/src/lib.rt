@@ -24,6 +24,7 @@ pub enum CallFault {
     TooMany,
     NotShortestPath,
     SetByte,
+    Turnaround,
 }
 
 // Why an operation refuses.
@@ -62,6 +63,7 @@ pub fn call_number(fault: CallFault) -> usize
         CallFault::TooMany => 9,
         CallFault::NotShortestPath => 10,
         CallFault::SetByte => 11,
+        CallFault::Turnaround => 12,
     }
 }
 

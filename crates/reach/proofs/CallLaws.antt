@@ -6,8 +6,9 @@ use mathlib.Core.Bool.{Bool, true, false, _||_}
 use mathlib.Core.List.{List, []}
 use borrow.Author.Tests.{lt-ltb, le-ltb, le-leb, lt-leb}
 use lib.ListN.{length}
+use Rattle.temporal.specs.Plan.{Terms}
 use Rattle.temporal.specs.Bytes.{planOf}
-use Rattle.temporal.specs.Cause.{planFault, stationCauses}
+use Rattle.temporal.specs.Cause.{planFault, wrongTurnaround, stationCauses}
 use Rattle.temporal.specs.Outcome.{Outcome, short, places, ReachTables, reached, reach}
 use Rattle.temporal.proofs.EnteredLaws.{
   refusedWith,
@@ -28,81 +29,91 @@ pub accepted-plan :
     (bs : List ℕ) (n t : ℕ) (r : CheckAnswer) → checkNumber r ≡ planFault bs n t → r ≡ Accepted → planFault bs n t ≡ 0
 accepted-plan bs n t r answer e = sym answer ∙ ap checkNumber e
 
-module _ (bs : List ℕ) (n t s : ℕ) (old : ReachTables) where
+module _ (bs : List ℕ) (n t : ℕ) (terms : Terms) (s : ℕ) (old : ReachTables) where
   -- a plan that check refuses
   pub reach-plan :
       (r : CheckAnswer) (f : PlanFault) → checkNumber r ≡ planFault bs n t → r ≡ Refused f →
-      _≡_ {A = Outcome (Unit {0}) ReachTables} (record { number = planNumber f; values = tt; buffers = old }) (reach bs n t s old)
+      _≡_ {A = Outcome (Unit {0}) ReachTables} (record { number = planNumber f; values = tt; buffers = old }) (reach bs n t terms s old)
   unfolding reach
   reach-plan r f answer e =
       let number : planNumber f ≡ planFault bs n t = ap checkNumber (sym e) ∙ answer in
       let some = number-positive f in
-      ap (refusedWith tt old (reached (planOf bs n t) s old)) number ∙
-      sym (entered-plan tt old (reached (planOf bs n t) s old) bs n t _ (omega arith))
+      ap (refusedWith tt old (reached (planOf bs n t terms) s old)) number ∙
+      sym (entered-plan tt old (reached (planOf bs n t terms) s old) bs n t _ (omega arith))
 
   module _ (ok : planFault bs n t ≡ 0) where
-    pub reach-station : n ≤ s → reach bs n t s old ≡ refusedWith tt old (reached (planOf bs n t) s old) 6
-    unfolding reach stationCauses
-    reach-station h = entered-call tt old _ bs n t _ ok ∙ entered-cause tt old _ 5 _ _ (le-leb n s h)
+    pub reach-terms :
+        wrongTurnaround terms ≡ true → reach bs n t terms s old ≡ refusedWith tt old (reached (planOf bs n t terms) s old) 12
+    unfolding reach
+    reach-terms e = entered-call tt old _ bs n t _ ok ∙ entered-cause tt old _ 11 _ _ e
 
-    -- whether one of the four tables is too short
-    abbrev lacking : Bool
-    lacking =
-        short (places n t) (old .hopsTable) || short (places n t) (old .countTable) ||
-        (short n (old .stationHops) || short n (old .stationCounts))
+    module _ (right : wrongTurnaround terms ≡ false) where
+      pub reach-station : n ≤ s → reach bs n t terms s old ≡ refusedWith tt old (reached (planOf bs n t terms) s old) 6
+      unfolding reach stationCauses
+      reach-station h =
+          entered-call tt old _ bs n t _ ok ∙ entered-pass tt old _ 12 _ _ right ∙
+          entered-cause tt old _ 5 _ _ (le-leb n s h)
 
-    lacks : s < n → lacking ≡ true → reach bs n t s old ≡ refusedWith tt old (reached (planOf bs n t) s old) 8
-    unfolding reach stationCauses
-    lacks h e =
-        entered-call tt old _ bs n t _ ok ∙ entered-pass tt old _ 6 _ _ (lt-leb n s h) ∙ entered-cause tt old _ 7 _ [] e
+      -- whether one of the four tables is too short
+      abbrev lacking : Bool
+      lacking =
+          short (places n t) (old .hopsTable) || short (places n t) (old .countTable) ||
+          (short n (old .stationHops) || short n (old .stationCounts))
 
-    module _ (inside : s < n) where
-      pub reach-short-hops :
-          length (old .hopsTable) < n * (t + 1) → reach bs n t s old ≡ refusedWith tt old (reached (planOf bs n t) s old) 8
-      reach-short-hops h = lacks inside (rw (lt-ltb (length (old .hopsTable)) (n * (t + 1)) h))
+      lacks : s < n → lacking ≡ true → reach bs n t terms s old ≡ refusedWith tt old (reached (planOf bs n t terms) s old) 8
+      unfolding reach stationCauses
+      lacks h e =
+          entered-call tt old _ bs n t _ ok ∙ entered-pass tt old _ 12 _ _ right ∙
+          entered-pass tt old _ 6 _ _ (lt-leb n s h) ∙ entered-cause tt old _ 7 _ [] e
 
-      module _ (a : n * (t + 1) ≤ length (old .hopsTable)) where
-        pub reach-short-counts :
-            length (old .countTable) < n * (t + 1) → reach bs n t s old ≡ refusedWith tt old (reached (planOf bs n t) s old) 8
-        reach-short-counts h =
-            lacks inside
-            (rw (le-ltb (length (old .hopsTable)) (n * (t + 1)) a, lt-ltb (length (old .countTable)) (n * (t + 1)) h))
+      module _ (inside : s < n) where
+        pub reach-short-hops :
+            length (old .hopsTable) < n * (t + 1) → reach bs n t terms s old ≡ refusedWith tt old (reached (planOf bs n t terms) s old) 8
+        reach-short-hops h = lacks inside (rw (lt-ltb (length (old .hopsTable)) (n * (t + 1)) h))
 
-        module _ (b : n * (t + 1) ≤ length (old .countTable)) where
-          pub reach-short-station-hops :
-              length (old .stationHops) < n → reach bs n t s old ≡ refusedWith tt old (reached (planOf bs n t) s old) 8
-          reach-short-station-hops h =
+        module _ (a : n * (t + 1) ≤ length (old .hopsTable)) where
+          pub reach-short-counts :
+              length (old .countTable) < n * (t + 1) → reach bs n t terms s old ≡ refusedWith tt old (reached (planOf bs n t terms) s old) 8
+          reach-short-counts h =
               lacks inside
-              (rw (
-                le-ltb (length (old .hopsTable)) (n * (t + 1)) a,
-                le-ltb (length (old .countTable)) (n * (t + 1)) b,
-                lt-ltb (length (old .stationHops)) n h,
-              ))
+              (rw (le-ltb (length (old .hopsTable)) (n * (t + 1)) a, lt-ltb (length (old .countTable)) (n * (t + 1)) h))
 
-          module _ (c : n ≤ length (old .stationHops)) where
-            pub reach-short-station-counts :
-                length (old .stationCounts) < n → reach bs n t s old ≡ refusedWith tt old (reached (planOf bs n t) s old) 8
-            reach-short-station-counts h =
+          module _ (b : n * (t + 1) ≤ length (old .countTable)) where
+            pub reach-short-station-hops :
+                length (old .stationHops) < n → reach bs n t terms s old ≡ refusedWith tt old (reached (planOf bs n t terms) s old) 8
+            reach-short-station-hops h =
                 lacks inside
                 (rw (
                   le-ltb (length (old .hopsTable)) (n * (t + 1)) a,
                   le-ltb (length (old .countTable)) (n * (t + 1)) b,
-                  le-ltb (length (old .stationHops)) n c,
-                  lt-ltb (length (old .stationCounts)) n h,
+                  lt-ltb (length (old .stationHops)) n h,
                 ))
 
-            -- with 1 to 8 excluded the work is done
-            pub reach-works : n ≤ length (old .stationCounts) → reach bs n t s old ≡ reached (planOf bs n t) s old
-            unfolding reach stationCauses
-            reach-works d =
-                entered-call tt old _ bs n t _ ok ∙ entered-pass tt old _ 6 _ _ (lt-leb n s inside) ∙
-                entered-pass tt old _ 8 _ [] none ∙ entered-work tt old _
-              where
-                none : lacking ≡ false
-                none =
-                    rw (
-                      le-ltb (length (old .hopsTable)) (n * (t + 1)) a,
-                      le-ltb (length (old .countTable)) (n * (t + 1)) b,
-                      le-ltb (length (old .stationHops)) n c,
-                      le-ltb (length (old .stationCounts)) n d,
-                    )
+            module _ (c : n ≤ length (old .stationHops)) where
+              pub reach-short-station-counts :
+                  length (old .stationCounts) < n → reach bs n t terms s old ≡ refusedWith tt old (reached (planOf bs n t terms) s old) 8
+              reach-short-station-counts h =
+                  lacks inside
+                  (rw (
+                    le-ltb (length (old .hopsTable)) (n * (t + 1)) a,
+                    le-ltb (length (old .countTable)) (n * (t + 1)) b,
+                    le-ltb (length (old .stationHops)) n c,
+                    lt-ltb (length (old .stationCounts)) n h,
+                  ))
+
+              -- with 1 to 8 and 12 excluded the work is done
+              pub reach-works : n ≤ length (old .stationCounts) → reach bs n t terms s old ≡ reached (planOf bs n t terms) s old
+              unfolding reach stationCauses
+              reach-works d =
+                  entered-call tt old _ bs n t _ ok ∙ entered-pass tt old _ 12 _ _ right ∙
+                  entered-pass tt old _ 6 _ _ (lt-leb n s inside) ∙ entered-pass tt old _ 8 _ [] none ∙
+                  entered-work tt old _
+                where
+                  none : lacking ≡ false
+                  none =
+                      rw (
+                        le-ltb (length (old .hopsTable)) (n * (t + 1)) a,
+                        le-ltb (length (old .countTable)) (n * (t + 1)) b,
+                        le-ltb (length (old .stationHops)) n c,
+                        le-ltb (length (old .stationCounts)) n d,
+                      )

@@ -4,7 +4,6 @@ use native.Mathlib.Omega.{arith}
 use mathlib.Core.Path.{_≡_, sym, ap, subst, _∙_}
 use mathlib.Core.List.{List}
 use lib.Arith.{digits-lt}
-use lib.ListN.{length}
 use Rattle.temporal.specs.Bytes.{contactAt}
 use Rattle.temporal.specs.Cause.{planFault}
 use Rattle.temporal.proofs.Accepted.{accepted}
@@ -26,19 +25,6 @@ places-within n width x y f v u w h k g =
       to-counts = place-below v u n width _ h k (f .counts);
       from-hops = let fits = f .station-hops in omega arith;
       from-counts = let fits = f .station-counts in omega arith;
-    }
-
--- tables of the same lengths fit too
-pub fits-kept :
-    (n width : ℕ) (x y x′ y′ : Table) → Fits n width x y →
-    length (x′ .hops) ≡ length (x .hops) → length (x′ .counts) ≡ length (x .counts) →
-    length (y′ .hops) ≡ length (y .hops) → length (y′ .counts) ≡ length (y .counts) → Fits n width x′ y′
-fits-kept n width x y x′ y′ f h c sh sc =
-    record {
-      hops = let g = f .hops in omega arith;
-      counts = let g = f .counts in omega arith;
-      station-hops = let g = f .station-hops in omega arith;
-      station-counts = let g = f .station-counts in omega arith;
     }
 
 -- the record that was read lies within the tables

@@ -4,10 +4,11 @@ use native.Mathlib.Omega.{arith}
 use native.Mathlib.Nat.{div-add-mod', mod-lt, div-lt-iff-lt-mul}
 use mathlib.Core.Path.{_≡_, sym, ap₂, subst, _∙_}
 use mathlib.Core.Bool.{true, false, _||_}
-use mathlib.Core.Logic.{_⊎_, inl, inr, ⊎-elim}
+use mathlib.Core.Logic.{inl, inr, ⊎-elim}
 use mathlib.Core.List.{List}
 use borrow.Author.Tests.{ltb-false}
 use lib.Dec.{ltb}
+use Rattle.temporal.specs.Plan.{Terms}
 use Rattle.temporal.specs.Lists.{any, below}
 use Rattle.temporal.specs.Walk.{isAppearance, isWalk}
 use Rattle.temporal.specs.Shortest.{shortestWalks, shortestPaths, hops, count}
@@ -31,23 +32,23 @@ use Rattle.reach.proofs.OutcomeLaws.{Few, any-places, overflows-exactly
 abbrev pub lentOf : Tables → ReachTables
 lentOf x = lentTables (x .appearances .hops) (x .appearances .counts) (x .stations .hops) (x .stations .counts)
 
-module _ (bs : List ℕ) (n t s : ℕ) (ok : planFault bs n t ≡ 0) where
-  few-walks : (v u : ℕ) → Few (shortestWalks (planOf bs n t) s v u)
+module _ (bs : List ℕ) (n t : ℕ) (terms : Terms) (s : ℕ) (ok : planFault bs n t ≡ 0) where
+  few-walks : (v u : ℕ) → Few (shortestWalks (planOf bs n t terms) s v u)
   unfolding shortestWalks isWalk planOf
   few-walks v u =
       let slots = accepted bs n t ok .slots in
       ⊎-elim inl (λ h. inr (omega arith))
-      (hops-bound (bounded-ends (planOf bs n t) (slots-within bs n t ok) s (isAppearance v u)))
+      (hops-bound (bounded-ends (planOf bs n t terms) (slots-within bs n t terms ok) s (isAppearance v u)))
 
-  few-paths : (v : ℕ) → Few (shortestPaths (planOf bs n t) s v)
+  few-paths : (v : ℕ) → Few (shortestPaths (planOf bs n t terms) s v)
   unfolding shortestPaths planOf
   few-paths v =
       let slots = accepted bs n t ok .slots in
-      ⊎-elim inl (λ h. inr (omega arith)) (hops-bound (bounded-paths (planOf bs n t) (slots-within bs n t ok) s v))
+      ⊎-elim inl (λ h. inr (omega arith)) (hops-bound (bounded-paths (planOf bs n t terms) (slots-within bs n t terms ok) s v))
 
-  module _ (old x : Tables) (f : FilledTables bs n t s old x) where
+  module _ (old x : Tables) (f : FilledTables bs n t terms s old x) where
     -- some entry overflows exactly where cause 9 holds
-    pub overflow-exactly : tablesOverflow n (t + 1) x ≡ tooMany (planOf bs n t) s
+    pub overflow-exactly : tablesOverflow n (t + 1) x ≡ tooMany (planOf bs n t terms) s
     unfolding tablesOverflow tooMany planOf
     overflow-exactly =
         ap₂ _||_
@@ -59,11 +60,11 @@ module _ (bs : List ℕ) (n t s : ℕ) (ok : planFault bs n t ≡ 0) where
         (any-ext (below n) (λ v m.
         overflows-exactly (x .stations) v _ (few-paths v) (f .station v (mem-below n .0 m))))
 
-    module _ (none : tooMany (planOf bs n t) s ≡ false) where
+    module _ (none : tooMany (planOf bs n t terms) s ≡ false) where
       -- no count is over 2^64 - 1
       small-walks :
           (v u : ℕ) → v < n → u < t + 1 →
-          stored (count (shortestWalks (planOf bs n t) s v u)) ≡ count (shortestWalks (planOf bs n t) s v u)
+          stored (count (shortestWalks (planOf bs n t terms) s v u)) ≡ count (shortestWalks (planOf bs n t terms) s v u)
       unfolding tooMany planOf
       small-walks v u h k =
           stored-small _ (ltb-false _ _
@@ -71,33 +72,33 @@ module _ (bs : List ℕ) (n t s : ℕ) (ok : planFault bs n t ≡ 0) where
           (any-false _ (below n) .0 (or-false-left _ _ none) v (mem-below n .1 h)) u (mem-below (t + 1) .1 k)))
 
       small-paths :
-          (v : ℕ) → v < n → stored (count (shortestPaths (planOf bs n t) s v)) ≡ count (shortestPaths (planOf bs n t) s v)
+          (v : ℕ) → v < n → stored (count (shortestPaths (planOf bs n t terms) s v)) ≡ count (shortestPaths (planOf bs n t terms) s v)
       unfolding tooMany planOf
       small-paths v h =
           stored-small _ (ltb-false _ _
           (any-false _ (below n) .0
           (or-false-right
-          (any (λ v. any (λ u. ltb (2 ^ 64 - 1) (count (shortestWalks (planOf bs n t) s v u))) (below (t + 1))) (below n))
+          (any (λ v. any (λ u. ltb (2 ^ 64 - 1) (count (shortestWalks (planOf bs n t terms) s v u))) (below (t + 1))) (below n))
           _ none) v (mem-below n .1 h)))
 
       module _ (fits : Fits n (t + 1) (old .appearances) (old .stations)) where
         -- the entry of an appearance, by its place
         placed :
-            (i : ℕ) → i < n * (t + 1) → EntryHolds (x .appearances) i (shortestWalks (planOf bs n t) s (i / (t + 1)) (i % (t + 1)))
+            (i : ℕ) → i < n * (t + 1) → EntryHolds (x .appearances) i (shortestWalks (planOf bs n t terms) s (i / (t + 1)) (i % (t + 1)))
         placed i h =
             let width : 0 < t + 1 = omega arith in
-            subst (λ k. EntryHolds (x .appearances) k (shortestWalks (planOf bs n t) s (i / (t + 1)) (i % (t + 1))))
+            subst (λ k. EntryHolds (x .appearances) k (shortestWalks (planOf bs n t terms) s (i / (t + 1)) (i % (t + 1))))
             (div-add-mod' i (t + 1))
             (f .appearance (i / (t + 1)) (i % (t + 1)) (div-lt-iff-lt-mul width .1 h) (mod-lt i width))
 
-        hops-table : x .appearances .hops ≡ over (appearanceTable (planOf bs n t) s hops) (old .appearances .hops)
+        hops-table : x .appearances .hops ≡ over (appearanceTable (planOf bs n t terms) s hops) (old .appearances .hops)
         unfolding appearanceTable planOf
         hops-table =
             over-by (n * (t + 1)) _ _ (old .appearances .hops) (length-made _ (n * (t + 1)))
             (let e = f .appearances-beyond .hops-length in let g = fits .hops in omega arith)
             (λ i h. placed i h .hops-there ∙ sym (getD-made _ (n * (t + 1)) i h)) (f .appearances-beyond .hops)
 
-        count-table : x .appearances .counts ≡ over (appearanceTable (planOf bs n t) s count) (old .appearances .counts)
+        count-table : x .appearances .counts ≡ over (appearanceTable (planOf bs n t terms) s count) (old .appearances .counts)
         unfolding appearanceTable planOf
         count-table =
             over-by (n * (t + 1)) _ _ (old .appearances .counts) (length-made _ (n * (t + 1)))
@@ -109,14 +110,14 @@ module _ (bs : List ℕ) (n t s : ℕ) (ok : planFault bs n t ≡ 0) where
             sym (getD-made _ (n * (t + 1)) i h))
             (f .appearances-beyond .counts)
 
-        station-hops : x .stations .hops ≡ over (stationTable (planOf bs n t) s hops) (old .stations .hops)
+        station-hops : x .stations .hops ≡ over (stationTable (planOf bs n t terms) s hops) (old .stations .hops)
         unfolding stationTable planOf
         station-hops =
             over-by n _ _ (old .stations .hops) (length-made _ n)
             (let e = f .stations-beyond .hops-length in let g = fits .station-hops in omega arith)
             (λ v h. f .station v h .hops-there ∙ sym (getD-made _ n v h)) (f .stations-beyond .hops)
 
-        station-counts : x .stations .counts ≡ over (stationTable (planOf bs n t) s count) (old .stations .counts)
+        station-counts : x .stations .counts ≡ over (stationTable (planOf bs n t terms) s count) (old .stations .counts)
         unfolding stationTable planOf
         station-counts =
             over-by n _ _ (old .stations .counts) (length-made _ n)
@@ -125,10 +126,10 @@ module _ (bs : List ℕ) (n t s : ℕ) (ok : planFault bs n t ≡ 0) where
 
   -- filled tables without an overflow are the answer
   pub reached-filled :
-      (old x : Tables) → Fits n (t + 1) (old .appearances) (old .stations) → FilledTables bs n t s old x →
+      (old x : Tables) → Fits n (t + 1) (old .appearances) (old .stations) → FilledTables bs n t terms s old x →
       tablesOverflow n (t + 1) x ≡ false →
       _≡_ {A = Outcome (Unit {0}) ReachTables} (record { number = 0; values = tt; buffers = lentOf x })
-      (reached (planOf bs n t) s (lentOf old))
+      (reached (planOf bs n t terms) s (lentOf old))
   unfolding reached
   reached-filled old x fits f e =
       let none = sym (overflow-exactly old x f) ∙ e in
@@ -142,9 +143,9 @@ module _ (bs : List ℕ) (n t s : ℕ) (ok : planFault bs n t ≡ 0) where
 
   -- with an overflow the tables are cleared
   pub reached-cleared :
-      (old x y : Tables) → FilledTables bs n t s old x → tablesOverflow n (t + 1) x ≡ true → y ≡ emptiedTables n (t + 1) x →
+      (old x y : Tables) → FilledTables bs n t terms s old x → tablesOverflow n (t + 1) x ≡ true → y ≡ emptiedTables n (t + 1) x →
       _≡_ {A = Outcome (Unit {0}) ReachTables} (record { number = 9; values = tt; buffers = lentOf y })
-      (reached (planOf bs n t) s (lentOf old))
+      (reached (planOf bs n t terms) s (lentOf old))
   unfolding reached emptiedTables cleared planOf
   reached-cleared old x y f e empty =
       let many = sym (overflow-exactly old x f) ∙ e in

@@ -1,41 +1,64 @@
 -- A turn of the pass keeps its state, and what the loop needs of it. Assumes nothing.
-use Prim.Native.Nat.{ℕ, _+_, _-_, _<_, _≤_}
+use Prim.Native.Nat.{ℕ, _+_, _-_, _<_, _≤_, min}
 use native.Mathlib.Omega.{arith}
+use native.Mathlib.Decide.{decLt}
 use mathlib.Core.Path.{_≡_, refl, subst}
 use mathlib.Core.Bool.{true, false}
+use mathlib.Core.Logic.{by-cases}
 use mathlib.Core.List.{List}
-use Rattle.temporal.specs.Bytes.{records}
+use Rattle.temporal.specs.Plan.{Terms}
+use Rattle.temporal.specs.Bytes.{records, planOf}
 use Rattle.temporal.specs.Cause.{planFault}
 use Rattle.temporal.proofs.Accepted.{accepted}
+use Rattle.temporal.proofs.RuleLaws.{Waits, waits-turnaround}
 use Rattle.plan.specs.Record.{inSlot}
 use Rattle.plan.proofs.SlotLaws.{in-slot-inv}
 use Rattle.reach.specs.Pass.{Tables, begunTables, turnedTables, Turnable, ReachReady, FilledTables}
-use Rattle.reach.proofs.PassLaws.{turn-folds, turn-settles}
+use Rattle.reach.proofs.PassLaws.{turn-folds, turn-waits, turn-settles}
 use Rattle.reach.proofs.TableLaws.{beyond-refl, beyond-then}
 use Rattle.reach.proofs.StateLaws.{TablesState}
 use Rattle.reach.proofs.FoldLaws.{fold-state}
-use Rattle.reach.proofs.SettleLaws.{settle-state}
+use Rattle.reach.proofs.SettleLaws.{wait-state, settle-state}
 use Rattle.reach.proofs.EndLaws.{begin-state, end-state}
 
--- what the loop keeps: the plan and the source are right, and the tables are in their state
-pub record Running (bs : List ℕ) (n t s width : ℕ) (old : Tables) (u j : ℕ) (x : Tables) : Type 0 where
+-- what the loop keeps: the plan, the slots of waiting and the source are right, and the tables are in their state
+pub record Running (bs : List ℕ) (n t : ℕ) (terms : Terms) (s width q end : ℕ) (old : Tables) (u j : ℕ) (x : Tables) : Type 0 where
   pub accepted : planFault bs n t ≡ 0
   pub columns : width ≡ t + 1
-  pub slot : u ≤ t + 1
-  pub state : TablesState bs n t s old u j x
+  pub last : end ≡ t + q
+  pub waits : Waits (planOf bs n t terms) q
+  pub slot : u ≤ end
+  pub state : TablesState bs n t terms s q old u j x
 
--- the tables begun run, seen from themselves
+-- (kept) what is heard waits as many slots as the turnaround says, but no more than there are
+waits-min :
+    (bs : List ℕ) (n t : ℕ) (terms : Terms) → planFault bs n t ≡ 0 → 0 < terms .turnaround →
+    Waits (planOf bs n t terms) (min (terms .turnaround) t)
+unfolding planOf
+waits-min bs n t terms ok turns = waits-turnaround (planOf bs n t terms) (accepted bs n t ok .some-slot) turns
+
+-- the slots of waiting lie within the plan's
+waits-most : (bs : List ℕ) (n t : ℕ) (terms : Terms) (q : ℕ) → Waits (planOf bs n t terms) q → q ≤ t
+unfolding planOf
+waits-most bs n t terms q w = w .most
+
+-- (kept) the tables begun run, seen from themselves
 pub running-begin :
-    (bs : List ℕ) (n t s width : ℕ) (old x : Tables) → ReachReady bs n t s old → width ≡ t + 1 → x ≡ begunTables n width s old →
-    Running bs n t s width x 0 0 x
-running-begin bs n t s width old x r e b =
-    let st : TablesState bs n t s old 0 0 x = rw (b, e) (begin-state bs n t s (r .accepted) (r .source) old (r .fits)) in
+    (bs : List ℕ) (n t : ℕ) (terms : Terms) (s width q end : ℕ) (old x : Tables) → ReachReady bs n t terms s old → width ≡ t + 1 →
+    q ≡ min (terms .turnaround) t → end ≡ t + q → x ≡ begunTables n width s old → Running bs n t terms s width q end x 1 0 x
+running-begin bs n t terms s width q end old x r e m l b =
+    let w : Waits (planOf bs n t terms) q = rw m (waits-min bs n t terms (r .accepted) (r .turns)) in
+    let st : TablesState bs n t terms s q old 1 0 x =
+    rw (b, e) (begin-state bs n t terms s (r .accepted) (r .source) old (r .fits) q (w .some)) in
     record {
       accepted = r .accepted;
       columns = e;
-      slot = omega arith;
+      last = l;
+      waits = w;
+      slot = let some = w .some in let slots = accepted bs n t (r .accepted) .some-slot in omega arith;
       state = record {
-        settled = st .settled;
+        after-start = st .after-start;
+        complete = st .complete;
         pending = st .pending;
         later-hops = st .later-hops;
         later-counts = st .later-counts;
@@ -49,60 +72,77 @@ running-begin bs n t s width old x r e b =
       };
     }
 
-module _ (bs : List ℕ) (n t s width : ℕ) (old : Tables) (u j : ℕ) (x : Tables) (r : Running bs n t s width old u j x)
-    (more : u < width) where
+module _ (bs : List ℕ) (n t : ℕ) (terms : Terms) (s width q end : ℕ) (old : Tables) (u j : ℕ) (x : Tables)
+    (r : Running bs n t terms s width q end old u j x) (more : u < end) where
   -- the next turn can be taken
-  pub running-turnable : Turnable bs n width u x
+  pub running-turnable : Turnable bs n width q u x
   running-turnable =
       let e = r .columns in
+      let l = r .last in
+      let most = waits-most bs n t terms q (r .waits) in
       let same : width - 1 ≡ t = omega arith in
       record {
         accepted = rw same (r .accepted);
-        some-width = omega arith;
-        slot = more;
+        waits = omega arith;
+        slot = omega arith;
         fits = rw e (r .state .fits);
       }
 
-  -- a turn that folds
+  -- (kept) a turn that folds
   pub running-fold :
-      (y : Tables) → inSlot bs j u ≡ true → y ≡ turnedTables bs n width u j x → Running bs n t s width old u (j + 1) y
+      (y : Tables) → inSlot bs j u ≡ true → y ≡ turnedTables bs n width q u j x →
+      Running bs n t terms s width q end old u (j + 1) y
   running-fold y here e =
       let w = r .columns in
       record {
         accepted = r .accepted;
         columns = w;
+        last = r .last;
+        waits = r .waits;
         slot = r .slot;
-        state = rw (e, w, ← turn-folds bs n (t + 1) u j x _ here refl)
-            (fold-state bs n t s (r .accepted) old u j x (omega arith) (r .state) here);
+        state = rw (e, w, ← turn-folds bs n (t + 1) q u j x _ here refl)
+            (fold-state bs n t terms s (r .accepted) q (r .waits) old u j x (r .state) here);
       }
 
-  -- a turn that settles
+  -- a turn that ends a slot
   pub running-settle :
-      (y : Tables) → inSlot bs j u ≡ false → y ≡ turnedTables bs n width u j x → Running bs n t s width old (u + 1) j y
+      (y : Tables) → inSlot bs j u ≡ false → y ≡ turnedTables bs n width q u j x →
+      Running bs n t terms s width q end old (u + 1) j y
   running-settle y past e =
       let w = r .columns in
+      let l = r .last in
       record {
         accepted = r .accepted;
         columns = w;
+        last = l;
+        waits = r .waits;
         slot = omega arith;
-        state = rw (e, w, ← turn-settles bs n (t + 1) u j x _ past refl)
-            (settle-state bs n t s (r .accepted) old u j x (omega arith) (r .state) past);
+        state = rw (e, w)
+            (by-cases (decLt u q)
+            (λ short. rw (← turn-waits bs n (t + 1) q u j x past short)
+            (wait-state bs n t terms s (r .accepted) q old u j x (r .state) past short))
+            (λ long. rw (← turn-settles bs n (t + 1) q u j x _ past (omega arith) refl)
+            (settle-state bs n t terms s (r .accepted) q old u j x (r .state) past (r .waits .some) (omega arith) (omega arith))));
       }
 
   -- a turn that folds has a record left
   pub running-record : inSlot bs j u ≡ true → j < records bs
   running-record here = in-slot-inv bs j u here .0
 
--- after the last slot the tables are filled, also seen from before they were begun
+-- (kept) once the last slot is settled the tables are filled, also seen from before they were begun
 pub running-end :
-    (bs : List ℕ) (n t s width : ℕ) (old x : Tables) (u j : ℕ) (y : Tables) → width ≤ u → ReachReady bs n t s old →
-    x ≡ begunTables n width s old → Running bs n t s width x u j y → FilledTables bs n t s old y
-running-end bs n t s width old x u j y last ready b r =
+    (bs : List ℕ) (n t : ℕ) (terms : Terms) (s width q end : ℕ) (old x : Tables) (u j : ℕ) (y : Tables) → end ≤ u →
+    ReachReady bs n t terms s old → x ≡ begunTables n width s old → Running bs n t terms s width q end x u j y →
+    FilledTables bs n t terms s old y
+running-end bs n t terms s width q end old x u j y past ready b r =
     let e = r .columns in
+    let l = r .last in
     let w = r .slot in
-    let all : u ≡ t + 1 = omega arith in
-    let st : TablesState bs n t s old 0 0 x = rw (b, e) (begin-state bs n t s (ready .accepted) (ready .source) old (ready .fits)) in
-    let f = end-state bs n t s (r .accepted) x y j (subst (λ i. TablesState bs n t s x i j y) all (r .state)) in
+    let all : u ≡ t + q = omega arith in
+    let some = r .waits .some in
+    let st : TablesState bs n t terms s q old 1 0 x =
+    rw (b, e) (begin-state bs n t terms s (ready .accepted) (ready .source) old (ready .fits) q some) in
+    let f = end-state bs n t terms s (r .accepted) q some x y j (subst (λ i. TablesState bs n t terms s q x i j y) all (r .state)) in
     record {
       appearance = f .appearance;
       station = f .station;
@@ -114,12 +154,14 @@ running-end bs n t s width old x u j y last ready b r =
 
 -- what the loop counts stays small
 pub running-few :
-    (bs : List ℕ) (n t s width : ℕ) (old : Tables) (u j : ℕ) (x : Tables) → Running bs n t s width old u j x →
-    (j ≤ 8192) × (u ≤ 256)
-running-few bs n t s width old u j x r =
+    (bs : List ℕ) (n t : ℕ) (terms : Terms) (s width q end : ℕ) (old : Tables) (u j : ℕ) (x : Tables) →
+    Running bs n t terms s width q end old u j x → (j ≤ 8192) × (u ≤ 510)
+running-few bs n t terms s width q end old u j x r =
     let a = accepted bs n t (r .accepted) in
     let few = a .few in
     let slots = a .slots in
     let within = r .state .within in
     let slot = r .slot in
+    let last = r .last in
+    let most = waits-most bs n t terms q (r .waits) in
     (omega arith, omega arith)

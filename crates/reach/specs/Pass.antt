@@ -4,7 +4,9 @@ use Prim.Native.Nat.{ℕ, _+_, _*_, _-_, _<_}
 use mathlib.Core.Path.{_≡_}
 use mathlib.Core.Bool.{Bool, cond, _||_}
 use mathlib.Core.List.{List}
+use lib.Dec.{ltb}
 use lib.ListN.{length, getD, set, drop, replicate}
+use Rattle.temporal.specs.Plan.{Terms}
 use Rattle.temporal.specs.Lists.{any, below}
 use Rattle.temporal.specs.Bytes.{contactAt, planOf}
 use Rattle.temporal.specs.Cause.{planFault}
@@ -26,14 +28,14 @@ tablesOf h c sh sc = record { appearances = tableOf h c; stations = tableOf sh s
 abbrev pub lentTables : List ℕ → List ℕ → List ℕ → List ℕ → ReachTables
 lentTables h c sh sc = record { hopsTable = h; countTable = c; stationHops = sh; stationCounts = sc }
 
--- no walks anywhere but the empty one, which ends at the source in slot 0
+-- no walks anywhere but the empty one, which ends at the source in slot 0; the source may send it on
 unfoldable pub begunTables : ℕ → ℕ → ℕ → Tables → Tables
 begunTables n width s x =
     tablesOf
     (set (over (replicate (n * width) 65535) (x .appearances .hops)) (s * width) 0)
     (set (over (replicate (n * width) 0) (x .appearances .counts)) (s * width) 1)
-    (over (replicate n 65535) (x .stations .hops))
-    (over (replicate n 0) (x .stations .counts))
+    (set (over (replicate n 65535) (x .stations .hops)) s 0)
+    (set (over (replicate n 0) (x .stations .counts)) s 1)
 
 -- the named parts are 0
 unfoldable pub emptiedTables : ℕ → ℕ → Tables → Tables
@@ -47,12 +49,14 @@ unfoldable pub tablesOverflow : ℕ → ℕ → Tables → Bool
 tablesOverflow n width x =
     any (tableOverflows (x .appearances)) (below (n * width)) || any (tableOverflows (x .stations)) (below n)
 
--- one turn: a record of slot u is folded in, or, where there is none left, the slot is settled
-unfoldable pub turnedTables : List ℕ → ℕ → ℕ → ℕ → ℕ → Tables → Tables
-turnedTables bs n width u j x =
+-- one turn: a record of slot u is folded in, or, where there is none left, the slot that lies q slots before the next is
+-- settled, unless that is slot 0 or earlier
+unfoldable pub turnedTables : List ℕ → ℕ → ℕ → ℕ → ℕ → ℕ → Tables → Tables
+turnedTables bs n width q u j x =
     cond (inSlot bs j u)
     (record { appearances = foldedTable width (x .appearances) (x .stations) (contactAt bs j); stations = x .stations })
-    (record { appearances = x .appearances; stations = settledTable width u (x .appearances) (x .stations) 0 n })
+    (cond (ltb u q) x
+    (record { appearances = x .appearances; stations = settledTable width (u + 1 - q) (x .appearances) (x .stations) 0 n }))
 
 -- the entries at j are the hops and the count of the list l
 pub record EntryHolds (x : Table) (j : ℕ) (l : List (List ℕ)) : Type 0 where
@@ -67,22 +71,24 @@ pub record Beyond (k : ℕ) (x y : Table) : Type 0 where
   pub counts-length : length (y .counts) ≡ length (x .counts)
 
 -- every entry is filled from the source, and nothing past the named parts is touched
-pub record FilledTables (bs : List ℕ) (n t s : ℕ) (old new : Tables) : Type 0 where
+pub record FilledTables (bs : List ℕ) (n t : ℕ) (terms : Terms) (s : ℕ) (old new : Tables) : Type 0 where
   pub appearance :
-      (v u : ℕ) → v < n → u < t + 1 → EntryHolds (new .appearances) (v * (t + 1) + u) (shortestWalks (planOf bs n t) s v u)
-  pub station : (v : ℕ) → v < n → EntryHolds (new .stations) v (shortestPaths (planOf bs n t) s v)
+      (v u : ℕ) → v < n → u < t + 1 → EntryHolds (new .appearances) (v * (t + 1) + u) (shortestWalks (planOf bs n t terms) s v u)
+  pub station : (v : ℕ) → v < n → EntryHolds (new .stations) v (shortestPaths (planOf bs n t terms) s v)
   pub appearances-beyond : Beyond (n * (t + 1)) (old .appearances) (new .appearances)
   pub stations-beyond : Beyond n (old .stations) (new .stations)
 
--- what the pass asks: an accepted plan, a source in it, and tables that fit
-pub record ReachReady (bs : List ℕ) (n t s : ℕ) (x : Tables) : Type 0 where
+-- what the pass asks: an accepted plan, a turnaround other than 0, a source in the plan, and tables that fit
+pub record ReachReady (bs : List ℕ) (n t : ℕ) (terms : Terms) (s : ℕ) (x : Tables) : Type 0 where
   pub accepted : planFault bs n t ≡ 0
+  pub turns : 0 < terms .turnaround
   pub source : s < n
   pub fits : Fits n (t + 1) (x .appearances) (x .stations)
 
--- what a turn asks: an accepted plan with its stations and slots, and tables that fit
-pub record Turnable (bs : List ℕ) (n width u : ℕ) (x : Tables) : Type 0 where
+-- what a turn asks: an accepted plan with its stations and slots, no more slots of waiting than it has, a slot u no later than
+-- the one after which its last slot is settled, and tables that fit
+pub record Turnable (bs : List ℕ) (n width q u : ℕ) (x : Tables) : Type 0 where
   pub accepted : planFault bs n (width - 1) ≡ 0
-  pub some-width : 0 < width
-  pub slot : u < width
+  pub waits : q < width
+  pub slot : u + 1 < width + q
   pub fits : Fits n width (x .appearances) (x .stations)

@@ -1,9 +1,11 @@
 // Operation 2, reach: fills the tables of hops and counts from a source.
-// The tables are the state: the stations' tables hold what may be sent on, the appearances' tables what each slot brings.
+// The tables are the state: the stations' tables hold what may be sent on, the appearances' tables what each slot brings. A
+// slot is taken into the stations' tables, settled, when it has waited as long as the turnaround asks.
 ghost use mathlib.Core.Path.{_≡_};
-ghost use Prim.Native.Nat.{_+_, _*_, _-_, _<_, _≤_};
+ghost use Prim.Native.Nat.{_+_, _*_, _-_, _<_, _≤_, min};
 ghost use lib.ListN.{length, getD};
 ghost use Rattle.temporal.specs.Lists.{any, below};
+ghost use Rattle.temporal.specs.Plan.{turning};
 ghost use Rattle.temporal.specs.Bytes.{contactAt, planOf};
 ghost use Rattle.temporal.specs.Cause.{planFault};
 ghost use Rattle.temporal.specs.Outcome.{reached, reach};
@@ -165,7 +167,8 @@ fn fold_record(
     );
 }
 
-// One turn of the pass: folds the record at j in where it lies in slot u, and else settles the slot. True where it folded.
+// One turn of the pass: folds the record at j in where it lies in slot u. Else slot u is done with, and the slot that lies
+// `wait` slots before the next is settled, unless that is slot 0 or earlier. True where it folded.
 fn turn(
     hops: &mut [u16],
     counts: &mut [u64],
@@ -174,11 +177,12 @@ fn turn(
     plan: &[u8],
     n: usize,
     width: usize,
+    wait: usize,
     u: usize,
     j: usize,
 ) -> bool
-    requires { ⌜ Turnable (now plan) n width u (tablesOf (now hops) (now counts) (now «station_hops») (now «station_counts»)) ⌝ }
-    ensures { λ r. ⌜ (r ≡ inSlot (now (plan .entry)) j u) × (tablesOf (now (hops .exit)) (now (counts .exit)) (now («station_hops» .exit)) (now («station_counts» .exit)) ≡ turnedTables (now (plan .entry)) n width u j (tablesOf (now (hops .entry)) (now (counts .entry)) (now («station_hops» .entry)) (now («station_counts» .entry)))) ⌝ }
+    requires { ⌜ Turnable (now plan) n width wait u (tablesOf (now hops) (now counts) (now «station_hops») (now «station_counts»)) ⌝ }
+    ensures { λ r. ⌜ (r ≡ inSlot (now (plan .entry)) j u) × (tablesOf (now (hops .exit)) (now (counts .exit)) (now («station_hops» .exit)) (now («station_counts» .exit)) ≡ turnedTables (now (plan .entry)) n width wait u j (tablesOf (now (hops .entry)) (now (counts .entry)) (now («station_hops» .entry)) (now («station_counts» .entry)))) ⌝ }
 {
     if plan::in_slot(plan, j, u) {
         fold_record(
@@ -193,11 +197,22 @@ fn turn(
         );
         return true;
     }
-    settle(station_hops, station_counts, hops, counts, n, width, u);
+    if u < wait {
+        return false;
+    }
+    settle(
+        station_hops,
+        station_counts,
+        hops,
+        counts,
+        n,
+        width,
+        u + 1 - wait,
+    );
     false
 }
 
-// Clears the tables and puts the empty walk of the source into slot 0.
+// Clears the tables, and puts the empty walk into the source's appearance of slot 0 and into the source.
 fn begin(
     hops: &mut [u16],
     counts: &mut [u64],
@@ -218,6 +233,8 @@ fn begin(
     let at = source * width;
     hops[at] = 0;
     counts[at] = 1;
+    station_hops[source] = 0;
+    station_counts[source] = 1;
 }
 
 // Clears the named parts of the four tables.
@@ -257,7 +274,17 @@ fn overflowed(
     any_overflows(station_hops, station_counts, n)
 }
 
-// Fills the four tables from a source, slot by slot.
+// How many slots what is heard waits before it is sent on: as the turnaround says, but no more than there are.
+fn waiting(g: usize, t: usize) -> usize
+    ensures { λ r. ⌜ r ≡ min g t ⌝ }
+{
+    if g < t {
+        return g;
+    }
+    t
+}
+
+// Fills the four tables from a source, slot by slot, and goes on until the last slot is settled.
 fn fill(
     hops: &mut [u16],
     counts: &mut [u64],
@@ -266,16 +293,19 @@ fn fill(
     plan: &[u8],
     n: usize,
     t: usize,
+    g: usize,
     source: usize,
 )
-    requires { ⌜ ReachReady (now plan) n t source (tablesOf (now hops) (now counts) (now «station_hops») (now «station_counts»)) ⌝ }
-    ensures { λ _. ⌜ FilledTables (now (plan .entry)) n t source (tablesOf (now (hops .entry)) (now (counts .entry)) (now («station_hops» .entry)) (now («station_counts» .entry))) (tablesOf (now (hops .exit)) (now (counts .exit)) (now («station_hops» .exit)) (now («station_counts» .exit))) ⌝ }
+    requires { ⌜ ReachReady (now plan) n t (turning g) source (tablesOf (now hops) (now counts) (now «station_hops») (now «station_counts»)) ⌝ }
+    ensures { λ _. ⌜ FilledTables (now (plan .entry)) n t (turning g) source (tablesOf (now (hops .entry)) (now (counts .entry)) (now («station_hops» .entry)) (now («station_counts» .entry))) (tablesOf (now (hops .exit)) (now (counts .exit)) (now («station_hops» .exit)) (now («station_counts» .exit))) ⌝ }
 {
     let width = t + 1;
+    let wait = waiting(g, t);
+    let end = t + wait;
     begin(hops, counts, station_hops, station_counts, n, width, source);
-    let mut u = 0;
+    let mut u = 1;
     let mut j = 0;
-    while u < width {
+    while u < end {
         if turn(
             hops,
             counts,
@@ -284,6 +314,7 @@ fn fill(
             plan,
             n,
             width,
+            wait,
             u,
             j,
         ) {
@@ -303,10 +334,11 @@ fn work(
     plan: &[u8],
     n: usize,
     t: usize,
+    g: usize,
     source: usize,
 ) -> ReachAnswer
-    requires { ⌜ ReachReady (now plan) n t source (tablesOf (now hops) (now counts) (now «station_hops») (now «station_counts»)) ⌝ }
-    ensures { λ r. ⌜ reachOutcome r (lentTables (now (hops .exit)) (now (counts .exit)) (now («station_hops» .exit)) (now («station_counts» .exit))) ≡ reached (planOf (now (plan .entry)) n t) source (lentTables (now (hops .entry)) (now (counts .entry)) (now («station_hops» .entry)) (now («station_counts» .entry))) ⌝ }
+    requires { ⌜ ReachReady (now plan) n t (turning g) source (tablesOf (now hops) (now counts) (now «station_hops») (now «station_counts»)) ⌝ }
+    ensures { λ r. ⌜ reachOutcome r (lentTables (now (hops .exit)) (now (counts .exit)) (now («station_hops» .exit)) (now («station_counts» .exit))) ≡ reached (planOf (now (plan .entry)) n t (turning g)) source (lentTables (now (hops .entry)) (now (counts .entry)) (now («station_hops» .entry)) (now («station_counts» .entry))) ⌝ }
 {
     fill(
         hops,
@@ -316,6 +348,7 @@ fn work(
         plan,
         n,
         t,
+        g,
         source,
     );
     if overflowed(hops, counts, station_hops, station_counts, n, t + 1) {
@@ -325,7 +358,7 @@ fn work(
     ReachAnswer::Reached
 }
 
-// Reach on an accepted plan: 6 and 8, then the work.
+// Reach on an accepted plan: 12, 6 and 8, then the work.
 fn reach_accepted(
     hops: &mut [u16],
     counts: &mut [u64],
@@ -334,11 +367,15 @@ fn reach_accepted(
     plan: &[u8],
     n: usize,
     t: usize,
+    g: usize,
     source: usize,
 ) -> ReachAnswer
     requires { ⌜ planFault (now plan) n t ≡ 0 ⌝ }
-    ensures { λ r. ⌜ reachOutcome r (lentTables (now (hops .exit)) (now (counts .exit)) (now («station_hops» .exit)) (now («station_counts» .exit))) ≡ reach (now (plan .entry)) n t source (lentTables (now (hops .entry)) (now (counts .entry)) (now («station_hops» .entry)) (now («station_counts» .entry))) ⌝ }
+    ensures { λ r. ⌜ reachOutcome r (lentTables (now (hops .exit)) (now (counts .exit)) (now («station_hops» .exit)) (now («station_counts» .exit))) ≡ reach (now (plan .entry)) n t (turning g) source (lentTables (now (hops .entry)) (now (counts .entry)) (now («station_hops» .entry)) (now («station_counts» .entry))) ⌝ }
 {
+    if calls::wrong_turnaround(g) {
+        return ReachAnswer::Refused(Fault::Call(CallFault::Turnaround));
+    }
     if n <= source {
         return ReachAnswer::Refused(Fault::Call(CallFault::Station));
     }
@@ -363,23 +400,25 @@ fn reach_accepted(
         plan,
         n,
         t,
+        g,
         source,
     )
 }
 
-// Operation 2, reach: fills, from a source, the hops and counts of the appearances, place v (t + 1) + u, and of the
-// stations. 65535 hops and count 0 where there is no walk.
+// Operation 2, reach: fills, from a source and with the turnaround g, the hops and counts of the appearances, place
+// v (t + 1) + u, and of the stations. 65535 hops and count 0 where there is no walk.
 pub fn reach(
     plan: &[u8],
     n: usize,
     t: usize,
+    g: usize,
     source: usize,
     hops: &mut [u16],
     counts: &mut [u64],
     station_hops: &mut [u16],
     station_counts: &mut [u64],
 ) -> ReachAnswer
-    ensures { λ r. ⌜ reachOutcome r (lentTables (now (hops .exit)) (now (counts .exit)) (now («station_hops» .exit)) (now («station_counts» .exit))) ≡ reach (now (plan .entry)) n t source (lentTables (now (hops .entry)) (now (counts .entry)) (now («station_hops» .entry)) (now («station_counts» .entry))) ⌝ }
+    ensures { λ r. ⌜ reachOutcome r (lentTables (now (hops .exit)) (now (counts .exit)) (now («station_hops» .exit)) (now («station_counts» .exit))) ≡ reach (now (plan .entry)) n t (turning g) source (lentTables (now (hops .entry)) (now (counts .entry)) (now («station_hops» .entry)) (now («station_counts» .entry))) ⌝ }
 {
     let CheckAnswer::Refused(fault) = plan::check(plan, n, t) else {
         return reach_accepted(
@@ -390,6 +429,7 @@ pub fn reach(
             plan,
             n,
             t,
+            g,
             source,
         );
     };

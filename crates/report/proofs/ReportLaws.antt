@@ -12,7 +12,7 @@ use Rattle.temporal.specs.Lists.{from, below}
 use Rattle.temporal.specs.Plan.{Plan}
 use Rattle.temporal.specs.Load.{pairs, load}
 use Rattle.temporal.specs.Bytes.{planOf, records}
-use Rattle.temporal.specs.Cause.{cause, first, unless, planCauses, planFault, tooManyAnywhere}
+use Rattle.temporal.specs.Cause.{cause, first, unless, planCauses, planFault, tooManyAnywhere, wrongTurnaround}
 use Rattle.temporal.specs.Outcome.{Outcome, over, workSize}
 use Rattle.temporal.specs.OutcomePair.{LoadBuffers, loaded, loads}
 use Rattle.temporal.proofs.BufferLaws.{written, length-made}
@@ -49,6 +49,7 @@ use Rattle.report.specs.Report.{
   line,
   ascii,
   lineFeed,
+  usual,
   loadsText,
   refusalText,
   inputCauses,
@@ -80,6 +81,7 @@ call-positive call-fault.Short = lit< tt
 call-positive call-fault.TooMany = lit< tt
 call-positive call-fault.NotShortestPath = lit< tt
 call-positive call-fault.SetByte = lit< tt
+call-positive call-fault.Turnaround = lit< tt
 
 fault-positive : (f : Fault) → 0 < faultNumber f
 fault-positive (fault.Plan f) = number-positive f
@@ -158,7 +160,7 @@ module _ (bs : List ℕ) (n t : ℕ) (out ps ls area : List ℕ) (w : Within bs 
   old = loadBuffers ps ls area
 
   abbrev plan : Plan
-  plan = planOf bs n t
+  plan = planOf bs n t usual
 
   few-stations : n ≤ 32
   few-stations = limit-stations n t (w .limits)
@@ -193,29 +195,33 @@ module _ (bs : List ℕ) (n t : ℕ) (out ps ls area : List ℕ) (w : Within bs 
       decide true e = rw e
       decide false e = rw e
 
-  works : planFault bs n t ≡ 0 → loads bs n t old ≡ loaded plan old
+  right : wrongTurnaround usual ≡ false
+  unfolding wrongTurnaround
+  right = refl
+
+  works : planFault bs n t ≡ 0 → loads bs n t usual old ≡ loaded plan old
   works ok =
-      loads-works bs n t ps ls area ok (omega (arith, few-stations, w .pairs-size))
+      loads-works bs n t usual ps ls area ok right (omega (arith, few-stations, w .pairs-size))
       (omega (arith, few-stations, w .loads-size)) work-room
 
-  loads-number : loads bs n t old .number ≡ first causes
+  loads-number : loads bs n t usual old .number ≡ first causes
   unfolding causes planFault loads
   loads-number = decide (planFault bs n t) refl
     where
-      decide : (k : ℕ) → planFault bs n t ≡ k → loads bs n t old .number ≡ first causes
+      decide : (k : ℕ) → planFault bs n t ≡ k → loads bs n t usual old .number ≡ first causes
       decide zero e =
           ap (λ o. o .number) (works e) ∙ loaded-number ∙ sym (first-append-none (planCauses bs n t) _ e)
       decide (suc k) e =
           ap (λ o. o .number) (entered-plan tt old _ bs n t _ (omega arith)) ∙
           sym (first-append-some (planCauses bs n t) _ (omega arith))
 
-  refusal-number : refusalOf bs ≡ loads bs n t old .number
+  refusal-number : refusalOf bs ≡ loads bs n t usual old .number
   unfolding refusalOf causes
   refusal-number =
       first-append-none (inputCauses bs) _ passes ∙ rw (← w .stations, ← w .slots) (sym loads-number)
 
   module _ (b : LoadBuffers) (k : ℕ)
-      (answer : _≡_ {A = Outcome (Unit {0}) LoadBuffers} (record { number = k; values = tt; buffers = b }) (loads bs n t old)) where
+      (answer : _≡_ {A = Outcome (Unit {0}) LoadBuffers} (record { number = k; values = tt; buffers = b }) (loads bs n t usual old)) where
     -- the lent tables are as loads leaves them
     lent-by : b ≡ lentAfter bs old
     unfolding lentAfter
@@ -229,7 +235,7 @@ module _ (bs : List ℕ) (n t : ℕ) (out ps ls area : List ℕ) (w : Within bs 
   -- a refusal
   printed-by :
       (f : Fault) (b : LoadBuffers) →
-      _≡_ {A = Outcome (Unit {0}) LoadBuffers} (record { number = faultNumber f; values = tt; buffers = b }) (loads bs n t old) →
+      _≡_ {A = Outcome (Unit {0}) LoadBuffers} (record { number = faultNumber f; values = tt; buffers = b }) (loads bs n t usual old) →
       refusalText (faultNumber f) ≡ printed bs
   unfolding printed
   printed-by f b answer =
@@ -239,7 +245,7 @@ module _ (bs : List ℕ) (n t : ℕ) (out ps ls area : List ℕ) (w : Within bs 
   -- loads: the tables have the pairs and the loads
   module _ (ps′ ls′ area′ : List ℕ)
       (answer : _≡_ {A = Outcome (Unit {0}) LoadBuffers}
-      (record { number = 0; values = tt; buffers = loadBuffers ps′ ls′ area′ }) (loads bs n t old)) where
+      (record { number = 0; values = tt; buffers = loadBuffers ps′ ls′ area′ }) (loads bs n t usual old)) where
     none : first causes ≡ 0
     none = sym (ap (λ o. o .number) answer ∙ loads-number)
 
@@ -272,7 +278,7 @@ module _ (bs : List ℕ) (n t : ℕ) (out ps ls area : List ℕ) (w : Within bs 
 
     table-same : tableOf ps′ ls′ n t (length bs / 6) ≡ loadsText plan
     unfolding tableOf loadsText planOf records
-    table-same = ap₂ (λ m x. heading n t m ++ x) (sym (contacts-length bs n t)) lines-same
+    table-same = ap₂ (λ m x. heading n t m ++ x) (sym (contacts-length bs n t usual)) lines-same
 
     printed-table : tableOf ps′ ls′ n t (length bs / 6) ≡ printed bs
     unfolding printed
@@ -292,7 +298,7 @@ module _ (bs : List ℕ) (n t : ℕ) (out ps ls area : List ℕ) (w : Within bs 
                 arith,
                 w .out-size,
                 ap length table-same,
-                text-length plan few-stations few-slots (omega (arith, contacts-length bs n t, few-records)),
+                text-length plan few-stations few-slots (omega (arith, contacts-length bs n t usual, few-records)),
               );
         }
       where
@@ -301,14 +307,14 @@ module _ (bs : List ℕ) (n t : ℕ) (out ps ls area : List ℕ) (w : Within bs 
 
   -- the same of an answer of the code
   module _ (r : LoadsAnswer) (ps′ ls′ area′ : List ℕ)
-      (e : loadsOutcome r (loadBuffers ps′ ls′ area′) ≡ loads bs n t (loadBuffers ps ls area)) where
+      (e : loadsOutcome r (loadBuffers ps′ ls′ area′) ≡ loads bs n t usual (loadBuffers ps ls area)) where
     pub lent-within : loadBuffers ps′ ls′ area′ ≡ lentAfter bs (loadBuffers ps ls area)
     lent-within = lent-by (loadBuffers ps′ ls′ area′) (loadsNumber r) e
 
     module _ (told : r ≡ loads-answer.Loaded) where
       answer :
           _≡_ {A = Outcome (Unit {0}) LoadBuffers}
-          (record { number = 0; values = tt; buffers = loadBuffers ps′ ls′ area′ }) (loads bs n t old)
+          (record { number = 0; values = tt; buffers = loadBuffers ps′ ls′ area′ }) (loads bs n t usual old)
       answer = ap (λ a. loadsOutcome a (loadBuffers ps′ ls′ area′)) (sym told) ∙ e
 
       pub loads-printable : Printable 0 n ps′ ls′ (tableOf ps′ ls′ n t (length bs / 6)) out

@@ -8,7 +8,7 @@ use mathlib.Core.Path.{_≡_}
 use mathlib.Core.List.{List, [], _∷_, _++_, flatMap}
 use lib.ListN.{length}
 use Rattle.temporal.specs.Lists.{below}
-use Rattle.temporal.specs.Plan.{Plan}
+use Rattle.temporal.specs.Plan.{Plan, Terms, turning}
 use Rattle.temporal.specs.Load.{pairs, load}
 use Rattle.temporal.specs.Bytes.{planOf}
 use Rattle.temporal.specs.Cause.{cause, first, unless, planCauses, tooManyAnywhere}
@@ -55,9 +55,13 @@ refusalText k = ascii "refused " ++ field k lineFeed
 unfoldable pub inputCauses : List ℕ → List ℕ
 inputCauses bs = cause 2 (wrongInput bs) ∷ cause 1 (overLimits (inputStations bs) (inputSlots bs)) ∷ []
 
+-- the turnaround of the program's units is 1 (document 02, C-17)
+abbrev pub usual : Terms
+usual = turning 1
+
 -- the plan that the input is
 abbrev pub inputPlan : List ℕ → Plan
-inputPlan bs = planOf bs (inputStations bs) (inputSlots bs)
+inputPlan bs = planOf bs (inputStations bs) (inputSlots bs) usual
 
 -- the number of the refusal, 0 where the loads are printed: the input's causes, the plan's, then 9
 unfoldable pub refusalOf : List ℕ → ℕ
@@ -73,7 +77,7 @@ printed bs = unless (refusalOf bs) refusalText (loadsText (inputPlan bs))
 -- else as operation 5, loads, leaves them
 unfoldable pub lentAfter : List ℕ → LoadBuffers → LoadBuffers
 lentAfter bs old =
-    unless (first (inputCauses bs)) (λ _. old) (loads bs (inputStations bs) (inputSlots bs) old .buffers)
+    unless (first (inputCauses bs)) (λ _. old) (loads bs (inputStations bs) (inputSlots bs) usual old .buffers)
 
 -- What the report function promises for every input: the text's length, the text at the beginning of the output buffer, whose
 -- other bytes stay, and the lent tables afterwards.

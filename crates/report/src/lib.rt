@@ -149,7 +149,7 @@ fn report_within(
     requires { ⌜ Within (now input) n t (now out) (now pairs) (now sums) (now work) ⌝ }
     ensures { λ r. ⌜ Reported (now (input .entry)) (now (out .entry)) (loadBuffers (now (pairs .entry)) (now (sums .entry)) (now (work .entry))) r (now (out .exit)) (loadBuffers (now (pairs .exit)) (now (sums .exit)) (now (work .exit))) ⌝ }
 {
-    let LoadsAnswer::Refused(fault) = loads::loads(input, n, t, pairs, sums, work) else {
+    let LoadsAnswer::Refused(fault) = loads::loads(input, n, t, 1, pairs, sums, work) else {
         return put_table(out, n, t, input.len() / 6, pairs, sums);
     };
     put_refusal(out, 0, plan::fault_number(fault) as u64)

@@ -10,6 +10,7 @@ use mathlib.Core.Logic.{_≢_, by-cases, ⊎-elim}
 use borrow.Author.Tests.{lt-ltb, le-ltb, eq-eqb, ne-eqb}
 use lib.Dec.{ltb}
 use lib.ListN.{length, getD, replicate}
+use Rattle.temporal.specs.Plan.{Terms}
 use Rattle.temporal.specs.Lists.{any, from, below}
 use Rattle.temporal.specs.Shortest.{shortestPaths, hops}
 use Rattle.temporal.specs.Set.{touched}
@@ -33,9 +34,10 @@ use Rattle.plan.proofs.Answers.{number-positive}
 use Rattle.calls.specs.Call.{pairCallFault, callCheckNumber}
 use Rattle.calls.specs.declared.CallCheck.{CallCheck}
 use Rattle.calls.specs.declared.CallCheck.the-variants as call-check
-use Rattle.calls.proofs.CallLaws.{call-free, free-call, call-number-positive}
+use Rattle.calls.proofs.CallLaws.{terms-inv, call-free, free-call, call-number-positive}
 use Rattle.entries.proofs.SearchLaws.{any-found, any-pass, any-end, any-start}
-use Rattle.pass.specs.Passed.{areaSize, Counted, SetReady, SetPassed}
+use Rattle.pass.specs.Passed.{waiting, areaSize, Counted, SetReady, SetPassed}
+use Rattle.pass.proofs.SizeLaws.{small-fits, first-part}
 use Rattle.sets.specs.Work.{SetAsked, touchedEntry, Readable}
 
 -- ---- reading the entry
@@ -45,7 +47,7 @@ module _ (work : List ℕ) (n z : ℕ) where
   unfolding touchedEntry
   entry-none e = rw (eq-eqb (getD work z 0) 65535 e)
 
-  pub entry-some : getD work z 0 ≢ 65535 → touchedEntry work n z ≡ getD work (n + z) 0 - getD work (4 * n + z) 0
+  pub entry-some : getD work z 0 ≢ 65535 → touchedEntry work n z ≡ getD work (n + z) 0 - getD work (2 * n + z) 0
   unfolding touchedEntry
   entry-some e = rw (ne-eqb (getD work z 0) 65535 e)
 
@@ -72,30 +74,28 @@ module _ (set : List ℕ) (n v : ℕ) (rest : wrongSet n set ≡ any (wrongByte 
 -- ---- the work
 
 -- the pass's part lies within the work area
-few-rows : (bs : List ℕ) (n t : ℕ) → planFault bs n t ≡ 0 → areaSize n 1 ≤ workSize n t
-few-rows bs n t ok =
-    let one = accepted bs n t ok .some-slot in
-    let two : 2 ≤ t + 1 = omega arith in
-    omega (arith, mul-le-mul-left n two)
+few-rows : (bs : List ℕ) (n t : ℕ) (terms : Terms) → planFault bs n t ≡ 0 → areaSize n (waiting t terms) 1 ≤ workSize n t
+few-rows bs n t terms ok = small-fits n t terms 1 (accepted bs n t ok .some-station) (omega arith)
 
-module _ (bs : List ℕ) (n t s z : ℕ) (set area : List ℕ) (asked : SetAsked bs n t s z set area) (area′ : List ℕ) (r : Bool)
-    (f : SetPassed bs n t s z set area area′ r) where
+module _ (bs : List ℕ) (n t : ℕ) (terms : Terms) (s z : ℕ) (set area : List ℕ) (asked : SetAsked bs n t terms s z set area) (area′ : List ℕ) (r : Bool)
+    (f : SetPassed bs n t terms s z set area area′ r) where
   cleared-area : (area″ : List ℕ) → area″ ≡ over (replicate (workSize n t) 0) area′ → area″ ≡ cleared (workSize n t) area
   unfolding cleared
   cleared-area area″ e =
-      e ∙ fill-beyond (workSize n t) 0 area′ area (later-drop (areaSize n 1) (workSize n t) area′ area (few-rows bs n t (asked .accepted)) (f .beyond))
+      e ∙ fill-beyond (workSize n t) 0 area′ area (later-drop (areaSize n (waiting t terms) 1) (workSize n t) area′ area
+      (few-rows bs n t terms (asked .accepted)) (f .beyond))
 
   module _ (none : r ≡ false) where
-    c : Counted bs n t s 0 0 area′
+    c : Counted bs n t terms s 0 0 area′
     c = f .counted none
 
     -- hops that are not 65535 are fewer
-    with-path : getD area′ z 0 ≢ 65535 → hops (shortestPaths (planOf bs n t) s z) < 65535
+    with-path : getD area′ z 0 ≢ 65535 → hops (shortestPaths (planOf bs n t terms) s z) < 65535
     with-path ne =
         ⊎-elim
         (λ empty. absurd (ne (c .station-hops z (asked .destination) ∙ hops-empty _ empty)))
         (λ h. h)
-        (few-hops bs n t s z (asked .accepted))
+        (few-hops bs n t terms s z (asked .accepted))
 
     -- what reading the entry asks
     pub readable : Readable n z area′
@@ -104,7 +104,8 @@ module _ (bs : List ℕ) (n t s z : ℕ) (set area : List ℕ) (asked : SetAsked
         record {
           station = asked .destination;
           few = a .stations;
-          fits = let room = asked .area in let rows = few-rows bs n t (asked .accepted) in let same = f .same-length in omega arith;
+          fits = let room = asked .area in let rows = few-rows bs n t terms (asked .accepted) in
+              let first = first-part n (waiting t terms) 1 in let same = f .same-length in omega arith;
           at-most = λ some.
               let number = c .station-counts z (asked .destination) in
               let parts = f .members none (with-path some) in
@@ -112,7 +113,7 @@ module _ (bs : List ℕ) (n t s z : ℕ) (set area : List ℕ) (asked : SetAsked
         }
 
     -- the entry is the number of paths that a member touches
-    entry-touched : touchedEntry area′ n z ≡ touched (planOf bs n t) s z (isMember set)
+    entry-touched : touchedEntry area′ n z ≡ touched (planOf bs n t terms) s z (isMember set)
     entry-touched =
         by-cases (ℕ-discrete (getD area′ z 0) 65535)
         (λ far. entry-none area′ n z far ∙ sym (no-path far))
@@ -121,18 +122,18 @@ module _ (bs : List ℕ) (n t s z : ℕ) (set area : List ℕ) (asked : SetAsked
         let parts = f .members none (with-path some) in
         entry-some area′ n z some ∙ omega arith)
       where
-        no-path : getD area′ z 0 ≡ 65535 → touched (planOf bs n t) s z (isMember set) ≡ 0
+        no-path : getD area′ z 0 ≡ 65535 → touched (planOf bs n t terms) s z (isMember set) ≡ 0
         no-path far =
             ⊎-elim
-            (λ empty. touched-empty (planOf bs n t) s z (isMember set) empty)
+            (λ empty. touched-empty (planOf bs n t terms) s z (isMember set) empty)
             (λ some. let same = c .station-hops z (asked .destination) in absurd (omega arith))
-            (few-hops bs n t s z (asked .accepted))
+            (few-hops bs n t terms s z (asked .accepted))
 
   -- too many
   pub counted-refused :
       r ≡ true → (area″ : List ℕ) → area″ ≡ over (replicate (workSize n t) 0) area′ →
       _≡_ {A = Outcome ℕ (List ℕ)} (record { number = 9; values = 0; buffers = area″ })
-      (setCounted (planOf bs n t) s z set area)
+      (setCounted (planOf bs n t terms) s z set area)
   unfolding setCounted planOf
   counted-refused e area″ c =
       let many = sym (f .too-many) ∙ e in
@@ -141,7 +142,7 @@ module _ (bs : List ℕ) (n t s z : ℕ) (set area : List ℕ) (asked : SetAsked
   pub counted-found :
       r ≡ false → (k : ℕ) (area″ : List ℕ) → k ≡ touchedEntry area′ n z → area″ ≡ over (replicate (workSize n t) 0) area′ →
       _≡_ {A = Outcome ℕ (List ℕ)} (record { number = 0; values = k; buffers = area″ })
-      (setCounted (planOf bs n t) s z set area)
+      (setCounted (planOf bs n t terms) s z set area)
   unfolding setCounted planOf
   counted-found e k area″ found c =
       let few = sym (f .too-many) ∙ e in
@@ -150,13 +151,14 @@ module _ (bs : List ℕ) (n t s z : ℕ) (set area : List ℕ) (asked : SetAsked
 
 -- what the pass asks
 pub pass-ready :
-    (bs : List ℕ) (n t s z : ℕ) (set area : List ℕ) → SetAsked bs n t s z set area → SetReady bs n t s z area
-pass-ready bs n t s z set area asked =
+    (bs : List ℕ) (n t : ℕ) (terms : Terms) (s z : ℕ) (set area : List ℕ) → SetAsked bs n t terms s z set area → SetReady bs n t terms s z area
+pass-ready bs n t terms s z set area asked =
     record {
       accepted = asked .accepted;
+      turns = terms-inv terms (asked .right) .0;
       source = asked .source;
       destination = asked .destination;
-      fits = let room = asked .area in omega (arith, few-rows bs n t (asked .accepted));
+      fits = let room = asked .area in omega (arith, few-rows bs n t terms (asked .accepted));
     }
 
 -- ---- how the operation begins
@@ -165,15 +167,15 @@ none-first : first [] ≡ 0
 unfolding first
 none-first = refl
 
-module _ (bs : List ℕ) (n t s z : ℕ) (set area : List ℕ) where
+module _ (bs : List ℕ) (n t : ℕ) (terms : Terms) (s z : ℕ) (set area : List ℕ) where
   work : Outcome ℕ (List ℕ)
-  work = setCounted (planOf bs n t) s z set area
+  work = setCounted (planOf bs n t terms) s z set area
 
   -- a plan that check refuses
   pub set-plan :
       (r : CheckAnswer) (f : PlanFault) → checkNumber r ≡ planFault bs n t → r ≡ check-answer.Refused f →
       _≡_ {A = Outcome ℕ (List ℕ)} (record { number = planNumber f; values = 0; buffers = area })
-      (throughSet bs n t s z set area)
+      (throughSet bs n t terms s z set area)
   unfolding throughSet work
   set-plan r f answer e =
       let number : planNumber f ≡ planFault bs n t = ap checkNumber (sym e) ∙ answer in
@@ -181,26 +183,27 @@ module _ (bs : List ℕ) (n t s z : ℕ) (set area : List ℕ) where
       ap (refusedWith 0 area work) number ∙ sym (entered-plan 0 area work bs n t _ (omega arith))
 
   module _ (ok : planFault bs n t ≡ 0) where
-    module _ (r : CallCheck) (answer : callCheckNumber r ≡ pairCallFault n t s z (length set) n (length area)) where
-      -- 6, 7 or 8
+    module _ (r : CallCheck) (answer : callCheckNumber r ≡ pairCallFault n t terms s z (length set) n (length area)) where
+      -- 12, 6, 7 or 8
       pub set-call :
           (f : CallFault) → r ≡ call-check.Refused f →
           _≡_ {A = Outcome ℕ (List ℕ)} (record { number = callNumber f; values = 0; buffers = area })
-          (throughSet bs n t s z set area)
+          (throughSet bs n t terms s z set area)
       unfolding throughSet entered setCauses pairCallFault work
       set-call f e =
-          let number : callNumber f ≡ pairCallFault n t s z (length set) n (length area) = ap callCheckNumber (sym e) ∙ answer in
+          let number : callNumber f ≡ pairCallFault n t terms s z (length set) n (length area) = ap callCheckNumber (sym e) ∙ answer in
           let some = call-number-positive f in
           let first-there = first-append-some _ (cause 11 (wrongSet n set) ∷ []) (subst (λ k. 0 < k) number some) in
           ap (refusedWith 0 area work) (number ∙ sym first-there) ∙
           sym (entered-call 0 area work bs n t _ ok ∙ unless-some _ _ _ (omega arith))
 
       -- none of them
-      pub set-asked : r ≡ call-check.Free → SetAsked bs n t s z set area
+      pub set-asked : r ≡ call-check.Free → SetAsked bs n t terms s z set area
       set-asked e =
-          let f = free-call n t s z (length set) n (length area) (sym answer ∙ ap callCheckNumber e) in
+          let f = free-call n t terms s z (length set) n (length area) (sym answer ∙ ap callCheckNumber e) in
           record {
             accepted = ok;
+            right = f .right;
             source = f .source;
             destination = f .destination;
             different = f .different;
@@ -208,25 +211,25 @@ module _ (bs : List ℕ) (n t s z : ℕ) (set area : List ℕ) where
             area = f .area-room;
           }
 
-  module _ (asked : SetAsked bs n t s z set area) where
-    free : pairCallFault n t s z (length set) n (length area) ≡ 0
+  module _ (asked : SetAsked bs n t terms s z set area) where
+    free : pairCallFault n t terms s z (length set) n (length area) ≡ 0
     free =
-        call-free n t s z (length set) n (length area) (asked .source) (asked .destination) (asked .different)
+        call-free n t terms s z (length set) n (length area) (asked .right) (asked .source) (asked .destination) (asked .different)
         (asked .set-room) (asked .area)
 
     -- 11
     pub set-byte :
         wrongSet n set ≡ true →
-        _≡_ {A = Outcome ℕ (List ℕ)} (record { number = 11; values = 0; buffers = area }) (throughSet bs n t s z set area)
+        _≡_ {A = Outcome ℕ (List ℕ)} (record { number = 11; values = 0; buffers = area }) (throughSet bs n t terms s z set area)
     unfolding throughSet entered setCauses pairCallFault work
     set-byte e =
-        let number : first (setCauses n t s z set area) ≡ 11 = first-append-none _ _ free ∙ first-true 10 _ [] e in
+        let number : first (setCauses n t terms s z set area) ≡ 11 = first-append-none _ _ free ∙ first-true 10 _ [] e in
         ap (refusedWith 0 area work) (sym number) ∙
         sym (entered-call 0 area work bs n t _ (asked .accepted) ∙ unless-some _ _ _ (omega arith))
 
-    pub set-works : wrongSet n set ≡ false → throughSet bs n t s z set area ≡ setCounted (planOf bs n t) s z set area
+    pub set-works : wrongSet n set ≡ false → throughSet bs n t terms s z set area ≡ setCounted (planOf bs n t terms) s z set area
     unfolding throughSet entered setCauses pairCallFault work
     set-works e =
-        let number : first (setCauses n t s z set area) ≡ 0 =
+        let number : first (setCauses n t terms s z set area) ≡ 0 =
         first-append-none _ _ free ∙ first-false 11 (wrongSet n set) [] e ∙ none-first in
         entered-call 0 area work bs n t _ (asked .accepted) ∙ unless-none _ _ _ number

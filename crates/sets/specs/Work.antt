@@ -1,18 +1,20 @@
--- What the operation asks once 6 to 8, and 11, are excluded, and what is read off the pass. Definitions only.
+-- What the operation asks once 12, 6 to 8, and 11, are excluded, and what is read off the pass. Definitions only.
 -- Assumes nothing.
 use Prim.Native.Nat.{ℕ, _+_, _-_, _*_, _<_, _≤_}
 use mathlib.Core.Path.{_≡_}
-use mathlib.Core.Bool.{cond}
+use mathlib.Core.Bool.{false, cond}
 use mathlib.Core.List.{List}
 use mathlib.Core.Logic.{_≢_}
 use lib.Dec.{eqb}
 use lib.ListN.{length, getD}
-use Rattle.temporal.specs.Cause.{planFault}
+use Rattle.temporal.specs.Plan.{Terms}
+use Rattle.temporal.specs.Cause.{planFault, wrongTurnaround}
 use Rattle.temporal.specs.Outcome.{workSize}
 
--- an accepted plan, two different stations of it, a set and a work area that are long enough
-pub record SetAsked (bs : List ℕ) (n t s z : ℕ) (set work : List ℕ) : Type 0 where
+-- an accepted plan, a turnaround, two different stations, a set and a work area that are long enough
+pub record SetAsked (bs : List ℕ) (n t : ℕ) (terms : Terms) (s z : ℕ) (set work : List ℕ) : Type 0 where
   pub accepted : planFault bs n t ≡ 0
+  pub right : wrongTurnaround terms ≡ false
   pub source : s < n
   pub destination : z < n
   pub different : s ≢ z
@@ -21,11 +23,11 @@ pub record SetAsked (bs : List ℕ) (n t s z : ℕ) (set work : List ℕ) : Type
 
 -- what the pass leaves for the destination: the count less its entry; 0 where there is no path
 unfoldable pub touchedEntry : List ℕ → ℕ → ℕ → ℕ
-touchedEntry work n z = cond (eqb (getD work z 0) 65535) 0 (getD work (n + z) 0 - getD work (4 * n + z) 0)
+touchedEntry work n z = cond (eqb (getD work z 0) 65535) 0 (getD work (n + z) 0 - getD work (2 * n + z) 0)
 
 -- what reading it asks: it lies within the work area, and is at most the count
 pub record Readable (n z : ℕ) (work : List ℕ) : Type 0 where
   pub station : z < n
   pub few : n ≤ 256
-  pub fits : 6 * n ≤ length work
-  pub at-most : getD work z 0 ≢ 65535 → getD work (4 * n + z) 0 ≤ getD work (n + z) 0
+  pub fits : 3 * n ≤ length work
+  pub at-most : getD work z 0 ≢ 65535 → getD work (2 * n + z) 0 ≤ getD work (n + z) 0

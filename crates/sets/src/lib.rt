@@ -3,6 +3,7 @@
 ghost use mathlib.Core.Path.{_≡_};
 ghost use Prim.Native.Nat.{_≤_};
 ghost use lib.ListN.{length};
+ghost use Rattle.temporal.specs.Plan.{turning};
 ghost use Rattle.temporal.specs.Bytes.{planOf};
 ghost use Rattle.temporal.specs.Cause.{planFault};
 ghost use Rattle.temporal.specs.OutcomeSet.{wrongSet, setCounted, throughSet};
@@ -42,23 +43,24 @@ fn touched_at(work: &[u64], n: usize, z: usize) -> u64
     if work[z] == 65535 {
         return 0;
     }
-    work[n + z] - work[4 * n + z]
+    work[n + z] - work[2 * n + z]
 }
 
-// The operation once 1 to 8 and 11 are excluded.
+// The operation once 1 to 8, 11 and 12 are excluded.
 fn set_work(
     work: &mut [u64],
     plan: &[u8],
     n: usize,
     t: usize,
+    g: usize,
     s: usize,
     z: usize,
     set: &[u8],
 ) -> SetAnswer
-    requires { ⌜ SetAsked (now plan) n t s z (now set) (now work) ⌝ }
-    ensures { λ r. ⌜ setOutcome r (now (work .exit)) ≡ setCounted (planOf (now (plan .entry)) n t) s z (now (set .entry)) (now (work .entry)) ⌝ }
+    requires { ⌜ SetAsked (now plan) n t (turning g) s z (now set) (now work) ⌝ }
+    ensures { λ r. ⌜ setOutcome r (now (work .exit)) ≡ setCounted (planOf (now (plan .entry)) n t (turning g)) s z (now (set .entry)) (now (work .entry)) ⌝ }
 {
-    if pass::set_pass(work, plan, n, t, s, z, set) {
+    if pass::set_pass(work, plan, n, t, g, s, z, set) {
         memory::clear(work, 4 * (n * (t + 1)));
         return SetAnswer::Refused(Fault::Call(CallFault::TooMany));
     }
@@ -67,40 +69,42 @@ fn set_work(
     SetAnswer::Counted(count)
 }
 
-// The operation once 1 to 8 are excluded: 11, then the work.
+// The operation once 1 to 8 and 12 are excluded: 11, then the work.
 fn set_free(
     work: &mut [u64],
     plan: &[u8],
     n: usize,
     t: usize,
+    g: usize,
     s: usize,
     z: usize,
     set: &[u8],
 ) -> SetAnswer
-    requires { ⌜ SetAsked (now plan) n t s z (now set) (now work) ⌝ }
-    ensures { λ r. ⌜ setOutcome r (now (work .exit)) ≡ throughSet (now (plan .entry)) n t s z (now (set .entry)) (now (work .entry)) ⌝ }
+    requires { ⌜ SetAsked (now plan) n t (turning g) s z (now set) (now work) ⌝ }
+    ensures { λ r. ⌜ setOutcome r (now (work .exit)) ≡ throughSet (now (plan .entry)) n t (turning g) s z (now (set .entry)) (now (work .entry)) ⌝ }
 {
     if wrong_set(set, n) {
         return SetAnswer::Refused(Fault::Call(CallFault::SetByte));
     }
-    set_work(work, plan, n, t, s, z, set)
+    set_work(work, plan, n, t, g, s, z, set)
 }
 
-// The operation on an accepted plan: 6, 7 and 8, then the rest.
+// The operation on an accepted plan: 12, 6, 7 and 8, then the rest.
 fn set_accepted(
     work: &mut [u64],
     plan: &[u8],
     n: usize,
     t: usize,
+    g: usize,
     s: usize,
     z: usize,
     set: &[u8],
 ) -> SetAnswer
     requires { ⌜ planFault (now plan) n t ≡ 0 ⌝ }
-    ensures { λ r. ⌜ setOutcome r (now (work .exit)) ≡ throughSet (now (plan .entry)) n t s z (now (set .entry)) (now (work .entry)) ⌝ }
+    ensures { λ r. ⌜ setOutcome r (now (work .exit)) ≡ throughSet (now (plan .entry)) n t (turning g) s z (now (set .entry)) (now (work .entry)) ⌝ }
 {
-    let CallCheck::Refused(fault) = calls::pair_call(n, t, s, z, set.len(), n, work.len()) else {
-        return set_free(work, plan, n, t, s, z, set);
+    let CallCheck::Refused(fault) = calls::pair_call(n, t, g, s, z, set.len(), n, work.len()) else {
+        return set_free(work, plan, n, t, g, s, z, set);
     };
     SetAnswer::Refused(Fault::Call(fault))
 }
@@ -111,15 +115,16 @@ pub fn through_set(
     plan: &[u8],
     n: usize,
     t: usize,
+    g: usize,
     s: usize,
     z: usize,
     set: &[u8],
     work: &mut [u64],
 ) -> SetAnswer
-    ensures { λ r. ⌜ setOutcome r (now (work .exit)) ≡ throughSet (now (plan .entry)) n t s z (now (set .entry)) (now (work .entry)) ⌝ }
+    ensures { λ r. ⌜ setOutcome r (now (work .exit)) ≡ throughSet (now (plan .entry)) n t (turning g) s z (now (set .entry)) (now (work .entry)) ⌝ }
 {
     let CheckAnswer::Refused(fault) = plan::check(plan, n, t) else {
-        return set_accepted(work, plan, n, t, s, z, set);
+        return set_accepted(work, plan, n, t, g, s, z, set);
     };
     SetAnswer::Refused(Fault::Plan(fault))
 }

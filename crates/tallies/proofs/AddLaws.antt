@@ -142,13 +142,13 @@ module _ (n base low block z j : ℕ) (w : List ℕ) where
   unfolding addedAt added
   added-destination e = rw (eq-eqb (low + j) z e)
 
-  pub added-none : low + j ≢ z → getD w (n + z) 0 - getD w (4 * n + z * block + j) 0 ≡ 0
+  pub added-none : low + j ≢ z → getD w (n + z) 0 - getD w (2 * n + z * block + j) 0 ≡ 0
       → w ≡ addedAt n base low block z j w
   unfolding addedAt added
   added-none d e = rw (ne-eqb (low + j) z d, eq-eqb _ 0 e)
 
-  pub added-some : low + j ≢ z → getD w (n + z) 0 - getD w (4 * n + z * block + j) 0 ≢ 0 → (x : ℕ)
-      → x ≡ 2 ^ 32 * (getD w (n + z) 0 - getD w (4 * n + z * block + j) 0) / getD w (n + z) 0
+  pub added-some : low + j ≢ z → getD w (n + z) 0 - getD w (2 * n + z * block + j) 0 ≢ 0 → (x : ℕ)
+      → x ≡ 2 ^ 32 * (getD w (n + z) 0 - getD w (2 * n + z * block + j) 0) / getD w (n + z) 0
       → set (set w (base + (low + j)) (getD w (base + (low + j)) 0 + 1)) (base + n + (low + j))
       (getD w (base + n + (low + j)) 0 + x)
       ≡ addedAt n base low block z j w

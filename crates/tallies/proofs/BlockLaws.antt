@@ -10,12 +10,13 @@ use native.Mathlib.Decide.{decLt}
 use native.Mathlib.Nat.{mul-le-mul-left}
 use lib.ListN.{getD, drop}
 use lib.Seq.{getD-drop}
-use Rattle.temporal.specs.Plan.{Plan}
+use Rattle.temporal.specs.Plan.{Plan, Terms}
 use Rattle.temporal.specs.Bytes.{planOf}
 use Rattle.temporal.specs.Cause.{tooMany}
 use Rattle.temporal.proofs.Accepted.{accepted}
 use Rattle.temporal.proofs.BufferLaws.{later-drop}
-use Rattle.pass.specs.Passed.{areaSize, PassReady, Passed}
+use Rattle.pass.specs.Passed.{waiting, areaSize, PassReady, Passed}
+use Rattle.pass.proofs.SizeLaws.{area-less}
 use Rattle.tallies.specs.Progress.{pairTerm, loadTerm, TallyEntry, State, Kept, Working, Workable, DestinationsAdded}
 use Rattle.tallies.specs.Sources.{BlockReady, BlockDone, SourceReady, SourceDone}
 use Rattle.tallies.proofs.TermLaws.{partly-source}
@@ -57,28 +58,29 @@ module _ (p : Plan) (n base s low : ℕ) where
         later = λ v g l. f .later v (omega arith) l;
       }
 
-module _ (bs : List ℕ) (n t base s low block : ℕ) (old : List ℕ) (pre : BlockReady bs n t base s low block old) where
+module _ (bs : List ℕ) (n t : ℕ) (terms : Terms) (base s low block : ℕ) (old : List ℕ) (pre : BlockReady bs n t terms base s low block old) where
   -- the pass can run
-  pub block-ready : PassReady bs n t s low block old
+  pub block-ready : PassReady bs n t terms s low block old
   block-ready =
       record {
         accepted = pre .accepted;
+        turns = pre .turns;
         source = pre .source;
         stations = pre .inside;
-        fits = let r = pre .room in omega arith;
+        fits = let r = pre .room in let a = pre .area in omega arith;
       }
 
   module _ (mid : List ℕ) where
-    passed-kept : (r : Bool) → Passed bs n t s low block old mid r → Kept n base old mid
+    passed-kept : (r : Bool) → Passed bs n t terms s low block old mid r → Kept n base old mid
     passed-kept r q =
         record {
           beyond =
-              later-drop (areaSize n block) (base + 2 * n) mid old (let m = pre .room in omega arith) (q .beyond);
+              later-drop (areaSize n (waiting t terms) block) (base + 2 * n) mid old (let m = pre .area in omega arith) (q .beyond);
           same-length = q .same-length;
         }
 
     -- where a count is over 2^64 - 1
-    pub block-over : Passed bs n t s low block old mid true → BlockDone bs n t base s low block old mid true
+    pub block-over : Passed bs n t terms s low block old mid true → BlockDone bs n t terms base s low block old mid true
     block-over q =
         record {
           too-many = q .too-many;
@@ -86,8 +88,8 @@ module _ (bs : List ℕ) (n t base s low block : ℕ) (old : List ℕ) (pre : Bl
           kept = passed-kept true q;
         }
 
-    module _ (q : Passed bs n t s low block old mid false) where
-      block-working : Working bs n t base s low block 0 0 old mid
+    module _ (q : Passed bs n t terms s low block old mid false) where
+      block-working : Working bs n t terms base s low block 0 0 old mid
       block-working =
           record {
             accepted = pre .accepted;
@@ -101,7 +103,8 @@ module _ (bs : List ℕ) (n t base s low block : ℕ) (old : List ℕ) (pre : Bl
                 };
             counted = q .counted refl;
             state =
-                state-later (planOf bs n t) n base s low (areaSize n block) block old mid (pre .room .area) (pre .inside) (q .beyond)
+                state-later (planOf bs n t terms) n base s low (areaSize n (waiting t terms) block) block old mid (pre .area) (pre .inside)
+                (q .beyond)
                 (pre .state);
             kept = passed-kept false q;
           }
@@ -109,30 +112,30 @@ module _ (bs : List ℕ) (n t base s low block : ℕ) (old : List ℕ) (pre : Bl
       -- the destinations can be added
       pub block-workable : Workable n base s low block 0 mid
       block-workable =
-          record { plan = bs; slots = t; working = working-again bs n t base s low block block-working }
+          record { plan = bs; slots = t; terms = terms; working = working-again bs n t terms base s low block block-working }
 
       -- the block is done
       pub block-done : (new : List ℕ) → DestinationsAdded n base s low block 0 n mid new
-          → BlockDone bs n t base s low block old new false
+          → BlockDone bs n t terms base s low block old new false
       block-done new a =
-          let w = a .working bs t (working-again bs n t base s low block block-working) in
+          let w = a .working bs t terms (working-again bs n t terms base s low block block-working) in
           record {
             too-many = q .too-many;
-            state = λ e. state-done (planOf bs n t) n base s low block new (w .state);
+            state = λ e. state-done (planOf bs n t terms) n base s low block new (w .state);
             kept = kept-over n base (block-working .kept) (w .kept);
           }
 
 -- ---- the loop over blocks
 
 -- the stations below low are done; where there are some, no count from the source is over 2^64 - 1
-pub record Blocking (bs : List ℕ) (n t base s : ℕ) (old : List ℕ) (low : ℕ) (w : List ℕ) : Type 0 where
+pub record Blocking (bs : List ℕ) (n t : ℕ) (terms : Terms) (base s : ℕ) (old : List ℕ) (low : ℕ) (w : List ℕ) : Type 0 where
   pub within : low ≤ n
-  pub few : 0 < low → tooMany (planOf bs n t) s ≡ false
-  pub state : State (planOf bs n t) n base s low 0 0 0 w
+  pub few : 0 < low → tooMany (planOf bs n t terms) s ≡ false
+  pub state : State (planOf bs n t terms) n base s low 0 0 0 w
   pub kept : Kept n base old w
 
-module _ (bs : List ℕ) (n t base block s : ℕ) (old : List ℕ) (pre : SourceReady bs n t base block s old) where
-  pub blocking-none : Blocking bs n t base s old 0 old
+module _ (bs : List ℕ) (n t : ℕ) (terms : Terms) (base block s : ℕ) (old : List ℕ) (pre : SourceReady bs n t terms base block s old) where
+  pub blocking-none : Blocking bs n t terms base s old 0 old
   blocking-none =
       record {
         within = omega arith;
@@ -147,25 +150,27 @@ module _ (bs : List ℕ) (n t base block s : ℕ) (old : List ℕ) (pre : Source
         kept = kept-same n base old;
       }
 
-  module _ (low : ℕ) (w : List ℕ) (f : Blocking bs n t base s old low w) where
+  module _ (low : ℕ) (w : List ℕ) (f : Blocking bs n t terms base s old low w) where
     module _ (size : ℕ) (least : size ≡ min block (n - low)) (h : low < n) where
-      pub blocking-ready : BlockReady bs n t base s low size w
+      pub blocking-ready : BlockReady bs n t terms base s low size w
       blocking-ready =
           let r = pre .room in
           record {
             accepted = pre .accepted;
             source = pre .source;
+            turns = pre .turns;
             inside = omega arith;
+            area = let a = pre .area in omega (arith, area-less n (waiting t terms) size block (omega arith));
             room =
                 record {
                   stations = r .stations;
-                  area = let small : size ≤ block = omega arith in omega (arith, mul-le-mul-left (2 * n) small);
+                  area = let small : size ≤ block = omega arith in omega (arith, mul-le-mul-left n small);
                   fits = let l = f .kept .same-length in omega arith;
                 };
             state = f .state;
           }
 
-      pub blocking-over : (x : List ℕ) → BlockDone bs n t base s low size w x true → SourceDone bs n t base s old x true
+      pub blocking-over : (x : List ℕ) → BlockDone bs n t terms base s low size w x true → SourceDone bs n t terms base s old x true
       blocking-over x d =
           record {
             too-many = d .too-many;
@@ -173,8 +178,8 @@ module _ (bs : List ℕ) (n t base block s : ℕ) (old : List ℕ) (pre : Source
             kept = kept-over n base (f .kept) (d .kept);
           }
 
-      pub blocking-more : (x : List ℕ) → BlockDone bs n t base s low size w x false
-          → Blocking bs n t base s old (low + size) x
+      pub blocking-more : (x : List ℕ) → BlockDone bs n t terms base s low size w x false
+          → Blocking bs n t terms base s old (low + size) x
       blocking-more x d =
           record {
             within = omega arith;
@@ -183,9 +188,9 @@ module _ (bs : List ℕ) (n t base block s : ℕ) (old : List ℕ) (pre : Source
             kept = kept-over n base (f .kept) (d .kept);
           }
 
-    pub blocking-all : n ≤ low → SourceDone bs n t base s old w false
+    pub blocking-all : n ≤ low → SourceDone bs n t terms base s old w false
     blocking-all h =
-        let p = planOf bs n t in
+        let p = planOf bs n t terms in
         record {
           too-many = sym (f .few (let g = pre .source in omega arith));
           summed = λ e v l.

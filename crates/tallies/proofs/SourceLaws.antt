@@ -9,6 +9,7 @@ use native.Mathlib.Omega.{arith}
 use native.Mathlib.Decide.{ℕ-discrete}
 use native.Mathlib.Nat.{mul-le-mul}
 use lib.ListN.{length, getD, drop}
+use Rattle.temporal.specs.Plan.{Terms}
 use Rattle.temporal.specs.Lists.{below}
 use Rattle.temporal.specs.Bytes.{planOf}
 use Rattle.temporal.specs.Cause.{tooMany, tooManyAnywhere}
@@ -17,54 +18,67 @@ use Rattle.temporal.proofs.Accepted.{accepted}
 use Rattle.temporal.proofs.ListLaws.{any-true, any-false, mem-below}
 use Rattle.memory.specs.Fill.{filled}
 use Rattle.memory.proofs.FillLaws.{filled-length, filled-at, filled-beyond}
-use Rattle.pass.specs.Passed.{areaSize}
+use Rattle.pass.specs.Passed.{waiting, areaSize, mostColumns}
+use Rattle.pass.proofs.SizeLaws.{first-part, columns-within}
 use Rattle.tallies.specs.Tally.{blockOf, tallyBase, Tallyable, Tallied}
 use Rattle.tallies.specs.Progress.{pairTerm, loadTerm, TallyEntry, Kept}
 use Rattle.tallies.specs.Sources.{SourceReady, SourceDone, AllReady}
 use Rattle.tallies.proofs.TermLaws.{partly-none, pairs-partly, load-partly}
 use Rattle.tallies.proofs.StateLaws.{kept-over, kept-same}
 use Rattle.temporal.proofs.BufferLaws.{later-drop}
-use Rattle.tallies.proofs.Sizes.{base-fits}
+use Rattle.tallies.proofs.Sizes.{base-fits, block-some}
 
 -- ---- the sizes
 
--- the rows of a block are few
-pub rows-few : (n k block : ℕ) → n ≤ 256 → block ≡ min n k → 2 * n * block ≤ 131072
-rows-few n k block h e =
-    let twice : 2 * n ≤ 512 = omega arith in
-    let most : block ≤ 256 = omega arith in
-    omega (arith, mul-le-mul twice most)
-
 -- the block and the base that are computed are those that are named
-pub all-ready : (bs : List ℕ) (n t base block : ℕ) (w : List ℕ) → Tallyable bs n t w → block ≡ min n (2 * t - 1)
-    → base ≡ tallyBase n t
-    → AllReady bs n t base block w
+pub all-ready : (bs : List ℕ) (n t : ℕ) (terms : Terms) (base block q : ℕ) (w : List ℕ) → Tallyable bs n t terms w
+    → q ≡ waiting t terms → block ≡ mostColumns n (4 * (t + 1) - 2) q
+    → base ≡ tallyBase n t terms
+    → AllReady bs n t terms base block w
 unfolding blockOf
-all-ready bs n t base block w asked e f = record { asked = asked; block-there = e; base-there = f }
+all-ready bs n t terms base block q w asked is e f =
+    record { asked = asked; block-there = e ∙ ap (mostColumns n (4 * (t + 1) - 2)) is; base-there = f }
+
+-- where the tallies begin is a small number, and so are those that it is made of
+pub base-small : (n t g q block e : ℕ) → n ≤ 256 → t ≤ 255 → q ≡ min g t → block ≡ mostColumns n e q
+    → (n * block ≤ 65536) × ((1 + q) * (2 * n + n * block) ≤ 16908288)
+base-small n t g q block e stations slots is columns =
+    let most : block ≤ 256 = omega (arith, columns-within n e q) in
+    let rows = mul-le-mul stations most in
+    let size : 2 * n + n * block ≤ 66048 = omega arith in
+    let parts : 1 + q ≤ 256 = omega arith in
+    (omega arith, omega (arith, mul-le-mul parts size))
+
+-- the base is that of the block that is computed
+pub base-there : (n t : ℕ) (terms : Terms) (q block : ℕ) → q ≡ waiting t terms → block ≡ mostColumns n (4 * (t + 1) - 2) q
+    → (1 + q) * (2 * n + n * block) ≡ tallyBase n t terms
+unfolding tallyBase blockOf
+base-there n t terms q block is e = rw (e, is)
 
 -- ---- the loop over sources
 
 -- the sources below s are done, and no count from one of them is over 2^64 - 1
-pub record Summing (bs : List ℕ) (n t base : ℕ) (old : List ℕ) (s : ℕ) (w : List ℕ) : Type 0 where
+pub record Summing (bs : List ℕ) (n t : ℕ) (terms : Terms) (base : ℕ) (old : List ℕ) (s : ℕ) (w : List ℕ) : Type 0 where
   pub within : s ≤ n
-  pub few : (a : ℕ) → a < s → tooMany (planOf bs n t) a ≡ false
-  pub summed : (v : ℕ) → v < n → TallyEntry (planOf bs n t) n base s v 0 w
+  pub few : (a : ℕ) → a < s → tooMany (planOf bs n t terms) a ≡ false
+  pub summed : (v : ℕ) → v < n → TallyEntry (planOf bs n t terms) n base s v 0 w
   pub kept : Kept n base old w
 
-module _ (bs : List ℕ) (n t base block : ℕ) (old : List ℕ) (pre : AllReady bs n t base block old) where
+module _ (bs : List ℕ) (n t : ℕ) (terms : Terms) (base block : ℕ) (old : List ℕ) (pre : AllReady bs n t terms base block old) where
   pub all-room : base + 2 * n ≤ length old
   all-room =
       let a = accepted bs n t (pre .asked .accepted) in
       let e = pre .base-there in
       let f = pre .asked .fits in
-      omega (arith, base-fits n t (a .some-slot))
+      omega (arith, base-fits n t terms (a .some-slot))
 
-  pub all-cleared : (w : List ℕ) → w ≡ filled old base (2 * n) 0 → AllReady bs n t base block w
+  pub all-cleared : (w : List ℕ) → w ≡ filled old base (2 * n) 0 → AllReady bs n t terms base block w
   all-cleared w e =
       record {
         asked =
             record {
               accepted = pre .asked .accepted;
+              turns = pre .asked .turns;
               fits = let f = pre .asked .fits in omega (arith, ap length e, filled-length old base (2 * n) 0);
             };
         block-there = pre .block-there;
@@ -72,9 +86,9 @@ module _ (bs : List ℕ) (n t base block : ℕ) (old : List ℕ) (pre : AllReady
       }
 
   -- cleared tallies hold the sums over no source
-  pub summing-none : (w : List ℕ) → w ≡ filled old base (2 * n) 0 → Summing bs n t base w 0 w
+  pub summing-none : (w : List ℕ) → w ≡ filled old base (2 * n) 0 → Summing bs n t terms base w 0 w
   summing-none w e =
-      let p = planOf bs n t in
+      let p = planOf bs n t terms in
       record {
         within = omega arith;
         few = λ a h. absurd (omega arith);
@@ -95,42 +109,45 @@ module _ (bs : List ℕ) (n t base block : ℕ) (old : List ℕ) (pre : AllReady
   kept-work w k =
       let a = accepted bs n t (pre .asked .accepted) in
       let e = pre .base-there in
-      later-drop (base + 2 * n) (workSize n t) w old (omega (arith, base-fits n t (a .some-slot))) (k .beyond)
+      later-drop (base + 2 * n) (workSize n t) w old (omega (arith, base-fits n t terms (a .some-slot))) (k .beyond)
 
-  module _ (s : ℕ) (w : List ℕ) (f : Summing bs n t base old s w) where
-    pub summing-ready : s < n → SourceReady bs n t base block s w
+  module _ (s : ℕ) (w : List ℕ) (f : Summing bs n t terms base old s w) where
+    pub summing-ready : s < n → SourceReady bs n t terms base block s w
     unfolding tallyBase blockOf
     summing-ready h =
         let a = accepted bs n t (pre .asked .accepted) in
         let e = pre .block-there in
-        let positive = a .some-slot in
+        let some = block-some n t terms (a .some-station) (a .some-slot) in
+        let there : areaSize n (waiting t terms) block ≤ base = rw (e, pre .base-there) (omega arith) in
         record {
           accepted = pre .asked .accepted;
           source = h;
+          turns = pre .asked .turns;
           some-block = omega arith;
+          area = there;
           room =
               record {
                 stations = a .stations;
-                area = rw (e, pre .base-there) (omega arith);
+                area = let first = first-part n (waiting t terms) block in omega arith;
                 fits = let l = f .kept .same-length in let r = all-room in omega arith;
               };
           summed = f .summed;
         }
 
-    pub summing-over : s < n → (x : List ℕ) → SourceDone bs n t base s w x true → Tallied bs n t old x true
+    pub summing-over : s < n → (x : List ℕ) → SourceDone bs n t terms base s w x true → Tallied bs n t terms old x true
     unfolding tooManyAnywhere planOf
     summing-over h x d =
         let k = kept-over n base (f .kept) (d .kept) in
         record {
           too-many =
-              sym (any-true (tooMany (planOf bs n t)) (below n) .1 (s, mem-below n .1 h, sym (d .too-many)));
+              sym (any-true (tooMany (planOf bs n t terms)) (below n) .1 (s, mem-below n .1 h, sym (d .too-many)));
           station-pairs = λ e. absurd (let z : _≡_ {A = ℕ} 0 1 = cc in omega arith);
           station-loads = λ e. absurd (let z : _≡_ {A = ℕ} 0 1 = cc in omega arith);
           beyond = kept-work x k;
           same-length = k .same-length;
         }
 
-    pub summing-more : s < n → (x : List ℕ) → SourceDone bs n t base s w x false → Summing bs n t base old (s + 1) x
+    pub summing-more : s < n → (x : List ℕ) → SourceDone bs n t terms base s w x false → Summing bs n t terms base old (s + 1) x
     summing-more h x d =
         record {
           within = omega arith;
@@ -140,10 +157,10 @@ module _ (bs : List ℕ) (n t base block : ℕ) (old : List ℕ) (pre : AllReady
           kept = kept-over n base (f .kept) (d .kept);
         }
 
-    pub summing-all : n ≤ s → Tallied bs n t old w false
+    pub summing-all : n ≤ s → Tallied bs n t terms old w false
     unfolding tooManyAnywhere planOf
     summing-all h =
-        let p = planOf bs n t in
+        let p = planOf bs n t terms in
         let all : s ≡ n = let g = f .within in omega arith in
         let entries = subst (λ y. (v : ℕ) → v < n → TallyEntry p n base y v 0 w) all (f .summed) in
         record {
@@ -157,7 +174,7 @@ module _ (bs : List ℕ) (n t base block : ℕ) (old : List ℕ) (pre : AllReady
 
   -- what is promised of the cleared list is promised of the list before
   pub tallied-cleared :
-      (w x : List ℕ) (r : Bool) → w ≡ filled old base (2 * n) 0 → Tallied bs n t w x r → Tallied bs n t old x r
+      (w x : List ℕ) (r : Bool) → w ≡ filled old base (2 * n) 0 → Tallied bs n t terms w x r → Tallied bs n t terms old x r
   tallied-cleared w x r e d =
       let same = ap length e ∙ filled-length old base (2 * n) 0 in
       record {

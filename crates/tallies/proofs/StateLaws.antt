@@ -9,29 +9,30 @@ use native.Mathlib.Decide.{ℕ-discrete}
 use native.Mathlib.Nat.{mul-le-mul, mul-assoc, le-refl}
 use lib.Arith.{digits-lt}
 use lib.ListN.{getD}
-use Rattle.temporal.specs.Plan.{Plan}
+use Rattle.temporal.specs.Plan.{Plan, Terms}
 use Rattle.temporal.specs.Bytes.{planOf}
 use Rattle.temporal.specs.Shortest.{shortestPaths, hops}
-use Rattle.pass.specs.Passed.{areaSize, Counted}
+use Rattle.pass.specs.Row.{partSize}
+use Rattle.pass.specs.Passed.{Counted}
 use Rattle.tallies.specs.Progress.{pairTerm, loadTerm, TallyEntry, Kept, Working, addedAt, Addable}
 use Rattle.tallies.proofs.TermLaws.{Nothing, nothing-self, nothing-through, through-none, partly-at-most}
 use Rattle.tallies.proofs.TermLaws.{pair-at-most, load-at-most-whole}
 use Rattle.tallies.proofs.AddLaws.{Moved, moved-added, entry-nothing, entry-added}
 
 -- a row's entry lies in the pass's part of the work area
-pub row-place : (n block z j : ℕ) → z < n → j < block → 4 * n + z * block + j < areaSize n block
+pub row-place : (n block z j : ℕ) → z < n → j < block → 2 * n + z * block + j < partSize n block
 row-place n block z j h g = omega (arith, digits-lt h g, mul-assoc 2 n block)
 
 -- what the pass left stays where only the tallies change
-counted-front : (bs : List ℕ) (n t s low block base : ℕ) (w x : List ℕ) → areaSize n block ≤ base
+counted-front : (bs : List ℕ) (n t : ℕ) (terms : Terms) (s low block base : ℕ) (w x : List ℕ) → partSize n block ≤ base
     → ((i : ℕ) → i < base → getD x i 0 ≡ getD w i 0)
-    → Counted bs n t s low block w → Counted bs n t s low block x
-counted-front bs n t s low block base w x area same c =
+    → Counted bs n t terms s low block w → Counted bs n t terms s low block x
+counted-front bs n t terms s low block base w x area same c =
     record {
       station-hops = λ z h. same z (omega arith) ∙ c .station-hops z h;
       station-counts = λ z h. same (n + z) (omega arith) ∙ c .station-counts z h;
       rows = λ z j h g d few.
-          rw (same (4 * n + z * block + j) (let p = row-place n block z j h g in omega arith)) (c .rows z j h g d few);
+          rw (same (2 * n + z * block + j) (let p = row-place n block z j h g in omega arith)) (c .rows z j h g d few);
     }
 
 -- the entries of another station stay
@@ -47,10 +48,10 @@ kept-over n base f g =
 pub kept-same : (n base : ℕ) (a : List ℕ) → Kept n base a a
 kept-same n base a = record { beyond = refl; same-length = refl }
 
-module _ (bs : List ℕ) (n t base s low block : ℕ) where
+module _ (bs : List ℕ) (n t : ℕ) (terms : Terms) (base s low block : ℕ) where
   -- from here on the list itself is the one to compare with
-  pub working-again : {z j : ℕ} {old w : List ℕ} → Working bs n t base s low block z j old w
-      → Working bs n t base s low block z j w w
+  pub working-again : {z j : ℕ} {old w : List ℕ} → Working bs n t terms base s low block z j old w
+      → Working bs n t terms base s low block z j w w
   working-again {w = w} k =
       record {
         accepted = k .accepted;
@@ -63,8 +64,8 @@ module _ (bs : List ℕ) (n t base s low block : ℕ) where
       }
 
   -- two stretches in turn
-  pub working-over : {z y i j : ℕ} {old w x : List ℕ} → Working bs n t base s low block z j old w
-      → Working bs n t base s low block y i w x → Working bs n t base s low block y i old x
+  pub working-over : {z y i j : ℕ} {old w x : List ℕ} → Working bs n t terms base s low block z j old w
+      → Working bs n t terms base s low block y i w x → Working bs n t terms base s low block y i old x
   working-over k m =
       record {
         accepted = m .accepted;
@@ -77,10 +78,10 @@ module _ (bs : List ℕ) (n t base s low block : ℕ) where
       }
 
   -- a destination whose every term is 0 needs no step
-  working-skip : (z : ℕ) {old w : List ℕ} → Working bs n t base s low block z 0 old w
-      → ((v : ℕ) → Nothing (planOf bs n t) v s z) → Working bs n t base s low block (z + 1) 0 old w
+  working-skip : (z : ℕ) {old w : List ℕ} → Working bs n t terms base s low block z 0 old w
+      → ((v : ℕ) → Nothing (planOf bs n t terms) v s z) → Working bs n t terms base s low block (z + 1) 0 old w
   working-skip z {w = w} k none =
-      let p = planOf bs n t in
+      let p = planOf bs n t terms in
       record {
         accepted = k .accepted;
         source = k .source;
@@ -98,21 +99,21 @@ module _ (bs : List ℕ) (n t base s low block : ℕ) where
       }
 
   -- the source is no destination
-  pub working-self : (z : ℕ) {old w : List ℕ} → Working bs n t base s low block z 0 old w → z ≡ s
-      → Working bs n t base s low block (z + 1) 0 old w
-  working-self z k e = working-skip z k (λ v. rw e (nothing-self (planOf bs n t) v s))
+  pub working-self : (z : ℕ) {old w : List ℕ} → Working bs n t terms base s low block z 0 old w → z ≡ s
+      → Working bs n t terms base s low block (z + 1) 0 old w
+  working-self z k e = working-skip z k (λ v. rw e (nothing-self (planOf bs n t terms) v s))
 
   -- a destination without a path adds nothing
-  pub working-unreached : (z : ℕ) {old w : List ℕ} → Working bs n t base s low block z 0 old w → z < n
-      → 65535 ≤ getD w z 0 → Working bs n t base s low block (z + 1) 0 old w
+  pub working-unreached : (z : ℕ) {old w : List ℕ} → Working bs n t terms base s low block z 0 old w → z < n
+      → 65535 ≤ getD w z 0 → Working bs n t terms base s low block (z + 1) 0 old w
   working-unreached z k h far =
       working-skip z k (λ v.
-      nothing-through (planOf bs n t) v s z
-      (through-none bs n t (k .accepted) s z v (omega (arith, k .counted .station-hops z h))))
+      nothing-through (planOf bs n t terms) v s z
+      (through-none bs n t terms (k .accepted) s z v (omega (arith, k .counted .station-hops z h))))
 
   -- a row that is done
-  pub working-row : (z : ℕ) {j : ℕ} {old w : List ℕ} → Working bs n t base s low block z j old w → block ≤ j
-      → Working bs n t base s low block (z + 1) 0 old w
+  pub working-row : (z : ℕ) {j : ℕ} {old w : List ℕ} → Working bs n t terms base s low block z j old w → block ≤ j
+      → Working bs n t terms base s low block (z + 1) 0 old w
   working-row z k h =
       record {
         accepted = k .accepted;
@@ -130,12 +131,12 @@ module _ (bs : List ℕ) (n t base s low block : ℕ) where
         kept = k .kept;
       }
 
-  module _ (z j : ℕ) {old w : List ℕ} (k : Working bs n t base s low block z j old w) (destination : z < n)
-      (in-block : j < block) (near : hops (shortestPaths (planOf bs n t) s z) < 65535) where
+  module _ (z j : ℕ) {old w : List ℕ} (k : Working bs n t terms base s low block z j old w) (destination : z < n)
+      (in-block : j < block) (near : hops (shortestPaths (planOf bs n t terms) s z) < 65535) where
     -- the next station can be added to
     pub working-addable : Addable n base low block z j w
     working-addable =
-        let p = planOf bs n t in
+        let p = planOf bs n t terms in
         let e = k .state .here (low + j) (omega arith) (omega arith) in
         let r = k .room in
         let few = k .source in
@@ -165,14 +166,14 @@ module _ (bs : List ℕ) (n t base s low block : ℕ) where
         }
 
     -- one station more has destination z
-    pub working-add : s ≢ z → Working bs n t base s low block z (j + 1) old (addedAt n base low block z j w)
+    pub working-add : s ≢ z → Working bs n t terms base s low block z (j + 1) old (addedAt n base low block z j w)
     unfolding addedAt
     working-add apart =
-        let p = planOf bs n t in
+        let p = planOf bs n t terms in
         let r = k .room in
         let inside = k .inside in
         let c = getD w (n + z) 0 in
-        let past = getD w (4 * n + z * block + j) 0 in
+        let past = getD w (2 * n + z * block + j) 0 in
         let m = moved-added n base w (low + j) (omega arith) (r .fits) z c past in
         let e = k .state .here (low + j) (omega arith) (omega arith) in
         let counts = k .counted .station-counts z destination in
@@ -186,7 +187,7 @@ module _ (bs : List ℕ) (n t base s low block : ℕ) where
                 area = r .area;
                 fits = let l = m .kept .same-length in let f = r .fits in omega arith;
               };
-          counted = counted-front bs n t s low block base w _ (r .area) (m .front) (k .counted);
+          counted = counted-front bs n t terms s low block base w _ (r .area) (m .front) (k .counted);
           state =
               record {
                 done = λ v g. entry-moved p n base s v (low + j) n w _ m (omega arith) (omega arith) (k .state .done v g);

@@ -11,7 +11,7 @@ use borrow.Author.Tests.{eq-eqb, ne-eqb, lt-ltb}
 use lib.Dec.{ltb, eqb}
 use lib.ListN.{length}
 use Rattle.temporal.specs.Lists.{from, below, sum, select}
-use Rattle.temporal.specs.Plan.{Plan}
+use Rattle.temporal.specs.Plan.{Plan, Terms}
 use Rattle.temporal.specs.Bytes.{planOf}
 use Rattle.temporal.specs.Cause.{planFault}
 use Rattle.temporal.specs.Shortest.{shortestPaths, hops, through, count}
@@ -117,15 +117,15 @@ through-destination p s z =
     not-true-false (isInterior p s z z w) (λ e. interior-inv p s z z w e .not-destination refl)))
 
 -- where there is no path, none has v inside
-pub through-none : (bs : List ℕ) (n t : ℕ) → planFault bs n t ≡ 0 → (s z v : ℕ)
-    → 65535 ≤ hops (shortestPaths (planOf bs n t) s z) → through (planOf bs n t) s z v ≡ 0
+pub through-none : (bs : List ℕ) (n t : ℕ) (terms : Terms) → planFault bs n t ≡ 0 → (s z v : ℕ)
+    → 65535 ≤ hops (shortestPaths (planOf bs n t terms) s z) → through (planOf bs n t terms) s z v ≡ 0
 unfolding through shortestPaths select planOf
-through-none bs n t ok s z v h =
+through-none bs n t terms ok s z v h =
     ⊎-elim
-    (λ (e : shortestPaths (planOf bs n t) s z ≡ []). rw e)
-    (λ (g : hops (shortestPaths (planOf bs n t) s z) ≤ planOf bs n t .slots).
+    (λ (e : shortestPaths (planOf bs n t terms) s z ≡ []). rw e)
+    (λ (g : hops (shortestPaths (planOf bs n t terms) s z) ≤ planOf bs n t terms .slots).
     absurd (let few = accepted bs n t ok .slots in omega arith))
-    (hops-bound (bounded-paths (planOf bs n t) (slots-within bs n t ok) s z))
+    (hops-bound (bounded-paths (planOf bs n t terms) (slots-within bs n t terms ok) s z))
 
 module _ (p : Plan) (v s z : ℕ) (apart : s ≢ z) (some : 0 < through p s z v) where
   -- a pair of two stations with v inside some path adds 1 and its share

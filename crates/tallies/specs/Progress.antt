@@ -8,11 +8,12 @@ use mathlib.Core.Logic.{_≢_}
 use lib.Dec.{eqb}
 use lib.ListN.{length, getD, set, drop}
 use Rattle.temporal.specs.Lists.{below, sum}
-use Rattle.temporal.specs.Plan.{Plan}
+use Rattle.temporal.specs.Plan.{Plan, Terms}
 use Rattle.temporal.specs.Bytes.{planOf}
 use Rattle.temporal.specs.Cause.{planFault}
 use Rattle.temporal.specs.Load.{Ends, isPairOf, share}
-use Rattle.pass.specs.Passed.{areaSize, Counted}
+use Rattle.pass.specs.Row.{partSize}
+use Rattle.pass.specs.Passed.{Counted}
 
 -- a source and a destination
 abbrev pub ends : ℕ → ℕ → Ends
@@ -43,10 +44,10 @@ pub record State (p : Plan) (n base s low block z j : ℕ) (work : List ℕ) : T
   pub here : (v : ℕ) → low + j ≤ v → v < low + block → TallyEntry p n base s v z work
   pub later : (v : ℕ) → low + block ≤ v → v < n → TallyEntry p n base s v 0 work
 
--- the tallies of n stations lie behind the pass's part of the work area, and within the list
+-- the tallies of n stations lie behind what the pass has settled, and within the list
 pub record Room (n base block : ℕ) (work : List ℕ) : Type 0 where
   pub stations : n ≤ 256
-  pub area : areaSize n block ≤ base
+  pub area : partSize n block ≤ base
   pub fits : base + 2 * n ≤ length work
 
 -- a list that differs from another only before the end of the tallies
@@ -55,25 +56,26 @@ pub record Kept (n base : ℕ) (old work : List ℕ) : Type 0 where
   pub same-length : length work ≡ length old
 
 -- the work area between two steps: what the pass left, the tallies so far, and an end that is as it was
-pub record Working (bs : List ℕ) (n t base s low block z j : ℕ) (old work : List ℕ) : Type 0 where
+pub record Working (bs : List ℕ) (n t : ℕ) (terms : Terms) (base s low block z j : ℕ) (old work : List ℕ) : Type 0 where
   pub accepted : planFault bs n t ≡ 0
   pub source : s < n
   pub inside : low + block ≤ n
   pub room : Room n base block work
-  pub counted : Counted bs n t s low block work
-  pub state : State (planOf bs n t) n base s low block z j work
+  pub counted : Counted bs n t terms s low block work
+  pub state : State (planOf bs n t terms) n base s low block z j work
   pub kept : Kept n base old work
 
--- the same for some plan
+-- the same for some plan and terms
 pub record Workable (n base s low block z : ℕ) (work : List ℕ) : Type 0 where
   pub plan : List ℕ
   pub slots : ℕ
-  pub working : Working plan n slots base s low block z 0 work work
+  pub terms : Terms
+  pub working : Working plan n slots terms base s low block z 0 work work
 
--- for every plan, the tallies go on from destination z to destination y
+-- for every plan and terms, the tallies go on from destination z to destination y
 pub record DestinationsAdded (n base s low block z y : ℕ) (old new : List ℕ) : Type 0 where
-  pub working : (bs : List ℕ) (t : ℕ) → Working bs n t base s low block z 0 old old
-      → Working bs n t base s low block y 0 old new
+  pub working : (bs : List ℕ) (t : ℕ) (terms : Terms) → Working bs n t terms base s low block z 0 old old
+      → Working bs n t terms base s low block y 0 old new
 
 -- one pair of v, and its share, are added
 unfoldable pub countedIn : ℕ → ℕ → List ℕ → ℕ → ℕ → List ℕ
@@ -88,7 +90,7 @@ added n base w v z count past =
 -- destination z is added to station low + j
 unfoldable pub addedAt : ℕ → ℕ → ℕ → ℕ → ℕ → ℕ → List ℕ → List ℕ
 addedAt n base low block z j w =
-    added n base w (low + j) z (getD w (n + z) 0) (getD w (4 * n + z * block + j) 0)
+    added n base w (low + j) z (getD w (n + z) 0) (getD w (2 * n + z * block + j) 0)
 
 -- what it takes to add destination z to station low + j: room, no row over its count, and sums that stay small
 pub record Addable (n base low block z j : ℕ) (work : List ℕ) : Type 0 where
@@ -96,6 +98,6 @@ pub record Addable (n base low block z j : ℕ) (work : List ℕ) : Type 0 where
   pub station : low + j < n
   pub destination : z < n
   pub in-block : j < block
-  pub row : low + j ≢ z → getD work (4 * n + z * block + j) 0 ≤ getD work (n + z) 0
+  pub row : low + j ≢ z → getD work (2 * n + z * block + j) 0 ≤ getD work (n + z) 0
   pub few-pairs : getD work (base + (low + j)) 0 < 2 ^ 32
   pub small-load : getD work (base + n + (low + j)) 0 < 2 ^ 60

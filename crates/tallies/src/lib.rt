@@ -3,19 +3,10 @@
 ghost use mathlib.Core.Path.{_≡_};
 ghost use Prim.Native.Nat.{_+_, _*_, _<_, _≤_, min};
 ghost use lib.ListN.{length};
+ghost use Rattle.temporal.specs.Plan.{turning};
 ghost use Rattle.tallies.specs.Tally.{tallyBase, Tallyable, Tallied};
 ghost use Rattle.tallies.specs.Progress.{addedAt, Addable, Workable, DestinationsAdded};
 ghost use Rattle.tallies.specs.Sources.{BlockReady, BlockDone, SourceReady, SourceDone, AllReady};
-
-// The smaller of two numbers.
-fn smaller(a: usize, b: usize) -> usize
-    ensures { λ r. ⌜ r ≡ min a b ⌝ }
-{
-    if a < b {
-        return a;
-    }
-    b
-}
 
 // Adds the pair of the source worked on and z to station low + j, with its share, where some of its paths have it inside.
 fn add_pair(work: &mut [u64], n: usize, base: usize, low: usize, block: usize, z: usize, j: usize)
@@ -27,7 +18,7 @@ fn add_pair(work: &mut [u64], n: usize, base: usize, low: usize, block: usize, z
         return;
     }
     let count = work[n + z];
-    let through = count - work[4 * n + z * block + j];
+    let through = count - work[2 * n + z * block + j];
     if through == 0 {
         return;
     }
@@ -82,15 +73,16 @@ fn tally_block(
     plan: &[u8],
     n: usize,
     t: usize,
+    g: usize,
     base: usize,
     source: usize,
     low: usize,
     block: usize,
 ) -> bool
-    requires { ⌜ BlockReady (now plan) n t base source low block (now work) ⌝ }
-    ensures { λ r. ⌜ BlockDone (now (plan .entry)) n t base source low block (now (work .entry)) (now (work .exit)) r ⌝ }
+    requires { ⌜ BlockReady (now plan) n t (turning g) base source low block (now work) ⌝ }
+    ensures { λ r. ⌜ BlockDone (now (plan .entry)) n t (turning g) base source low block (now (work .entry)) (now (work .exit)) r ⌝ }
 {
-    if pass::pass(work, plan, n, t, source, low, block) {
+    if pass::pass(work, plan, n, t, g, source, low, block) {
         return true;
     }
     add_rows(work, n, base, source, low, block);
@@ -103,17 +95,18 @@ fn tally_source(
     plan: &[u8],
     n: usize,
     t: usize,
+    g: usize,
     base: usize,
     block: usize,
     source: usize,
 ) -> bool
-    requires { ⌜ SourceReady (now plan) n t base block source (now work) ⌝ }
-    ensures { λ r. ⌜ SourceDone (now (plan .entry)) n t base source (now (work .entry)) (now (work .exit)) r ⌝ }
+    requires { ⌜ SourceReady (now plan) n t (turning g) base block source (now work) ⌝ }
+    ensures { λ r. ⌜ SourceDone (now (plan .entry)) n t (turning g) base source (now (work .entry)) (now (work .exit)) r ⌝ }
 {
     let mut low = 0;
     while low < n {
-        let size = smaller(block, n - low);
-        if tally_block(work, plan, n, t, base, source, low, size) {
+        let size = pass::smaller(block, n - low);
+        if tally_block(work, plan, n, t, g, base, source, low, size) {
             return true;
         }
         low += size;
@@ -127,16 +120,17 @@ fn tally_sources(
     plan: &[u8],
     n: usize,
     t: usize,
+    g: usize,
     base: usize,
     block: usize,
 ) -> bool
-    requires { ⌜ AllReady (now plan) n t base block (now work) ⌝ }
-    ensures { λ r. ⌜ Tallied (now (plan .entry)) n t (now (work .entry)) (now (work .exit)) r ⌝ }
+    requires { ⌜ AllReady (now plan) n t (turning g) base block (now work) ⌝ }
+    ensures { λ r. ⌜ Tallied (now (plan .entry)) n t (turning g) (now (work .entry)) (now (work .exit)) r ⌝ }
 {
     memory::fill_part(work, base, 2 * n, 0);
     let mut source = 0;
     while source < n {
-        if tally_source(work, plan, n, t, base, block, source) {
+        if tally_source(work, plan, n, t, g, base, block, source) {
             return true;
         }
         source += 1;
@@ -145,20 +139,22 @@ fn tally_sources(
 }
 
 // Where the tallies begin in the work area.
-pub fn base_of(n: usize, t: usize) -> usize
+pub fn base_of(n: usize, t: usize, g: usize) -> usize
     requires { ⌜ (n ≤ 256) × (0 < t) × (t ≤ 255) ⌝ }
-    ensures { λ r. ⌜ r ≡ tallyBase n t ⌝ }
+    ensures { λ r. ⌜ r ≡ tallyBase n t (turning g) ⌝ }
 {
-    let block = smaller(n, 2 * t - 1);
-    4 * n + 2 * n * block
+    let q = pass::smaller(g, t);
+    let block = pass::most_columns(n, 4 * (t + 1) - 2, q);
+    (1 + q) * (2 * n + n * block)
 }
 
 // Adds up the pairs and the load of every station over all sources. True where a count is over 2^64 - 1.
-pub fn tally(work: &mut [u64], plan: &[u8], n: usize, t: usize) -> bool
-    requires { ⌜ Tallyable (now plan) n t (now work) ⌝ }
-    ensures { λ r. ⌜ Tallied (now (plan .entry)) n t (now (work .entry)) (now (work .exit)) r ⌝ }
+pub fn tally(work: &mut [u64], plan: &[u8], n: usize, t: usize, g: usize) -> bool
+    requires { ⌜ Tallyable (now plan) n t (turning g) (now work) ⌝ }
+    ensures { λ r. ⌜ Tallied (now (plan .entry)) n t (turning g) (now (work .entry)) (now (work .exit)) r ⌝ }
 {
-    let block = smaller(n, 2 * t - 1);
-    let base = base_of(n, t);
-    tally_sources(work, plan, n, t, base, block)
+    let q = pass::smaller(g, t);
+    let block = pass::most_columns(n, 4 * (t + 1) - 2, q);
+    let base = base_of(n, t, g);
+    tally_sources(work, plan, n, t, g, base, block)
 }

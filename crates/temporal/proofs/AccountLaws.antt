@@ -14,7 +14,7 @@ use borrow.Author.Tests.{eqb-false, ne-eqb, not-true}
 use lib.Dec.{eqb}
 use lib.ListN.{length, length-map, getElem?}
 use Rattle.temporal.specs.Lists.{below, sum, select, member, distinct}
-use Rattle.temporal.specs.Plan.{Contact, Plan, Appearance, start, leadsTo}
+use Rattle.temporal.specs.Plan.{Contact, Plan, Terms, Appearance, start, leadsTo}
 use Rattle.temporal.specs.Walk.{run, lastOr, stationsOf, isPath, isInterior, HasInside}
 use Rattle.temporal.specs.Shortest.{shortestPaths, hops, count, through}
 use Rattle.temporal.specs.Foremost.{arrival, foremostPaths}
@@ -105,12 +105,12 @@ pub record StationsWithin (p : Plan) : Type 0 where
       (i : ℕ) (c : Contact) → getElem? (p .contacts) i ≡ some c → (u v : ℕ) → leadsTo c u ≡ some v → v < p .stations
 
 -- each contact of an accepted plan does
-pub stations-within : (bs : List ℕ) (n t : ℕ) → planFault bs n t ≡ 0 → StationsWithin (planOf bs n t)
+pub stations-within : (bs : List ℕ) (n t : ℕ) (terms : Terms) → planFault bs n t ≡ 0 → StationsWithin (planOf bs n t terms)
 unfolding planOf
-stations-within bs n t ok =
+stations-within bs n t terms ok =
     record {
       within = λ i c there u v leads.
-          let h = contact-within bs n t ok i c there in
+          let h = contact-within bs n t terms ok i c there in
           leads-below c u v n (h .hearer-station) leads;
     }
 
@@ -161,43 +161,43 @@ module _ (p : Plan) (g : StationsWithin p) where
 
 -- ---- the complete list, and the shortest foremost paths
 
-module _ (bs : List ℕ) (n t : ℕ) (ok : planFault bs n t ≡ 0) (s z : ℕ) (other : s ≢ z) where
+module _ (bs : List ℕ) (n t : ℕ) (terms : Terms) (ok : planFault bs n t ≡ 0) (s z : ℕ) (other : s ≢ z) where
   -- Each shortest path between two different stations of an accepted plan has exactly hops - 1 stations inside, all different.
   pub shortest-interior :
-      (w : List ℕ) → List·Memᴰ w (shortestPaths (planOf bs n t) s z) →
-      HasInside (planOf bs n t) s z w (hops (shortestPaths (planOf bs n t) s z) - 1)
-  shortest-interior w m = path-interior-of (planOf bs n t) s z other _ w (in-complete-list bs n t ok s z w .0 m)
+      (w : List ℕ) → List·Memᴰ w (shortestPaths (planOf bs n t terms) s z) →
+      HasInside (planOf bs n t terms) s z w (hops (shortestPaths (planOf bs n t terms) s z) - 1)
+  shortest-interior w m = path-interior-of (planOf bs n t terms) s z other _ w (in-complete-list bs n t terms ok s z w .0 m)
 
   -- Every hop accounted: their through counts add up to count × (hops - 1). Where there is no path both are 0.
   pub shortest-accounted :
-      sum (map (through (planOf bs n t) s z) (below n)) ≡
-      count (shortestPaths (planOf bs n t) s z) * (hops (shortestPaths (planOf bs n t) s z) - 1)
+      sum (map (through (planOf bs n t terms) s z) (below n)) ≡
+      count (shortestPaths (planOf bs n t terms) s z) * (hops (shortestPaths (planOf bs n t terms) s z) - 1)
   unfolding through planOf
   shortest-accounted =
-      account (planOf bs n t) (stations-within bs n t ok) s z other (hops (shortestPaths (planOf bs n t) s z))
-      (shortestPaths (planOf bs n t) s z) (λ w m. in-complete-list bs n t ok s z w .0 m)
+      account (planOf bs n t terms) (stations-within bs n t terms ok) s z other (hops (shortestPaths (planOf bs n t terms) s z))
+      (shortestPaths (planOf bs n t terms) s z) (λ w m. in-complete-list bs n t terms ok s z w .0 m)
 
   -- (kept) a shortest foremost path is a path with the list's hops
   foremost-path :
-      (w : List ℕ) → List·Memᴰ w (foremostPaths (planOf bs n t) s z) →
-      (isPath (planOf bs n t) s z w ≡ true) × (length w ≡ hops (foremostPaths (planOf bs n t) s z))
+      (w : List ℕ) → List·Memᴰ w (foremostPaths (planOf bs n t terms) s z) →
+      (isPath (planOf bs n t terms) s z w ≡ true) × (length w ≡ hops (foremostPaths (planOf bs n t terms) s z))
   unfolding foremostPaths
   foremost-path w m = (
-    foremost-walks-are-paths bs n t ok s z w m,
-    in-shortest-walks bs n t ok s z (arrival (planOf bs n t) s z) w .0 m .1,
+    foremost-walks-are-paths bs n t terms ok s z w m,
+    in-shortest-walks bs n t terms ok s z (arrival (planOf bs n t terms) s z) w .0 m .1,
   )
 
   -- (kept) Both hold of the shortest foremost paths.
   pub foremost-interior :
-      (w : List ℕ) → List·Memᴰ w (foremostPaths (planOf bs n t) s z) →
-      HasInside (planOf bs n t) s z w (hops (foremostPaths (planOf bs n t) s z) - 1)
-  foremost-interior w m = path-interior-of (planOf bs n t) s z other _ w (foremost-path w m)
+      (w : List ℕ) → List·Memᴰ w (foremostPaths (planOf bs n t terms) s z) →
+      HasInside (planOf bs n t terms) s z w (hops (foremostPaths (planOf bs n t terms) s z) - 1)
+  foremost-interior w m = path-interior-of (planOf bs n t terms) s z other _ w (foremost-path w m)
 
   -- (kept)
   pub foremost-accounted :
-      sum (map (foremostThrough (planOf bs n t) s z) (below n)) ≡
-      count (foremostPaths (planOf bs n t) s z) * (hops (foremostPaths (planOf bs n t) s z) - 1)
+      sum (map (foremostThrough (planOf bs n t terms) s z) (below n)) ≡
+      count (foremostPaths (planOf bs n t terms) s z) * (hops (foremostPaths (planOf bs n t terms) s z) - 1)
   unfolding foremostThrough planOf
   foremost-accounted =
-      account (planOf bs n t) (stations-within bs n t ok) s z other (hops (foremostPaths (planOf bs n t) s z))
-      (foremostPaths (planOf bs n t) s z) foremost-path
+      account (planOf bs n t terms) (stations-within bs n t terms ok) s z other (hops (foremostPaths (planOf bs n t terms) s z))
+      (foremostPaths (planOf bs n t terms) s z) foremost-path

@@ -12,7 +12,7 @@ use borrow.Author.Tests.{eqb-true}
 use lib.Dec.{eqb}
 use lib.ListN.{length, getElem?}
 use Rattle.temporal.specs.Lists.{sum, below, Rising}
-use Rattle.temporal.specs.Plan.{Contact, Plan, Appearance, start}
+use Rattle.temporal.specs.Plan.{Contact, Plan, Terms, Appearance, start}
 use Rattle.temporal.specs.Walk.{run, lastOr, endsIn, isAt, isWalkTo, isAppearance, isWalk, isPath}
 use Rattle.temporal.specs.Shortest.{shortest, shortestWalks, shortestPaths, hops, count}
 use Rattle.temporal.specs.Definition3.{isPath000}
@@ -59,106 +59,106 @@ bounded-ends p g s t =
 pub bounded-paths : (p : Plan) → SlotsWithin p → (s z : ℕ) → Bounded p (isPath p s z)
 bounded-paths p g s z = bounded-implies (bounded-ends p g s (isAt z)) (path-is-walk p s z)
 
-module _ (bs : List ℕ) (n t : ℕ) (ok : planFault bs n t ≡ 0) where
+module _ (bs : List ℕ) (n t : ℕ) (terms : Terms) (ok : planFault bs n t ≡ 0) where
   -- A walk of an accepted plan has at most as many hops as the plan has slots.
-  pub walk-within-slots : (s : ℕ) (w : List ℕ) (l : List Appearance) → run (planOf bs n t) (start s) w ≡ some l → length w ≤ t
+  pub walk-within-slots : (s : ℕ) (w : List ℕ) (l : List Appearance) → run (planOf bs n t terms) (start s) w ≡ some l → length w ≤ t
   unfolding planOf
-  walk-within-slots s w l e = run-within (planOf bs n t) (slots-within bs n t ok) s w e
+  walk-within-slots s w l e = run-within (planOf bs n t terms) (slots-within bs n t terms ok) s w e
 
   -- Every path from s to z, of whatever length, has at least the pair's hops.
   pub path-at-least :
-      (s z : ℕ) (w : List ℕ) → isPath (planOf bs n t) s z w ≡ true → hops (shortestPaths (planOf bs n t) s z) ≤ length w
+      (s z : ℕ) (w : List ℕ) → isPath (planOf bs n t terms) s z w ≡ true → hops (shortestPaths (planOf bs n t terms) s z) ≤ length w
   unfolding shortestPaths
-  path-at-least s z w e = shortest-least (bounded-paths (planOf bs n t) (slots-within bs n t ok) s z) e
+  path-at-least s z w e = shortest-least (bounded-paths (planOf bs n t terms) (slots-within bs n t terms ok) s z) e
 
   -- A list of positions is in the complete list exactly if it is a path from s to z with the pair's hops.
   pub in-complete-list :
       (s z : ℕ) (w : List ℕ) →
-      List·Memᴰ w (shortestPaths (planOf bs n t) s z) ↔
-      ((isPath (planOf bs n t) s z w ≡ true) × (length w ≡ hops (shortestPaths (planOf bs n t) s z)))
+      List·Memᴰ w (shortestPaths (planOf bs n t terms) s z) ↔
+      ((isPath (planOf bs n t terms) s z w ≡ true) × (length w ≡ hops (shortestPaths (planOf bs n t terms) s z)))
   unfolding shortestPaths
-  in-complete-list s z w = shortest-mem (bounded-paths (planOf bs n t) (slots-within bs n t ok) s z)
+  in-complete-list s z w = shortest-mem (bounded-paths (planOf bs n t terms) (slots-within bs n t terms ok) s z)
 
   -- (kept) The shortest walks to a station are its shortest paths: the fewest hops over walks and over paths are equal, and
   -- every walk with that fewest is a path.
   pub shortest-walks-are-paths :
-      (s z : ℕ) → shortestPaths (planOf bs n t) s z ≡ shortest (planOf bs n t) (isWalkTo (planOf bs n t) s z)
+      (s z : ℕ) → shortestPaths (planOf bs n t terms) s z ≡ shortest (planOf bs n t terms) (isWalkTo (planOf bs n t terms) s z)
   unfolding shortestPaths
   shortest-walks-are-paths s z =
-      shortest-agree (bounded-ends p (slots-within bs n t ok) s (isAt z)) (path-is-walk p s z)
+      shortest-agree (bounded-ends p (slots-within bs n t terms ok) s (isAt z)) (path-is-walk p s z)
       (λ w e. ⊎-elim inl (λ h. inr (h .walk, h .ends, h .fewer))
       (walk-or-shorter p (isAt z) (λ x x′ same earlier q. ap (λ v. eqb v z) same ∙ q) z (λ x q. eqb-true (x .station) z q) s w e))
     where
       p : Plan
-      p = planOf bs n t
+      p = planOf bs n t terms
 
   -- (kept) Every walk from s to z, of whatever length, has at least the pair's hops.
   pub walk-at-least :
-      (s z : ℕ) (w : List ℕ) → isWalkTo (planOf bs n t) s z w ≡ true → hops (shortestPaths (planOf bs n t) s z) ≤ length w
+      (s z : ℕ) (w : List ℕ) → isWalkTo (planOf bs n t terms) s z w ≡ true → hops (shortestPaths (planOf bs n t terms) s z) ≤ length w
   walk-at-least s z w e =
-      rw shortest-walks-are-paths (shortest-least (bounded-ends (planOf bs n t) (slots-within bs n t ok) s (isAt z)) e)
+      rw shortest-walks-are-paths (shortest-least (bounded-ends (planOf bs n t terms) (slots-within bs n t terms ok) s (isAt z)) e)
 
   -- (kept) Every walk from s to z with the pair's hops is a path, and stands in the complete list.
   pub fewest-walk-is-path :
-      (s z : ℕ) (w : List ℕ) → isWalkTo (planOf bs n t) s z w ≡ true →
-      length w ≡ hops (shortestPaths (planOf bs n t) s z) → isPath (planOf bs n t) s z w ≡ true
+      (s z : ℕ) (w : List ℕ) → isWalkTo (planOf bs n t terms) s z w ≡ true →
+      length w ≡ hops (shortestPaths (planOf bs n t terms) s z) → isPath (planOf bs n t terms) s z w ≡ true
   fewest-walk-is-path s z w e fewest =
       let among = shortest-walks-are-paths s z in
       in-complete-list s z w .0
       (rw among
-      (shortest-mem (bounded-ends (planOf bs n t) (slots-within bs n t ok) s (isAt z)) .1
+      (shortest-mem (bounded-ends (planOf bs n t terms) (slots-within bs n t terms ok) s (isAt z)) .1
       (e, fewest ∙ ap hops among))) .0
 
   -- Every walk from s to the appearance (v, u) has at least its hops.
   pub appearance-walk-at-least :
-      (s v u : ℕ) (w : List ℕ) → isWalk (planOf bs n t) s v u w ≡ true →
-      hops (shortestWalks (planOf bs n t) s v u) ≤ length w
+      (s v u : ℕ) (w : List ℕ) → isWalk (planOf bs n t terms) s v u w ≡ true →
+      hops (shortestWalks (planOf bs n t terms) s v u) ≤ length w
   unfolding shortestWalks isWalk
   appearance-walk-at-least s v u w e =
-      shortest-least (bounded-ends (planOf bs n t) (slots-within bs n t ok) s (isAppearance v u)) e
+      shortest-least (bounded-ends (planOf bs n t terms) (slots-within bs n t terms ok) s (isAppearance v u)) e
 
   -- A list of positions is among an appearance's shortest walks exactly if it is a walk to it with its hops.
   pub in-shortest-walks :
       (s v u : ℕ) (w : List ℕ) →
-      List·Memᴰ w (shortestWalks (planOf bs n t) s v u) ↔
-      ((isWalk (planOf bs n t) s v u w ≡ true) × (length w ≡ hops (shortestWalks (planOf bs n t) s v u)))
+      List·Memᴰ w (shortestWalks (planOf bs n t terms) s v u) ↔
+      ((isWalk (planOf bs n t terms) s v u w ≡ true) × (length w ≡ hops (shortestWalks (planOf bs n t terms) s v u)))
   unfolding shortestWalks isWalk
   in-shortest-walks s v u w =
-      shortest-mem (bounded-ends (planOf bs n t) (slots-within bs n t ok) s (isAppearance v u))
+      shortest-mem (bounded-ends (planOf bs n t terms) (slots-within bs n t terms ok) s (isAppearance v u))
 
   -- A walk from a station of the plan ends at a station of the plan, in one of its slots or at the start.
   pub walk-ends-within :
-      (s : ℕ) (w : List ℕ) (l : List Appearance) → s < n → run (planOf bs n t) (start s) w ≡ some l →
+      (s : ℕ) (w : List ℕ) (l : List Appearance) → s < n → run (planOf bs n t terms) (start s) w ≡ some l →
       (lastOr (start s) l .station < n) × (lastOr (start s) l .slot ≤ t)
   unfolding planOf
   walk-ends-within s w l inside e = (
-    run-station (planOf bs n t) n (λ i c there. contact-within bs n t ok i c there .hearer-station) (start s) w inside e,
-    run-last-within (planOf bs n t) (slots-within bs n t ok) (start s) w (omega arith) e,
+    run-station (planOf bs n t terms) n (λ i c there. contact-within bs n t terms ok i c there .hearer-station) (start s) w inside e,
+    run-last-within (planOf bs n t terms) (slots-within bs n t terms ok) (start s) w (omega arith) e,
   )
 
   -- (kept) No appearance of a station has fewer hops than the station.
   pub appearance-at-least :
-      (s v u : ℕ) → u < t + 1 → hops (shortestPaths (planOf bs n t) s v) ≤ hops (shortestWalks (planOf bs n t) s v u)
+      (s v u : ℕ) → u < t + 1 → hops (shortestPaths (planOf bs n t terms) s v) ≤ hops (shortestWalks (planOf bs n t terms) s v u)
   unfolding shortestWalks planOf
   appearance-at-least s v u h =
       rw shortest-walks-are-paths
-      (split-hops (bounded-ends (planOf bs n t) (slots-within bs n t ok) s (isAt v)) (isWalk (planOf bs n t) s v)
-      (below (t + 1)) (walk-one-slot (planOf bs n t) s v (slots-within bs n t ok)) (mem-below (t + 1) .1 h)
+      (split-hops (bounded-ends (planOf bs n t terms) (slots-within bs n t terms ok) s (isAt v)) (isWalk (planOf bs n t terms) s v)
+      (below (t + 1)) (walk-one-slot (planOf bs n t terms) s v (slots-within bs n t terms ok)) (mem-below (t + 1) .1 h)
       (let few = accepted bs n t ok .slots in omega arith))
 
   -- (kept) A station's appearances with as many hops as the station have together as many shortest walks as it has shortest
   -- paths.
   pub appearances-account :
       (s v : ℕ) →
-      count (shortestPaths (planOf bs n t) s v) ≡
+      count (shortestPaths (planOf bs n t terms) s v) ≡
       sum (map (λ u.
-      cond (eqb (hops (shortestWalks (planOf bs n t) s v u)) (hops (shortestPaths (planOf bs n t) s v)))
-      (count (shortestWalks (planOf bs n t) s v u)) 0) (below (t + 1)))
+      cond (eqb (hops (shortestWalks (planOf bs n t terms) s v u)) (hops (shortestPaths (planOf bs n t terms) s v)))
+      (count (shortestWalks (planOf bs n t terms) s v u)) 0) (below (t + 1)))
   unfolding shortestWalks planOf
   appearances-account s v =
       rw shortest-walks-are-paths
-      (split-count (bounded-ends (planOf bs n t) (slots-within bs n t ok) s (isAt v)) (isWalk (planOf bs n t) s v)
-      (below (t + 1)) (walk-one-slot (planOf bs n t) s v (slots-within bs n t ok)))
+      (split-count (bounded-ends (planOf bs n t terms) (slots-within bs n t terms ok) s (isAt v)) (isWalk (planOf bs n t terms) s v)
+      (below (t + 1)) (walk-one-slot (planOf bs n t terms) s v (slots-within bs n t terms ok)))
 
 -- For two different stations a path is document 000's (Def. 3).
 pub path-is-definition3 : (p : Plan) (s z : ℕ) → s ≢ z → (w : List ℕ) → isPath p s z w ≡ isPath000 p s z w
@@ -176,9 +176,9 @@ complete-list-rises p s z = shortest-rising p (isPath p s z)
 
 -- A pair of an accepted plan has no path, or few hops.
 pub few-hops :
-    (bs : List ℕ) (n t s z : ℕ) → planFault bs n t ≡ 0 →
-    (shortestPaths (planOf bs n t) s z ≡ []) ⊎ (hops (shortestPaths (planOf bs n t) s z) < 65535)
+    (bs : List ℕ) (n t : ℕ) (terms : Terms) (s z : ℕ) → planFault bs n t ≡ 0 →
+    (shortestPaths (planOf bs n t terms) s z ≡ []) ⊎ (hops (shortestPaths (planOf bs n t terms) s z) < 65535)
 unfolding shortestPaths planOf
-few-hops bs n t s z ok =
+few-hops bs n t terms s z ok =
     let slots = accepted bs n t ok .slots in
-    ⊎-elim inl (λ h. inr (omega arith)) (hops-bound (bounded-paths (planOf bs n t) (slots-within bs n t ok) s z))
+    ⊎-elim inl (λ h. inr (omega arith)) (hops-bound (bounded-paths (planOf bs n t terms) (slots-within bs n t terms ok) s z))

@@ -1,14 +1,15 @@
 -- Figures of small plans by computation from the definitions: a single record, a load in which rounding each share and rounding
--- the sum differ, a set of two stations on one path, a set of the destination, shortest foremost paths; and which of 9 and 11 is told.
+-- the sum differ, a set of two stations on one path, a set of the destination, turnarounds,
+-- shortest foremost paths; and which of 9 and 11 is told.
 -- Assumes nothing.
 use Prim.Native.Nat.{ℕ}
 use mathlib.Core.Path.{_≡_, refl}
 use mathlib.Core.Bool.{true, _||_}
-use mathlib.Core.List.{List, [], _∷_, flatMap}
+use mathlib.Core.List.{List, [], _∷_, map, flatMap}
 use mathlib.Core.Option.{bind}
 use lib.Dec.{eqb}
 use Rattle.temporal.specs.Lists.{from, below, sum, product, select, any, firstWhere, member, distinct, tuples}
-use Rattle.temporal.specs.Plan.{Contact, Plan, leadsTo, mayFollow}
+use Rattle.temporal.specs.Plan.{Contact, Plan, Terms, turning, leadsTo, mayFollow}
 use Rattle.temporal.specs.Walk.{along, step, run, lastOr, holds, endsIn, isWalk, isPath, isInterior}
 use Rattle.temporal.specs.Shortest.{orElse, firstNonempty, ofHops, shortest, shortestWalks, shortestPaths}
 use Rattle.temporal.specs.Shortest.{hops, count, through}
@@ -17,14 +18,14 @@ use Rattle.temporal.specs.OutcomeForemost.{foremostThrough}
 use Rattle.temporal.specs.Set.{touches, touched}
 use Rattle.temporal.specs.Load.{allEnds, pairsOf, share, load}
 use Rattle.temporal.specs.Bytes.{planOf}
-use Rattle.temporal.specs.Cause.{cause, first, unless, planCauses, planFault, pairCauses, tooMany}
+use Rattle.temporal.specs.Cause.{cause, first, unless, planCauses, planFault, wrongTurnaround, pairCauses, tooMany}
 use Rattle.temporal.specs.Outcome.{entered, short, workSize}
 use Rattle.temporal.specs.OutcomeSet.{wrongSet, setCauses, setCounted, throughSet}
 use Rattle.temporal.proofs.CauseLaws.{first-append-none}
 
 -- one contact, in which 0 sends and 1 hears (document 02, C-16)
 single : Plan
-single = record { stations = 2; slots = 1; contacts = record { slot = 1; sender = 0; hearer = 1 } ∷ [] }
+single = record { stations = 2; slots = 1; contacts = record { slot = 1; sender = 0; hearer = 1 } ∷ []; terms = turning 1 }
 
 -- It leads from its sender to its hearer, and there is no path back.
 one-way : count (shortestPaths single 0 1) ∷ count (shortestPaths single 1 0) ∷ [] ≡ 1 ∷ 0 ∷ []
@@ -41,6 +42,7 @@ outwardA =
           record { slot = 1; sender = 0; hearer = 1 } ∷ record { slot = 1; sender = 0; hearer = 2 } ∷
           record { slot = 2; sender = 1; hearer = 3 } ∷ record { slot = 2; sender = 2; hearer = 3 } ∷
           record { slot = 3; sender = 2; hearer = 3 } ∷ record { slot = 4; sender = 3; hearer = 4 } ∷ [];
+      terms = turning 1;
     }
 
 -- slot, hops and count of the shortest foremost paths of a pair
@@ -61,6 +63,32 @@ set-of-two = refl
 set-of-destination : touched outwardA 0 4 (λ v. eqb v 4) ≡ 0
 unfolding outwardA from below sum select any member distinct tuples leadsTo mayFollow along step run lastOr holds isPath isInterior orElse firstNonempty ofHops shortest shortestPaths touches touched flatMap bind
 set-of-destination = refl
+
+-- ---- turnarounds (document 02, C-17)
+
+-- plan A's contacts in one direction where a station needs two slots between hearing and sending on
+slowA : Plan
+slowA = record { stations = 5; slots = 4; contacts = outwardA .contacts; terms = turning 2 }
+
+-- Station 3 is reached from 0 over station 2 in slots 1 and 3 alone, and then there is no time to reach station 4.
+time-to-turn : count (shortestPaths slowA 0 3) ∷ count (shortestPaths slowA 0 4) ∷ [] ≡ 1 ∷ 0 ∷ []
+unfolding slowA outwardA from below select any member distinct tuples leadsTo mayFollow along step run lastOr holds isPath orElse firstNonempty ofHops shortest shortestPaths flatMap bind
+time-to-turn = refl
+
+-- the single contact with the longest turnaround
+slowSingle : Plan
+slowSingle = record { stations = 2; slots = 1; contacts = single .contacts; terms = turning 16 }
+
+-- The first leg may use any slot.
+first-leg-free : count (shortestPaths slowSingle 0 1) ≡ 1
+unfolding slowSingle single from below select any member distinct tuples leadsTo mayFollow along step run lastOr holds isPath orElse firstNonempty ofHops shortest shortestPaths flatMap bind
+first-leg-free = refl
+
+-- 12 is told before 6, outside 1 to 16 alone.
+twelve-before-six :
+    map (λ g. first (pairCauses (turning g) 2 2 2 true)) (0 ∷ 1 ∷ 16 ∷ 17 ∷ 65535 ∷ []) ≡ 12 ∷ 6 ∷ 6 ∷ 12 ∷ 12 ∷ []
+unfolding pairCauses wrongTurnaround cause first
+twelve-before-six = refl
 
 -- ---- shortest foremost paths
 
@@ -85,6 +113,7 @@ detours =
           record { slot = 1; sender = 0; hearer = 1 } ∷ record { slot = 2; sender = 1; hearer = 2 } ∷
           record { slot = 3; sender = 0; hearer = 2 } ∷ record { slot = 4; sender = 1; hearer = 3 } ∷
           record { slot = 4; sender = 2; hearer = 3 } ∷ [];
+      terms = turning 1;
     }
 
 foremost-not-shortest : foremostTold detours 0 2 ≡ 2 ∷ 2 ∷ 1 ∷ []
@@ -95,11 +124,11 @@ foremost-fewest-hops : foremostTold detours 0 3 ≡ 4 ∷ 2 ∷ 2 ∷ []
 unfolding foremostTold detours from below firstWhere select any member distinct tuples leadsTo mayFollow along step run lastOr holds endsIn isWalk isPath orElse firstNonempty ofHops shortest shortestWalks shortestPaths hops arrival foremostPaths flatMap bind
 foremost-fewest-hops = refl
 
--- Where 1 to 8 do not hold, and both 9 and 11 do, 11 is told (document 02, C-12).
+-- Where 1 to 8 and 12 do not hold, and both 9 and 11 do, 11 is told (document 02, C-12).
 pub eleven-before-nine :
-    (bs : List ℕ) (n t s z : ℕ) (set old : List ℕ) → planFault bs n t ≡ 0 →
-    first (pairCauses n s z (short n set || short (workSize n t) old)) ≡ 0 → wrongSet n set ≡ true →
-    tooMany (planOf bs n t) s ≡ true → throughSet bs n t s z set old .number ≡ 11
+    (bs : List ℕ) (n t : ℕ) (terms : Terms) (s z : ℕ) (set old : List ℕ) → planFault bs n t ≡ 0 →
+    first (pairCauses terms n s z (short n set || short (workSize n t) old)) ≡ 0 → wrongSet n set ≡ true →
+    tooMany (planOf bs n t terms) s ≡ true → throughSet bs n t terms s z set old .number ≡ 11
 unfolding throughSet setCounted entered setCauses planFault first cause unless
-eleven-before-nine bs n t s z set old ok free wrong many =
-    rw (wrong, many, first-append-none (planCauses bs n t) _ ok, first-append-none (pairCauses n s z _) _ free)
+eleven-before-nine bs n t terms s z set old ok free wrong many =
+    rw (wrong, many, first-append-none (planCauses bs n t) _ ok, first-append-none (pairCauses terms n s z _) _ free)

@@ -13,7 +13,7 @@ use borrow.Author.Tests.{eqb-true, eq-eqb, ne-eqb, leb-true, le-leb, lt-leb, ltb
 use lib.Dec.{eqb, leb, ltb}
 use lib.ListN.{length}
 use Rattle.temporal.specs.Lists.{below, firstWhere, Rising}
-use Rattle.temporal.specs.Plan.{Plan, Appearance, start}
+use Rattle.temporal.specs.Plan.{Plan, Terms, Appearance, start}
 use Rattle.temporal.specs.Walk.{run, lastOr, holds, endsIn, isAt, isAppearance, isWalk, isWalkTo, isPath}
 use Rattle.temporal.specs.Shortest.{shortest, shortestWalks, shortestPaths, hops, count}
 use Rattle.temporal.specs.Foremost.{arrival, foremostPaths, arrivesBy, walksBy}
@@ -270,122 +270,122 @@ module _ (p : Plan) (fits : SlotsWithin p) (s z : ℕ) where
 
 -- ---- accepted plans
 
-module _ (bs : List ℕ) (n t : ℕ) (ok : planFault bs n t ≡ 0) (s z : ℕ) where
-  few-slots : planOf bs n t .slots < 65535
+module _ (bs : List ℕ) (n t : ℕ) (terms : Terms) (ok : planFault bs n t ≡ 0) (s z : ℕ) where
+  few-slots : planOf bs n t terms .slots < 65535
   unfolding planOf
   few-slots = let most = accepted bs n t ok .slots in omega arith
 
   -- By the last slot the shortest walks are the shortest paths, and by the arrival the shortest foremost paths.
-  pub shortest-by-last : walksBy (planOf bs n t) s z t ≡ shortestPaths (planOf bs n t) s z
+  pub shortest-by-last : walksBy (planOf bs n t terms) s z t ≡ shortestPaths (planOf bs n t terms) s z
   unfolding planOf
-  shortest-by-last = walks-by-last (planOf bs n t) (slots-within bs n t ok) s z ∙ sym (shortest-walks-are-paths bs n t ok s z)
+  shortest-by-last = walks-by-last (planOf bs n t terms) (slots-within bs n t terms ok) s z ∙ sym (shortest-walks-are-paths bs n t terms ok s z)
 
   pub foremost-by-arrival :
-      walksBy (planOf bs n t) s z (min t (arrival (planOf bs n t) s z)) ≡ foremostPaths (planOf bs n t) s z
+      walksBy (planOf bs n t terms) s z (min t (arrival (planOf bs n t terms) s z)) ≡ foremostPaths (planOf bs n t terms) s z
   unfolding planOf
-  foremost-by-arrival = walks-by-arrival (planOf bs n t) (slots-within bs n t ok) s z few-slots
+  foremost-by-arrival = walks-by-arrival (planOf bs n t terms) (slots-within bs n t terms ok) s z few-slots
 
   -- (kept) Every shortest foremost path is a path: it visits no station twice, its source and destination among them.
   pub foremost-walks-are-paths :
-      (w : List ℕ) → List·Memᴰ w (foremostPaths (planOf bs n t) s z) → isPath (planOf bs n t) s z w ≡ true
+      (w : List ℕ) → List·Memᴰ w (foremostPaths (planOf bs n t terms) s z) → isPath (planOf bs n t terms) s z w ≡ true
   foremost-walks-are-paths w m =
-      walks-by-are-paths (planOf bs n t) (slots-within bs n t ok) s z (min t (arrival (planOf bs n t) s z)) w
+      walks-by-are-paths (planOf bs n t terms) (slots-within bs n t terms ok) s z (min t (arrival (planOf bs n t terms) s z)) w
       (subst (λ l. List·Memᴰ w l) (sym foremost-by-arrival) m)
 
   -- A number that is no station's is never reached.
-  pub arrival-outside : s < n → n ≤ z → arrival (planOf bs n t) s z ≡ 65535
-  arrival-outside source outside = go (arrival-or-never (planOf bs n t) (slots-within bs n t ok) s z)
+  pub arrival-outside : s < n → n ≤ z → arrival (planOf bs n t terms) s z ≡ 65535
+  arrival-outside source outside = go (arrival-or-never (planOf bs n t terms) (slots-within bs n t terms ok) s z)
     where
-      go : Arrival (planOf bs n t) (slots-within bs n t ok) s z → arrival (planOf bs n t) s z ≡ 65535
+      go : Arrival (planOf bs n t terms) (slots-within bs n t terms ok) s z → arrival (planOf bs n t terms) s z ≡ 65535
       go (never e none-there) = e
       go (arrives h reached) =
           ⊎-elim
-          (λ empty. absurd (let zero = count-zero (foremostPaths (planOf bs n t) s z) .1 empty in omega arith))
+          (λ empty. absurd (let zero = count-zero (foremostPaths (planOf bs n t terms) s z) .1 empty in omega arith))
           (λ m.
-          let r = path-inv (planOf bs n t) s z (m .0) (foremost-walks-are-paths (m .0) (m .1)) in
-          let inside = walk-ends-within bs n t ok s (m .0) (r .visits) source (r .runs) .0 in
+          let r = path-inv (planOf bs n t terms) s z (m .0) (foremost-walks-are-paths (m .0) (m .1)) in
+          let inside = walk-ends-within bs n t terms ok s (m .0) (r .visits) source (r .runs) .0 in
           let ends = r .ends in
           absurd (omega arith))
-          (empty-or-member (foremostPaths (planOf bs n t) s z))
+          (empty-or-member (foremostPaths (planOf bs n t terms) s z))
 
   -- Every walk from s to z arrives in the earliest slot or later.
   pub arrival-earliest :
-      (w : List ℕ) (l : List Appearance) → run (planOf bs n t) (start s) w ≡ some l → lastOr (start s) l .station ≡ z →
-      arrival (planOf bs n t) s z ≤ lastOr (start s) l .slot
-  arrival-earliest = arrival-first (planOf bs n t) (slots-within bs n t ok) s z
+      (w : List ℕ) (l : List Appearance) → run (planOf bs n t terms) (start s) w ≡ some l → lastOr (start s) l .station ≡ z →
+      arrival (planOf bs n t terms) s z ≤ lastOr (start s) l .slot
+  arrival-earliest = arrival-first (planOf bs n t terms) (slots-within bs n t terms ok) s z
 
   -- where a walk reaches z in a slot there is a shortest one
-  some-walk : (u : ℕ) (w : List ℕ) → isWalk (planOf bs n t) s z u w ≡ true → 0 < count (shortestWalks (planOf bs n t) s z u)
+  some-walk : (u : ℕ) (w : List ℕ) → isWalk (planOf bs n t terms) s z u w ≡ true → 0 < count (shortestWalks (planOf bs n t terms) s z u)
   unfolding shortestWalks isWalk
-  some-walk u w q = some-shortest (bounded-ends (planOf bs n t) (slots-within bs n t ok) s (isAppearance z u)) w q
+  some-walk u w q = some-shortest (bounded-ends (planOf bs n t terms) (slots-within bs n t terms ok) s (isAppearance z u)) w q
 
   -- (kept) A list of positions is among the shortest foremost paths exactly if it is a path from s to z that arrives in the
   -- earliest slot, and no path that does has fewer hops.
   pub in-foremost-paths :
       (w : List ℕ) →
-      List·Memᴰ w (foremostPaths (planOf bs n t) s z) ↔
-      ((isPath (planOf bs n t) s z w ≡ true) × (isWalk (planOf bs n t) s z (arrival (planOf bs n t) s z) w ≡ true) ×
-      ((u : List ℕ) → isPath (planOf bs n t) s z u ≡ true →
-      isWalk (planOf bs n t) s z (arrival (planOf bs n t) s z) u ≡ true → length w ≤ length u))
+      List·Memᴰ w (foremostPaths (planOf bs n t terms) s z) ↔
+      ((isPath (planOf bs n t terms) s z w ≡ true) × (isWalk (planOf bs n t terms) s z (arrival (planOf bs n t terms) s z) w ≡ true) ×
+      ((u : List ℕ) → isPath (planOf bs n t terms) s z u ≡ true →
+      isWalk (planOf bs n t terms) s z (arrival (planOf bs n t terms) s z) u ≡ true → length w ≤ length u))
   unfolding foremostPaths
   in-foremost-paths w = (
-    λ m. let (walks, fewest) = in-shortest-walks bs n t ok s z a w .0 m in (
+    λ m. let (walks, fewest) = in-shortest-walks bs n t terms ok s z a w .0 m in (
       foremost-walks-are-paths w m,
       walks,
-      λ u path q. let least = appearance-walk-at-least bs n t ok s z a u q in omega arith,
+      λ u path q. let least = appearance-walk-at-least bs n t terms ok s z a u q in omega arith,
     ),
-    λ h. in-shortest-walks bs n t ok s z a w .1 (h .1, fewest w (h .1) (h .2)),
+    λ h. in-shortest-walks bs n t terms ok s z a w .1 (h .1, fewest w (h .1) (h .2)),
   )
     where
       a : ℕ
-      a = arrival (planOf bs n t) s z
+      a = arrival (planOf bs n t terms) s z
 
       fewest :
-          (w : List ℕ) → isWalk (planOf bs n t) s z a w ≡ true →
-          ((u : List ℕ) → isPath (planOf bs n t) s z u ≡ true → isWalk (planOf bs n t) s z a u ≡ true → length w ≤ length u) →
-          length w ≡ hops (shortestWalks (planOf bs n t) s z a)
+          (w : List ℕ) → isWalk (planOf bs n t terms) s z a w ≡ true →
+          ((u : List ℕ) → isPath (planOf bs n t terms) s z u ≡ true → isWalk (planOf bs n t terms) s z a u ≡ true → length w ≤ length u) →
+          length w ≡ hops (shortestWalks (planOf bs n t terms) s z a)
       fewest w q least =
           ⊎-elim
           (λ empty. absurd (
           let some = some-walk a w q in
-          let none = count-zero (shortestWalks (planOf bs n t) s z a) .1 empty in
+          let none = count-zero (shortestWalks (planOf bs n t terms) s z a) .1 empty in
           omega arith))
           (λ m.
-          let (walks, same) = in-shortest-walks bs n t ok s z a (m .0) .0 (m .1) in
-          let low = appearance-walk-at-least bs n t ok s z a w q in
+          let (walks, same) = in-shortest-walks bs n t terms ok s z a (m .0) .0 (m .1) in
+          let low = appearance-walk-at-least bs n t terms ok s z a w q in
           let high = least (m .0) (foremost-walks-are-paths (m .0) (m .1)) walks in
           omega arith)
-          (empty-or-member (shortestWalks (planOf bs n t) s z a))
+          (empty-or-member (shortestWalks (planOf bs n t terms) s z a))
 
   -- Where there is a foremost path its hops are no more than the slots.
-  pub foremost-few : 0 < count (foremostPaths (planOf bs n t) s z) → hops (foremostPaths (planOf bs n t) s z) ≢ 65535
+  pub foremost-few : 0 < count (foremostPaths (planOf bs n t terms) s z) → hops (foremostPaths (planOf bs n t terms) s z) ≢ 65535
   unfolding foremostPaths shortestWalks isWalk planOf
   foremost-few reached many =
       ⊎-elim
-      (λ empty. let zero = count-zero (foremostPaths (planOf bs n t) s z) .1 empty in omega arith)
+      (λ empty. let zero = count-zero (foremostPaths (planOf bs n t terms) s z) .1 empty in omega arith)
       (λ few. let most = accepted bs n t ok .slots in omega arith)
-      (hops-bound (bounded-ends (planOf bs n t) (slots-within bs n t ok) s (isAppearance z (arrival (planOf bs n t) s z))))
+      (hops-bound (bounded-ends (planOf bs n t terms) (slots-within bs n t terms ok) s (isAppearance z (arrival (planOf bs n t terms) s z))))
 
   -- The fewest hops of a foremost path are never below the pair's.
-  pub foremost-hops-at-least : hops (shortestPaths (planOf bs n t) s z) ≤ hops (foremostPaths (planOf bs n t) s z)
+  pub foremost-hops-at-least : hops (shortestPaths (planOf bs n t terms) s z) ≤ hops (foremostPaths (planOf bs n t terms) s z)
   unfolding foremostPaths shortestWalks isWalk
   foremost-hops-at-least =
       let few = few-slots in
-      rw (shortest-walks-are-paths bs n t ok s z)
-      (hops-implies (bounded-ends (planOf bs n t) (slots-within bs n t ok) s (isAt z))
+      rw (shortest-walks-are-paths bs n t terms ok s z)
+      (hops-implies (bounded-ends (planOf bs n t terms) (slots-within bs n t terms ok) s (isAt z))
       (λ w q.
-      let r = ends-inv (planOf bs n t) (start s) (isAppearance z (arrival (planOf bs n t) s z)) w q in
-      ends-intro (planOf bs n t) (start s) (isAt z) w (r .runs) (and-eq-true-iff _ _ .0 (r .passes) .0))
+      let r = ends-inv (planOf bs n t terms) (start s) (isAppearance z (arrival (planOf bs n t terms) s z)) w q in
+      ends-intro (planOf bs n t terms) (start s) (isAt z) w (r .runs) (and-eq-true-iff _ _ .0 (r .passes) .0))
       (omega arith))
 
   -- (kept) Where its hops are the pair's, every shortest foremost path is in the pair's complete list.
   pub foremost-among-shortest :
-      hops (foremostPaths (planOf bs n t) s z) ≡ hops (shortestPaths (planOf bs n t) s z) → (w : List ℕ) →
-      List·Memᴰ w (foremostPaths (planOf bs n t) s z) → List·Memᴰ w (shortestPaths (planOf bs n t) s z)
+      hops (foremostPaths (planOf bs n t terms) s z) ≡ hops (shortestPaths (planOf bs n t terms) s z) → (w : List ℕ) →
+      List·Memᴰ w (foremostPaths (planOf bs n t terms) s z) → List·Memᴰ w (shortestPaths (planOf bs n t terms) s z)
   unfolding foremostPaths
   foremost-among-shortest same w m =
-      in-complete-list bs n t ok s z w .1
-      (foremost-walks-are-paths w m, in-shortest-walks bs n t ok s z (arrival (planOf bs n t) s z) w .0 m .1 ∙ same)
+      in-complete-list bs n t terms ok s z w .1
+      (foremost-walks-are-paths w m, in-shortest-walks bs n t terms ok s z (arrival (planOf bs n t terms) s z) w .0 m .1 ∙ same)
 
 -- They rise in lexicographic order, so none stands among them twice.
 pub foremost-paths-rise : (p : Plan) (s z : ℕ) → Rising (foremostPaths p s z)

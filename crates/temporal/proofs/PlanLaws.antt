@@ -10,7 +10,7 @@ use mathlib.Core.List.{List, [], _∷_, map}
 use mathlib.Core.Option.{Option, some}
 use lib.ListN.{length, length-map, getElem?}
 use Rattle.temporal.specs.Lists.{from, below}
-use Rattle.temporal.specs.Plan.{Contact}
+use Rattle.temporal.specs.Plan.{Contact, Terms}
 use Rattle.temporal.specs.Bytes.{contactAt, records, planOf}
 use Rattle.temporal.specs.Cause.{isAbove, planFault}
 use Rattle.temporal.proofs.Accepted.{Accepted, ContactWithin, accepted}
@@ -37,35 +37,35 @@ above-slots c d e =
     neither : (c .slot < d .slot → ⊥) → (c .slot ≡ d .slot → ⊥) → isAbove c d ≡ false
     neither h q = rw (le-ltb (c .slot) (d .slot) (omega arith), ne-eqb (c .slot) (d .slot) q)
 
-module _ (bs : List ℕ) (n t : ℕ) where
+module _ (bs : List ℕ) (n t : ℕ) (terms : Terms) where
   -- the contact at a position is the record there
-  pub contact-there : (i : ℕ) → i < records bs → getElem? (planOf bs n t .contacts) i ≡ some (contactAt bs i)
+  pub contact-there : (i : ℕ) → i < records bs → getElem? (planOf bs n t terms .contacts) i ≡ some (contactAt bs i)
   unfolding planOf below
   contact-there i h =
       let same : 0 + i ≡ i = omega arith in
       getElem-map-from (contactAt bs) 0 (records bs) i h ∙ ap (λ x. some (contactAt bs x)) same
 
   -- a plan has as many contacts as its bytes have records
-  pub contacts-length : length (planOf bs n t .contacts) ≡ records bs
+  pub contacts-length : length (planOf bs n t terms .contacts) ≡ records bs
   unfolding planOf
   contacts-length = length-map (below (records bs)) (contactAt bs) ∙ length-below (records bs)
 
   -- where a contact stands, it is the record, at a position of the plan
   pub contact-inv :
-      (i : ℕ) (c : Contact) → getElem? (planOf bs n t .contacts) i ≡ some c → (i < records bs) × (contactAt bs i ≡ c)
+      (i : ℕ) (c : Contact) → getElem? (planOf bs n t terms .contacts) i ≡ some c → (i < records bs) × (contactAt bs i ≡ c)
   contact-inv i c e =
-      let inside = subst (λ k. i < k) contacts-length (position-below (planOf bs n t .contacts) i e) in
+      let inside = subst (λ k. i < k) contacts-length (position-below (planOf bs n t terms .contacts) i e) in
       let there : some (contactAt bs i) ≡ some c = sym (contact-there i inside) ∙ e in
       (inside, cc)
 
   module _ (ok : planFault bs n t ≡ 0) where
     -- each contact of an accepted plan is within its slots and stations
-    pub contact-within : (i : ℕ) (c : Contact) → getElem? (planOf bs n t .contacts) i ≡ some c → ContactWithin n t c
+    pub contact-within : (i : ℕ) (c : Contact) → getElem? (planOf bs n t terms .contacts) i ≡ some c → ContactWithin n t c
     contact-within i c e =
         let (inside, same) = contact-inv i c e in
         subst (ContactWithin n t) same (accepted bs n t ok .contact i inside)
 
-    pub slots-within : SlotsWithin (planOf bs n t)
+    pub slots-within : SlotsWithin (planOf bs n t terms)
     unfolding planOf
     slots-within = record { within = λ i c e. contact-within i c e .to-last }
 

@@ -1,15 +1,16 @@
 -- The laws of the two rules, leadsTo and mayFollow. Only this file unfolds them: laws of walks cite what stands here.
 -- Assumes nothing.
-use Prim.Native.Nat.{ℕ, suc, _≤_, _<_}
-use mathlib.Core.Bool.{Bool, true, false, cond, _||_}
+use Prim.Native.Nat.{ℕ, _+_, _-_, _≤_, _<_, min}
+use mathlib.Core.Bool.{Bool, true, false, cond, _&&_, _||_, and-eq-true-iff, or-true}
 use mathlib.Core.Logic.{_⊎_, inl, inr, ⊎-elim, _↔_, _≢_, by-cases}
 use mathlib.Core.Option.{Option, none, some}
 use mathlib.Core.Path.{_≡_, refl, sym, ap, _∙_}
 use native.Mathlib.Decide.{ℕ-discrete}
 use native.Mathlib.Omega.{arith}
-use borrow.Author.Tests.{ltb-true, ltb-false, lt-ltb, le-ltb, leb-true, leb-false, eqb-true, eqb-false, ne-eqb}
+use borrow.Author.Tests.{ltb-true, ltb-false, lt-ltb, leb-true, leb-false, le-leb, eqb-true, eqb-false, eq-eqb, ne-eqb}
 use lib.Dec.{ltb, leb, eqb}
 use Rattle.temporal.specs.Plan.{Contact, Plan, leadsTo, mayFollow}
+use Rattle.temporal.proofs.ListLaws.{not-true-false}
 
 -- the station from which a contact leads to w: its sender where w is its hearer, else none
 unfoldable pub comesFrom : Contact → ℕ → Option ℕ
@@ -48,43 +49,70 @@ comes-none c w other = rw (ne-eqb w (c .hearer) other)
 -- a contact that may follow an appearance is in a later slot
 pub follows-later : (p : Plan) (t u : ℕ) → mayFollow p t u ≡ true → t < u
 unfolding mayFollow
-follows-later p t u e = ltb-true t u e
+follows-later p t u e = ltb-true t u (and-eq-true-iff (ltb t u) _ .0 e .0)
+
+-- it does where it is in a later slot and the start comes before it, or as many slots lie between as the turnaround asks
+pub follows-intro : (p : Plan) (t u : ℕ) → t < u → (t ≡ 0) ⊎ (t + p .terms .turnaround ≤ u) → mayFollow p t u ≡ true
+unfolding mayFollow
+follows-intro p t u later (inl first) = rw (lt-ltb t u later, eq-eqb t 0 first)
+follows-intro p t u later (inr waits) = rw (lt-ltb t u later, le-leb (t + p .terms .turnaround) u waits) (or-true (eqb t 0))
+
+-- and in no other case
+pub follows-inv : (p : Plan) (t u : ℕ) → mayFollow p t u ≡ true → (t < u) × ((t ≡ 0) ⊎ (t + p .terms .turnaround ≤ u))
+unfolding mayFollow
+follows-inv p t u e =
+    let both = and-eq-true-iff (ltb t u) _ .0 e in
+    (ltb-true t u (both .0), go (eqb t 0) refl (both .1))
+  where
+    go : (b : Bool) → eqb t 0 ≡ b → (b || leb (t + p .terms .turnaround) u) ≡ true
+        → (t ≡ 0) ⊎ (t + p .terms .turnaround ≤ u)
+    go true q h = inl (eqb-true t 0 q)
+    go false q h = inr (leb-true (t + p .terms .turnaround) u h)
 
 -- What may follow an appearance may follow an earlier one. This law rests on a reading being kept until the plan ends;
 -- each law that cites it, directly or through another, is marked "(kept)".
 pub follows-earlier : (p : Plan) (t t′ u : ℕ) → t′ ≤ t → mayFollow p t u ≡ true → mayFollow p t′ u ≡ true
-unfolding mayFollow
 follows-earlier p t t′ u h e =
-    let later : t < u = ltb-true t u e in
-    lt-ltb t′ u (omega arith)
+    let (later, waits) = follows-inv p t u e in
+    follows-intro p t′ u (omega arith) (⊎-elim (λ first. inl (omega arith)) (λ long. inr (omega arith)) waits)
 
--- (turnaround) What may follow in slot u + 1 is what may follow in slot u, and the appearances of slot u. A turnaround
--- changes this law and the next.
-pub follows-settled : (p : Plan) (t u : ℕ) → mayFollow p t (suc u) ≡ (mayFollow p t u || eqb t u)
-unfolding mayFollow
-follows-settled p t u = go (ltb t u) refl (eqb t u) refl
+-- With a turnaround of one slot the rule is that slots rise strictly.
+pub turning-one : (p : Plan) (t u : ℕ) → p .terms .turnaround ≡ 1 → mayFollow p t u ≡ ltb t u
+turning-one p t u one = go (ltb t u) refl
   where
-    go : (b : Bool) → ltb t u ≡ b → (c : Bool) → eqb t u ≡ c → ltb t (suc u) ≡ (b || c)
-    go true q c r = let before = ltb-true t u q in lt-ltb t (suc u) (omega arith)
-    go false q true r = let same = eqb-true t u r in lt-ltb t (suc u) (omega arith)
-    go false q false r =
-        let from-u = ltb-false t u q in
-        let other : t ≡ u → ⊥ = eqb-false t u r in
-        le-ltb t (suc u) (omega arith)
+    go : (b : Bool) → ltb t u ≡ b → mayFollow p t u ≡ b
+    go true q = let later = ltb-true t u q in follows-intro p t u later (inr (omega arith))
+    go false q =
+        let by = ltb-false t u q in
+        not-true-false (mayFollow p t u) (λ e. let later = follows-later p t u e in omega arith)
 
--- (turnaround) A contact may follow an appearance of any earlier slot.
-pub follows-after : (p : Plan) (t u : ℕ) → t ≤ u → mayFollow p t (suc u) ≡ true
-unfolding mayFollow
-follows-after p t u h = lt-ltb t (suc u) (omega arith)
+-- (kept) In the slots of a plan a contact may follow just what was heard q slots before it or earlier; the start is slot 0. A
+-- pass over the plan has what waits in q parts.
+pub record Waits (p : Plan) (q : ℕ) : Type 0 where
+  pub some : 0 < q
+  pub most : q ≤ p .slots
+  pub follows : (t u : ℕ) → 0 < u → u ≤ p .slots → mayFollow p t u ≡ leb t (u - q)
 
--- (turnaround) What the slot past e may follow is what is heard by slot e.
-pub follows-by : (p : Plan) (t e : ℕ) → mayFollow p t (suc e) ≡ leb t e
-unfolding mayFollow
-follows-by p t e = go (leb t e) refl
+-- (kept) what is heard waits as many slots as the turnaround says, but no longer than there are slots
+pub waits-turnaround : (p : Plan) → 0 < p .slots → 0 < p .terms .turnaround → Waits p (min (p .terms .turnaround) (p .slots))
+waits-turnaround p has turns =
+    record { some = omega arith; most = omega arith; follows = λ t u low high. go t u low high (leb t (u - q)) refl }
   where
-    go : (b : Bool) → leb t e ≡ b → ltb t (suc e) ≡ b
-    go true q = let by = leb-true t e q in lt-ltb t (suc e) (omega arith)
-    go false q = let past = leb-false t e q in le-ltb t (suc e) (omega arith)
+    q : ℕ
+    q = min (p .terms .turnaround) (p .slots)
+
+    go : (t u : ℕ) → 0 < u → u ≤ p .slots → (b : Bool) → leb t (u - q) ≡ b → mayFollow p t u ≡ b
+    go t u low high true e =
+        let by = leb-true t (u - q) e in
+        follows-intro p t u (omega arith)
+        (by-cases (ℕ-discrete t 0) (λ first. inl first) (λ other. inr (omega arith)))
+    go t u low high false e =
+        let past = leb-false t (u - q) e in
+        not-true-false (mayFollow p t u) (λ f. none (follows-inv p t u f) past)
+      where
+        none : (t < u) × ((t ≡ 0) ⊎ (t + p .terms .turnaround ≤ u)) → u - q < t → ⊥
+        none (later, inl first) past = omega arith
+        none (later, inr long) past = omega arith
 
 -- a contact leads to its hearer
 pub leads-below : (c : Contact) (v w n : ℕ) → c .hearer < n → leadsTo c v ≡ some w → w < n
@@ -99,8 +127,3 @@ leads-from-sender c = leads-comes c (c .sender) (c .hearer) .1 (comes-to-hearer 
 pub leads-none : (c : Contact) (v : ℕ) → v ≢ c .sender → leadsTo c v ≡ none
 unfolding leadsTo
 leads-none c v other = rw (ne-eqb v (c .sender) other)
-
--- (turnaround) what code tests: the contact's slot is later
-pub follows-test : (p : Plan) (t u : ℕ) → mayFollow p t u ≡ ltb t u
-unfolding mayFollow
-follows-test p t u = refl

@@ -12,7 +12,7 @@ use borrow.Author.Tests.{eq-eqb, ne-eqb, eqb-true}
 use lib.Dec.{eqb}
 use lib.ListN.{length}
 use Rattle.temporal.specs.Lists.{below, sum, select, any, distinct}
-use Rattle.temporal.specs.Plan.{Plan, Appearance, start}
+use Rattle.temporal.specs.Plan.{Plan, Terms, Appearance, start}
 use Rattle.temporal.specs.Walk.{run, lastOr, stationsOf, isPath, isInterior}
 use Rattle.temporal.specs.Shortest.{shortestPaths, hops, count, throughIn, through}
 use Rattle.temporal.specs.Set.{touches, touchedIn, touched}
@@ -185,16 +185,16 @@ module _ (p : Plan) (s z : ℕ) where
 
 -- ---- all stations
 
-module _ (bs : List ℕ) (n t : ℕ) (ok : planFault bs n t ≡ 0) (s z : ℕ) (source : s < n) where
+module _ (bs : List ℕ) (n t : ℕ) (terms : Terms) (ok : planFault bs n t ≡ 0) (s z : ℕ) (source : s < n) where
   -- a path of more than one hop has the station inside that its first contact leads to
   first-inside :
-      (w : List ℕ) → isPath (planOf bs n t) s z w ≡ true → 1 < length w →
-      (v : ℕ) × (v < n) × (isInterior (planOf bs n t) s z v w ≡ true)
+      (w : List ℕ) → isPath (planOf bs n t terms) s z w ≡ true → 1 < length w →
+      (v : ℕ) × (v < n) × (isInterior (planOf bs n t terms) s z v w ≡ true)
   unfolding run bind lastOr
   first-inside [] e h = absurd (omega arith)
   first-inside (i ∷ []) e h = absurd (omega arith)
   first-inside (i ∷ j ∷ w) e h =
-      let p = planOf bs n t in
+      let p = planOf bs n t terms in
       let r = path-inv p s z (i ∷ j ∷ w) e in
       let a = run-cons p (start s) i (j ∷ w) (r .runs) in
       let b = run-cons p (a .next) j w (a .goes-on) in
@@ -204,7 +204,7 @@ module _ (bs : List ℕ) (n t : ℕ) (ok : planFault bs n t ≡ 0) (s z : ℕ) (
       let (new, rest) = distinct-cons s (stationsOf (a .next ∷ b .next ∷ b .others)) .0 apart in
       let (once, others) = distinct-cons (a .next .station) (stationsOf (b .next ∷ b .others)) .0 rest in (
         a .next .station,
-        walk-ends-within bs n t ok s (i ∷ []) (a .next ∷ []) source (rw (a .steps)) .0,
+        walk-ends-within bs n t terms ok s (i ∷ []) (a .next ∷ []) source (rw (a .steps)) .0,
         interior-intro p s z (a .next .station) (i ∷ j ∷ w)
             (λ q. new (List·Memᴰ·head (sym q)))
             (λ q. once (Memᴰ·cast (q ∙ sym ends) (last-visited (b .next) (b .others))))
@@ -213,13 +213,13 @@ module _ (bs : List ℕ) (n t : ℕ) (ok : planFault bs n t ≡ 0) (s z : ℕ) (
 
   -- For all stations it is the count where the pair has more than one hop.
   pub touched-all :
-      (m : ℕ → Bool) → ((v : ℕ) → v < n → m v ≡ true) → 1 < hops (shortestPaths (planOf bs n t) s z) →
-      touched (planOf bs n t) s z m ≡ count (shortestPaths (planOf bs n t) s z)
+      (m : ℕ → Bool) → ((v : ℕ) → v < n → m v ≡ true) → 1 < hops (shortestPaths (planOf bs n t terms) s z) →
+      touched (planOf bs n t terms) s z m ≡ count (shortestPaths (planOf bs n t terms) s z)
   unfolding touched planOf
   touched-all m every more =
       ap length
-      (select-all (touches (planOf bs n t) s z m) (shortestPaths (planOf bs n t) s z)
+      (select-all (touches (planOf bs n t terms) s z m) (shortestPaths (planOf bs n t terms) s z)
       (λ w there.
-      let (path, size) = in-complete-list bs n t ok s z w .0 there in
+      let (path, size) = in-complete-list bs n t terms ok s z w .0 there in
       let (v, inside, interior) = first-inside w path (omega arith) in
-      touches-intro (planOf bs n t) s z m v w inside (every v inside) interior))
+      touches-intro (planOf bs n t terms) s z m v w inside (every v inside) interior))

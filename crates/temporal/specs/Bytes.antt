@@ -4,7 +4,7 @@ use Prim.Native.Nat.{ℕ, _+_, _*_, _/_}
 use mathlib.Core.List.{List, map}
 use lib.ListN.{length, getD}
 use Rattle.temporal.specs.Lists.{below}
-use Rattle.temporal.specs.Plan.{Contact, Plan}
+use Rattle.temporal.specs.Plan.{Contact, Plan, Terms}
 
 -- the 16-bit number whose first byte stands at k, high byte first; a byte past the end counts as 0
 unfoldable pub wordAt : List ℕ → ℕ → ℕ
@@ -18,6 +18,6 @@ contactAt bs i = record { slot = wordAt bs (i * 6); sender = wordAt bs (i * 6 + 
 unfoldable pub records : List ℕ → ℕ
 records bs = length bs / 6
 
--- the plan that bytes say; the numbers of stations and of slots come with the call
-unfoldable pub planOf : List ℕ → ℕ → ℕ → Plan
-planOf bs n t = record { stations = n; slots = t; contacts = map (contactAt bs) (below (records bs)) }
+-- the plan that bytes say; the numbers of stations and of slots and the units' terms come with the call
+unfoldable pub planOf : List ℕ → ℕ → ℕ → Terms → Plan
+planOf bs n t terms = record { stations = n; slots = t; contacts = map (contactAt bs) (below (records bs)); terms = terms }

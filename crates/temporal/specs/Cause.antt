@@ -1,4 +1,5 @@
--- The causes of refusal, 1 to 9, in the order of document 01. (10 is about an offered list: Cursor.) Definitions only.
+-- The causes of refusal, 1 to 9, in the order of document 01, and document 02's 12. (10 is about an offered list: Cursor.)
+-- Definitions only.
 -- Assumes nothing.
 use Prim.Native.Nat.{ℕ, zero, suc, _+_, _-_, _%_, _^_}
 use mathlib.Core.Bool.{Bool, not, cond, _&&_, _||_}
@@ -6,7 +7,7 @@ use mathlib.Core.List.{List, [], _∷_, flatMap}
 use lib.Dec.{leb, ltb, eqb}
 use lib.ListN.{length}
 use Rattle.temporal.specs.Lists.{below, any}
-use Rattle.temporal.specs.Plan.{Contact, Plan}
+use Rattle.temporal.specs.Plan.{Contact, Plan, Terms}
 use Rattle.temporal.specs.Shortest.{shortestWalks, shortestPaths, count}
 use Rattle.temporal.specs.Bytes.{contactAt, records}
 
@@ -64,9 +65,14 @@ planCauses bs n t = cause 1 (outside n t) ∷ cause 2 (wrongLength bs) ∷ flatM
 unfoldable pub planFault : List ℕ → ℕ → ℕ → ℕ
 planFault bs n t = first (planCauses bs n t)
 
--- 6, 7, 8 of a call that names a pair; the Boolean says that something lent is too short
-unfoldable pub pairCauses : ℕ → ℕ → ℕ → Bool → List ℕ
-pairCauses n s z short = cause 6 (leb n s || leb n z) ∷ cause 7 (eqb s z) ∷ cause 8 short ∷ []
+-- 12: the turnaround is outside 1 to 16 (document 02, C-17)
+unfoldable pub wrongTurnaround : Terms → Bool
+wrongTurnaround terms = eqb (terms .turnaround) 0 || ltb 16 (terms .turnaround)
+
+-- 12, 6, 7, 8 of a call that names a pair; the Boolean says that something lent is too short
+unfoldable pub pairCauses : Terms → ℕ → ℕ → ℕ → Bool → List ℕ
+pairCauses terms n s z short =
+    cause 12 (wrongTurnaround terms) ∷ cause 6 (leb n s || leb n z) ∷ cause 7 (eqb s z) ∷ cause 8 short ∷ []
 
 -- 6 and 8 of a call that names one station
 unfoldable pub stationCauses : ℕ → ℕ → Bool → List ℕ

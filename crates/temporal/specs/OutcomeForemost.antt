@@ -5,7 +5,7 @@ use Prim.Native.Nat.{ℕ}
 use mathlib.Core.Bool.{cond, _||_}
 use mathlib.Core.List.{List, _++_, map}
 use Rattle.temporal.specs.Lists.{below}
-use Rattle.temporal.specs.Plan.{Plan}
+use Rattle.temporal.specs.Plan.{Plan, Terms}
 use Rattle.temporal.specs.Shortest.{hops, count, throughIn}
 use Rattle.temporal.specs.Foremost.{arrival, foremostPaths}
 use Rattle.temporal.specs.Bytes.{planOf}
@@ -22,7 +22,7 @@ pub record ForemostValues : Type 0 where
 unfoldable pub foremostThrough : Plan → ℕ → ℕ → ℕ → ℕ
 foremostThrough p s z v = throughIn p s z (foremostPaths p s z) v
 
--- The operation once 1 to 8 are excluded. 9 looks at appearances alone, those after the arrival among them: a station's sum
+-- The operation once 1 to 8 and 12 are excluded. 9 looks at appearances alone, those after the arrival among them: a station's sum
 -- over slots is no cause. Where there is no path: slot 65535, 65535 hops, count 0, and all through counts 0.
 unfoldable pub foremostPaired : Plan → ℕ → ℕ → PairBuffers → Outcome ForemostValues PairBuffers
 foremostPaired p s z old =
@@ -48,9 +48,9 @@ foremostPaired p s z old =
       };
     })
 
--- Arguments, buffers and the causes 1 to 8 are those of pair.
-unfoldable pub foremost : List ℕ → ℕ → ℕ → ℕ → ℕ → PairBuffers → Outcome ForemostValues PairBuffers
-foremost bs n t s z old =
+-- Arguments, buffers and the causes 1 to 8 and 12 are those of pair.
+unfoldable pub foremost : List ℕ → ℕ → ℕ → Terms → ℕ → ℕ → PairBuffers → Outcome ForemostValues PairBuffers
+foremost bs n t terms s z old =
     entered
-    (planCauses bs n t ++ pairCauses n s z (short n (old .throughTable) || short (workSize n t) (old .work)))
-    (record { slot = 0; hops = 0; count = 0 }) old (foremostPaired (planOf bs n t) s z old)
+    (planCauses bs n t ++ pairCauses terms n s z (short n (old .throughTable) || short (workSize n t) (old .work)))
+    (record { slot = 0; hops = 0; count = 0 }) old (foremostPaired (planOf bs n t terms) s z old)

@@ -4,11 +4,11 @@ use Prim.Native.Nat.{ℕ}
 use mathlib.Core.Bool.{cond, _||_}
 use mathlib.Core.List.{List, [], _∷_, _++_, map}
 use Rattle.temporal.specs.Lists.{below}
-use Rattle.temporal.specs.Plan.{Plan}
+use Rattle.temporal.specs.Plan.{Plan, Terms}
 use Rattle.temporal.specs.Shortest.{shortestPaths, hops, count, through}
 use Rattle.temporal.specs.Load.{pairs, load, busiestOf}
 use Rattle.temporal.specs.Bytes.{planOf}
-use Rattle.temporal.specs.Cause.{cause, planCauses, pairCauses, tooMany, tooManyAnywhere}
+use Rattle.temporal.specs.Cause.{cause, planCauses, wrongTurnaround, pairCauses, tooMany, tooManyAnywhere}
 use Rattle.temporal.specs.Outcome.{Outcome, entered, over, cleared, short, workSize}
 
 -- ---- Operation 4, pair
@@ -21,7 +21,7 @@ pub record PairBuffers : Type 0 where
   pub throughTable : List ℕ
   pub work : List ℕ
 
--- pair once 1 to 8 are excluded. Where there is no path: 65535 hops, count 0, and all through counts 0.
+-- pair once 1 to 8 and 12 are excluded. Where there is no path: 65535 hops, count 0, and all through counts 0.
 unfoldable pub paired : Plan → ℕ → ℕ → PairBuffers → Outcome PairValues PairBuffers
 paired p s z old =
     cond (tooMany p s)
@@ -42,11 +42,11 @@ paired p s z old =
       };
     })
 
-unfoldable pub pair : List ℕ → ℕ → ℕ → ℕ → ℕ → PairBuffers → Outcome PairValues PairBuffers
-pair bs n t s z old =
+unfoldable pub pair : List ℕ → ℕ → ℕ → Terms → ℕ → ℕ → PairBuffers → Outcome PairValues PairBuffers
+pair bs n t terms s z old =
     entered
-    (planCauses bs n t ++ pairCauses n s z (short n (old .throughTable) || short (workSize n t) (old .work)))
-    (record { hops = 0; count = 0 }) old (paired (planOf bs n t) s z old)
+    (planCauses bs n t ++ pairCauses terms n s z (short n (old .throughTable) || short (workSize n t) (old .work)))
+    (record { hops = 0; count = 0 }) old (paired (planOf bs n t terms) s z old)
 
 -- ---- Operation 5, loads
 
@@ -55,7 +55,7 @@ pub record LoadBuffers : Type 0 where
   pub loadTable : List ℕ
   pub work : List ℕ
 
--- loads once 1 to 8 are excluded; every source is worked on
+-- loads once 1 to 8 and 12 are excluded; every source is worked on
 unfoldable pub loaded : Plan → LoadBuffers → Outcome (Unit {0}) LoadBuffers
 loaded p old =
     cond (tooManyAnywhere p)
@@ -78,16 +78,16 @@ loaded p old =
       };
     })
 
-unfoldable pub loads : List ℕ → ℕ → ℕ → LoadBuffers → Outcome (Unit {0}) LoadBuffers
-loads bs n t old =
+unfoldable pub loads : List ℕ → ℕ → ℕ → Terms → LoadBuffers → Outcome (Unit {0}) LoadBuffers
+loads bs n t terms old =
     entered
-    (planCauses bs n t ++
+    (planCauses bs n t ++ cause 12 (wrongTurnaround terms) ∷
     cause 8 (short n (old .pairsTable) || (short n (old .loadTable) || short (workSize n t) (old .work))) ∷ [])
-    tt old (loaded (planOf bs n t) old)
+    tt old (loaded (planOf bs n t terms) old)
 
 -- ---- Operation 6, busiest
 
--- busiest once 1 to 8 are excluded; every source is worked on
+-- busiest once 1 to 8 and 12 are excluded; every source is worked on
 unfoldable pub compared : Plan → List ℕ → Outcome ℕ (List ℕ)
 compared p old =
     cond (tooManyAnywhere p)
@@ -95,6 +95,7 @@ compared p old =
     (record { number = 0; values = busiestOf p; buffers = cleared (workSize (p .stations) (p .slots)) old })
 
 -- its value is the station, and the work area is all that is lent
-unfoldable pub busiest : List ℕ → ℕ → ℕ → List ℕ → Outcome ℕ (List ℕ)
-busiest bs n t old =
-    entered (planCauses bs n t ++ cause 8 (short (workSize n t) old) ∷ []) 0 old (compared (planOf bs n t) old)
+unfoldable pub busiest : List ℕ → ℕ → ℕ → Terms → List ℕ → Outcome ℕ (List ℕ)
+busiest bs n t terms old =
+    entered (planCauses bs n t ++ cause 12 (wrongTurnaround terms) ∷ cause 8 (short (workSize n t) old) ∷ []) 0 old
+    (compared (planOf bs n t terms) old)

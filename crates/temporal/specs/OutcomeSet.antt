@@ -7,7 +7,7 @@ use mathlib.Core.List.{List, [], _∷_, _++_}
 use lib.Dec.{ltb, eqb}
 use lib.ListN.{getD}
 use Rattle.temporal.specs.Lists.{below, any}
-use Rattle.temporal.specs.Plan.{Plan}
+use Rattle.temporal.specs.Plan.{Plan, Terms}
 use Rattle.temporal.specs.Set.{touched}
 use Rattle.temporal.specs.Bytes.{planOf}
 use Rattle.temporal.specs.Cause.{cause, planCauses, pairCauses, tooMany}
@@ -21,12 +21,12 @@ isMember set v = eqb (getD set v 0) 1
 unfoldable pub wrongSet : ℕ → List ℕ → Bool
 wrongSet n set = any (λ v. ltb 1 (getD set v 0)) (below n)
 
--- 6, 7, 8 and 11 of a call that names a pair and a set; 8 is for the set and for the work area
-unfoldable pub setCauses : ℕ → ℕ → ℕ → ℕ → List ℕ → List ℕ → List ℕ
-setCauses n t s z set old =
-    pairCauses n s z (short n set || short (workSize n t) old) ++ cause 11 (wrongSet n set) ∷ []
+-- 12, 6, 7, 8 and 11 of a call that names a pair and a set; 8 is for the set and for the work area
+unfoldable pub setCauses : ℕ → ℕ → Terms → ℕ → ℕ → List ℕ → List ℕ → List ℕ
+setCauses n t terms s z set old =
+    pairCauses terms n s z (short n set || short (workSize n t) old) ++ cause 11 (wrongSet n set) ∷ []
 
--- the operation once 1 to 8 and 11 are excluded; where there is no path it is 0
+-- the operation once 1 to 8, 11 and 12 are excluded; where there is no path it is 0
 unfoldable pub setCounted : Plan → ℕ → ℕ → List ℕ → List ℕ → Outcome ℕ (List ℕ)
 setCounted p s z set old =
     cond (tooMany p s)
@@ -39,6 +39,6 @@ setCounted p s z set old =
 
 -- How many shortest paths from s to z have at least one member of the set inside. The set is only read; the work area is all
 -- that is lent to write to.
-unfoldable pub throughSet : List ℕ → ℕ → ℕ → ℕ → ℕ → List ℕ → List ℕ → Outcome ℕ (List ℕ)
-throughSet bs n t s z set old =
-    entered (planCauses bs n t ++ setCauses n t s z set old) 0 old (setCounted (planOf bs n t) s z set old)
+unfoldable pub throughSet : List ℕ → ℕ → ℕ → Terms → ℕ → ℕ → List ℕ → List ℕ → Outcome ℕ (List ℕ)
+throughSet bs n t terms s z set old =
+    entered (planCauses bs n t ++ setCauses n t terms s z set old) 0 old (setCounted (planOf bs n t terms) s z set old)

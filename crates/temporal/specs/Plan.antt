@@ -1,10 +1,10 @@
 -- A plan of slots, and the two rules by which a reading is passed on. Definitions only.
 -- Assumes nothing.
-use Prim.Native.Nat.{ℕ}
-use mathlib.Core.Bool.{Bool, cond}
+use Prim.Native.Nat.{ℕ, _+_}
+use mathlib.Core.Bool.{Bool, cond, _&&_, _||_}
 use mathlib.Core.List.{List}
 use mathlib.Core.Option.{Option, none, some}
-use lib.Dec.{ltb, eqb}
+use lib.Dec.{ltb, leb, eqb}
 
 -- Document 01's contact (t, a, b), as document 02 (C-16) reads it: a sends and b hears in slot t. Document 002's directed
 -- edge (a, b, t) (Def. 2.1); document 000's time edge (Def. 1) is two of them.
@@ -13,12 +13,22 @@ pub record Contact : Type 0 where
   pub sender : ℕ
   pub hearer : ℕ
 
+-- The units' terms: document 02's turnaround g (C-17), the number of slots from hearing a reading to sending it on.
+pub record Terms : Type 0 where
+  pub turnaround : ℕ
+
+-- units with a turnaround
+abbrev pub turning : ℕ → Terms
+turning g = record { turnaround = g }
+
 -- Document 01's plan, document 000's temporal graph (V, E, T) (Def. 1): stations 0 to stations - 1, slots 1 to slots,
--- and the contacts in the order of their records. A contact's place in this list is its position, counted from 0.
+-- the contacts in the order of their records, and the terms of its units. A contact's place in the list is its position, counted
+-- from 0.
 pub record Plan : Type 0 where
   pub stations : ℕ
   pub slots : ℕ
   pub contacts : List Contact
+  pub terms : Terms
 
 -- Document 01's appearance (v, t), document 000's vertex appearance (section 2.1): a station, reached in a slot.
 pub record Appearance : Type 0 where
@@ -35,8 +45,8 @@ start s = record { station = s; slot = 0 }
 unfoldable pub leadsTo : Contact → ℕ → Option ℕ
 leadsTo c v = cond (eqb v (c .sender)) (some (c .hearer)) none
 
--- Second rule: whether, in a plan, a contact in slot u may follow an appearance in slot t. Strictly later
--- (document 000, Def. 2, strict), so nothing is sent on in the slot of hearing; any later slot will do, and after the
--- start any slot.
+-- Second rule: whether, in a plan, a contact in slot u may follow an appearance in slot t. Strictly later (document 000, Def. 2,
+-- strict), so nothing is sent on in the slot of hearing; and what is heard in slot t goes out in slot t + g or later (document 02,
+-- C-17). After the start, which is slot 0, any slot will do.
 unfoldable pub mayFollow : Plan → ℕ → ℕ → Bool
-mayFollow p t u = ltb t u
+mayFollow p t u = ltb t u && (eqb t 0 || leb (t + p .terms .turnaround) u)

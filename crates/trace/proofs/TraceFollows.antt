@@ -65,9 +65,9 @@ module _ (q : Question) (asked : Asked q) where
   listOf-paths =
       record {
         one-length = λ w m.
-            let complete = in-complete-list (q .bytes) (q .stations) (q .slots) (asked .accepted) in
+            let complete = in-complete-list (q .bytes) (q .stations) (q .slots) (q .terms) (asked .accepted) in
             complete (q .source) (q .destination) w .0 m .1 ∙ kept-member m;
-        rises = complete-list-rises (planOf (q .bytes) (q .stations) (q .slots)) (q .source) (q .destination);
+        rises = complete-list-rises (planOf (q .bytes) (q .stations) (q .slots) (q .terms)) (q .source) (q .destination);
       }
 
   -- they have no more positions than the plan has slots
@@ -76,8 +76,8 @@ module _ (q : Question) (asked : Asked q) where
   kept-within-slots =
       kept-within (listOf q) (q .slots)
       (hops-bound
-      (bounded-paths (planOf (q .bytes) (q .stations) (q .slots))
-      (slots-within (q .bytes) (q .stations) (q .slots) (asked .accepted)) (q .source) (q .destination)))
+      (bounded-paths (planOf (q .bytes) (q .stations) (q .slots) (q .terms))
+      (slots-within (q .bytes) (q .stations) (q .slots) (q .terms) (asked .accepted)) (q .source) (q .destination)))
 
 -- ---- a call
 
@@ -88,7 +88,7 @@ slots-lent c e =
     let q = c .question in
     let call = first-append-left (wayCauses q (c .lent) (c .work)) (overflow q ∷ []) e in
     let pair = first-append-right (planCauses (q .bytes) (q .stations) (q .slots)) _ call in
-    let short = first-head 7 _ [] (first-tail 6 _ _ (first-tail 5 _ _ pair)) in
+    let short = first-head 7 _ [] (first-tail 6 _ _ (first-tail 5 _ _ (first-tail 11 _ _ pair))) in
     ltb-false (c .lent) (q .slots) (or-false-left (ltb (c .lent) (q .slots)) _ short)
 
 -- the first cause of a list with one more behind it

@@ -13,7 +13,7 @@ use lib.ListN.{length, getElem?}
 use Rattle.temporal.specs.Plan.{Contact, Plan, Appearance, leadsTo, mayFollow}
 use Rattle.temporal.specs.Walk.{endsIn, isAt}
 use Rattle.temporal.proofs.ListLaws.{not-both}
-use Rattle.temporal.proofs.RuleLaws.{follows-later, follows-after}
+use Rattle.temporal.proofs.RuleLaws.{follows-earlier}
 use Rattle.temporal.proofs.ShortestLaws.{Bounded}
 use Rattle.temporal.proofs.WalkLaws.{step-inv, step-intro, step-position, run-slots, run-positions}
 use Rattle.temporal.proofs.WalkLaws.{SlotsWithin, run-last-within, ends-inv, ends-nil, ends-step, ends-after}
@@ -73,9 +73,9 @@ module _ (p : Plan) (z : ℕ) where
               let from = a .starts in
               omega arith
 
-  -- where no position before j has a contact in a later slot, all walks start from j on
+  -- where no contact before position j may follow x, all walks from x start from j on
   pub ahead-all : (x : Appearance) (j h : ℕ)
-      → ((i : ℕ) (c : Contact) → i < j → getElem? (p .contacts) i ≡ some c → c .slot ≤ x .slot)
+      → ((i : ℕ) (c : Contact) → i < j → getElem? (p .contacts) i ≡ some c → mayFollow p (x .slot) (c .slot) ≡ false)
       → Fewest (Ahead p z j x) h
       → Fewest (λ w. endsIn p x (isAt z) w ≡ true) h
   unfolding StartsFrom
@@ -89,52 +89,47 @@ module _ (p : Plan) (z : ℕ) where
           sooner q =
               let (y, steps, rest) = ends-step p x (isAt z) i w e in
               let s = step-inv p x i steps in
-              let later = follows-later p (x .slot) (s .contact .slot) (s .follows) in
-              let old = before i (s .contact) (omega arith) (s .at-position) in
-              omega arith
+              not-both (s .follows) (before i (s .contact) (omega arith) (s .at-position))
 
-  -- (turnaround) Walks that start from j on are the same from two slots of a station, where every contact from j on is
-  -- in a later slot than both.
+  -- Walks that start from j on go from slot u′ of a station too, where every contact from j on that may follow slot u may
+  -- follow u′.
   ahead-moves : (v u u′ j : ℕ)
-      → ((i : ℕ) (c : Contact) → j ≤ i → getElem? (p .contacts) i ≡ some c → u′ < c .slot)
+      → ((i : ℕ) (c : Contact) → j ≤ i → getElem? (p .contacts) i ≡ some c
+      → mayFollow p u (c .slot) ≡ true
+      → mayFollow p u′ (c .slot) ≡ true)
       → (w : List ℕ)
       → Ahead p z j (appearance v u) w
       → Ahead p z j (appearance v u′) w
   unfolding StartsFrom
-  ahead-moves v u u′ j later [] a =
+  ahead-moves v u u′ j too [] a =
       record {
         ends = ends-nil p (appearance v u′) (isAt z) ∙ sym (ends-nil p (appearance v u) (isAt z)) ∙ a .ends;
         starts = tt;
       }
-  ahead-moves v u u′ j later (i ∷ w) a =
+  ahead-moves v u u′ j too (i ∷ w) a =
       let (y, steps, rest) = ends-step p (appearance v u) (isAt z) i w (a .ends) in
       let s = step-inv p (appearance v u) i steps in
-      let h = later i (s .contact) (a .starts) (s .at-position) in
       let again = step-intro p (appearance v u′) i (record {
         contact = s .contact;
         at-position = s .at-position;
         same-slot = s .same-slot;
-        follows = after (s .contact .slot) h;
+        follows = too i (s .contact) (a .starts) (s .at-position) (s .follows);
         leads = s .leads;
       }) in
       record { ends = ends-after p (appearance v u′) (isAt z) i w again rest; starts = a .starts }
-    where
-      after : (k : ℕ) → u′ < k → mayFollow p u′ k ≡ true
-      after ℕ.zero h = absurd (omega arith)
-      after (suc k) h = follows-after p u′ k (omega arith)
 
-  -- (turnaround) So they have the same fewest.
+  -- (kept) So they have the same fewest from two slots of a station, where every contact from j on may follow the later one.
   pub ahead-earlier : (v u j h : ℕ)
-      → ((i : ℕ) (c : Contact) → j ≤ i → getElem? (p .contacts) i ≡ some c → suc u < c .slot)
+      → ((i : ℕ) (c : Contact) → j ≤ i → getElem? (p .contacts) i ≡ some c → mayFollow p (suc u) (c .slot) ≡ true)
       → Fewest (Ahead p z j (appearance v (suc u))) h
       → Fewest (Ahead p z j (appearance v u)) h
-  ahead-earlier v u j h later =
+  ahead-earlier v u j h all =
       fewest-same
-      (ahead-moves v (suc u) u j (λ i c g e. let k = later i c g e in omega arith))
-      (ahead-moves v u (suc u) j later)
+      (ahead-moves v (suc u) u j (λ i c from there f. follows-earlier p (suc u) u (c .slot) (omega arith) f))
+      (ahead-moves v u (suc u) j (λ i c from there f. all i c from there))
 
-  -- a contact at j in the slot after u
-  module _ (v u j : ℕ) (c : Contact) (there : getElem? (p .contacts) j ≡ some c) (slot : c .slot ≡ suc u) where
+  -- a contact at j
+  module _ (v u j : ℕ) (c : Contact) (there : getElem? (p .contacts) j ≡ some c) where
     -- a later start is a start
     weaken : (w : List ℕ) → Ahead p z (suc j) (appearance v u) w → Ahead p z j (appearance v u) w
     unfolding StartsFrom
@@ -156,33 +151,33 @@ module _ (p : Plan) (z : ℕ) where
 
     -- a walk that starts with the contact goes on from where it leads
     onward : (r : List ℕ) → endsIn p (appearance v u) (isAt z) (j ∷ r) ≡ true
-        → (w : ℕ) × (leadsTo c v ≡ some w) × (endsIn p (appearance w (suc u)) (isAt z) r ≡ true)
+        → (w : ℕ) × (leadsTo c v ≡ some w) × (endsIn p (appearance w (c .slot)) (isAt z) r ≡ true)
     onward r e =
         let (y, steps, rest) = ends-step p (appearance v u) (isAt z) j r e in
         let s = step-inv p (appearance v u) j steps in
         let at = s .at-position in
         let same : s .contact ≡ c = cc in
-        let when : y .slot ≡ suc u = s .same-slot ∙ ap (λ (d : Contact). d .slot) same ∙ slot in
+        let when : y .slot ≡ c .slot = s .same-slot ∙ ap (λ (d : Contact). d .slot) same in
         let from = ap (λ (d : Contact). leadsTo d v) (sym same) ∙ s .leads in
         (y .station, from, ap (λ k. endsIn p (appearance (y .station) k) (isAt z) r) (sym when) ∙ rest)
 
-    -- (turnaround) Where the contact leads to w, the fewest with it is the smaller of those without it and one more
-    -- than
-    -- w has to go.
-    pub ahead-fold : {w h l : ℕ} → leadsTo c v ≡ some w → Fewest (Ahead p z (suc j) (appearance v u)) h
-        → Fewest (λ r. endsIn p (appearance w (suc u)) (isAt z) r ≡ true) l
+    -- Where the contact may follow slot u and leads to w, the fewest with it is the smaller of those without it and one more
+    -- than w has to go in the contact's slot.
+    pub ahead-fold : {w h l : ℕ} → mayFollow p u (c .slot) ≡ true → leadsTo c v ≡ some w
+        → Fewest (Ahead p z (suc j) (appearance v u)) h
+        → Fewest (λ r. endsIn p (appearance w (c .slot)) (isAt z) r ≡ true) l
         → Fewest (Ahead p z j (appearance v u)) (min h (l + 1))
     unfolding StartsFrom
-    ahead-fold {w} leads = fewest-joined j weaken begins out
+    ahead-fold {w} follows leads = fewest-joined j weaken begins out
       where
-        begins : (r : List ℕ) → endsIn p (appearance w (suc u)) (isAt z) r ≡ true → Ahead p z j (appearance v u) (j ∷ r)
+        begins : (r : List ℕ) → endsIn p (appearance w (c .slot)) (isAt z) r ≡ true → Ahead p z j (appearance v u) (j ∷ r)
         begins r e =
             record {
               ends = ends-after p (appearance v u) (isAt z) j r (step-intro p (appearance v u) j (record {
                 contact = c;
                 at-position = there;
-                same-slot = sym slot;
-                follows = rw slot (follows-after p u u (omega arith));
+                same-slot = refl;
+                follows = follows;
                 leads = leads;
               })) e;
               starts = omega arith;
@@ -190,12 +185,12 @@ module _ (p : Plan) (z : ℕ) where
 
         out : (r : List ℕ) → Ahead p z j (appearance v u) r
             → Ahead p z (suc j) (appearance v u) r
-            ⊎ ((q : List ℕ) × (r ≡ j ∷ q) × (endsIn p (appearance w (suc u)) (isAt z) q ≡ true))
+            ⊎ ((q : List ℕ) × (r ≡ j ∷ q) × (endsIn p (appearance w (c .slot)) (isAt z) q ≡ true))
         out r a = ⊎-elim inl first (at-or-later r a)
           where
             first : (q : List ℕ) × (r ≡ j ∷ q)
                 → Ahead p z (suc j) (appearance v u) r
-                ⊎ ((q : List ℕ) × (r ≡ j ∷ q) × (endsIn p (appearance w (suc u)) (isAt z) q ≡ true))
+                ⊎ ((q : List ℕ) × (r ≡ j ∷ q) × (endsIn p (appearance w (c .slot)) (isAt z) q ≡ true))
             first (q, whole) =
                 let (k, to, rest) = onward q (rw whole at (a .ends)) in
                 let same : k ≡ w = cc in

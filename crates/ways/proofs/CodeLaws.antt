@@ -4,19 +4,20 @@ use Prim.Native.Nat.{ℕ, suc, _+_, _-_, _*_, _/_, _≤_, _<_}
 use mathlib.Core.Path.{_≡_, refl, sym, ap, _∙_}
 use mathlib.Core.Bool.{Bool, true, false}
 use mathlib.Core.List.{List, _++_}
-use mathlib.Core.Logic.{_≢_}
+use mathlib.Core.Logic.{_⊎_, inl, inr, _≢_}
 use mathlib.Core.Option.{Option, none, some, Option·map, bind}
 use native.Mathlib.Omega.{arith}
 use native.Mathlib.Numerals.{add-one}
-use borrow.Author.Tests.{lt-ltb}
+use borrow.Author.Tests.{leb-true, leb-false}
 use lib.Arith.{digits-lt}
-use lib.Dec.{eqb}
+use lib.Dec.{leb, eqb}
 use lib.ListN.{length, getD, take}
 use lib.Seq.{take-suc, take-add}
-use Rattle.temporal.specs.Plan.{Contact, Plan, Appearance, leadsTo}
+use Rattle.temporal.specs.Plan.{Contact, Plan, Terms, turning, Appearance, leadsTo, mayFollow}
 use Rattle.temporal.specs.Walk.{step, run, lastOr, holds}
 use Rattle.temporal.specs.Bytes.{contactAt, records, planOf}
-use Rattle.temporal.proofs.RuleLaws.{follows-later, follows-test, leads-from-sender, leads-none}
+use Rattle.temporal.proofs.ListLaws.{not-both, not-true-false}
+use Rattle.temporal.proofs.RuleLaws.{follows-later, follows-intro, follows-inv, leads-from-sender, leads-none}
 use Rattle.temporal.proofs.Accepted.{accepted}
 use Rattle.temporal.proofs.PlanLaws.{contact-there, contact-inv, contacts-length}
 use Rattle.temporal.proofs.WalkLaws.{StepBy, step-inv, step-intro, step-position, run-append}
@@ -29,7 +30,7 @@ use Rattle.ways.specs.declared.End.the-variants as end
 use Rattle.ways.specs.declared.Found.{Found}
 use Rattle.ways.specs.declared.Found.the-variants as found
 use Rattle.ways.specs.Prefix.{endAfter}
-use Rattle.ways.specs.Found.{spotOf, endOf, foundOf, planIn, servesAt, firstFrom, Searchable}
+use Rattle.ways.specs.Found.{spotOf, endOf, foundOf, termsIn, planIn, servesAt, firstFrom, Searchable}
 use Rattle.ways.proofs.SearchLaws.{search-finds, search-passes, search-ends}
 use Rattle.ways.proofs.PrefixLaws.{end-nil, end-snoc, step-inside}
 
@@ -40,57 +41,86 @@ no-value (some a) n = absurd (n a refl)
 
 -- ---- a step
 
-module _ (bs : List ℕ) (n t : ℕ) (x : Appearance) (i : ℕ) where
+-- whether a contact in slot u may follow slot t, from comparisons of numbers
+module _ (p : Plan) (t u : ℕ) where
+  pub follow-early : u ≤ t → false ≡ mayFollow p t u
+  follow-early h = sym (not-true-false (mayFollow p t u) (λ e. let later = follows-later p t u e in omega arith))
+
+  -- after the start any later one
+  pub follow-start : t < u → t ≡ 0 → true ≡ mayFollow p t u
+  follow-start later h = sym (follows-intro p t u later (inl h))
+
+  -- after any other slot those from the turnaround on
+  pub follow-heard : (g : ℕ) → p .terms ≡ turning g → t < u → t ≢ 0 → leb g (u - t) ≡ mayFollow p t u
+  follow-heard g same later heard = go (leb g (u - t)) refl
+    where
+      turns : p .terms .turnaround ≡ g
+      turns = ap (λ (x : Terms). x .turnaround) same
+
+      too-soon : (t ≡ 0) ⊎ (t + p .terms .turnaround ≤ u) → u - t < g → ⊥
+      too-soon (inl h) short = heard h
+      too-soon (inr h) short = let e = turns in omega arith
+
+      go : (b : Bool) → leb g (u - t) ≡ b → b ≡ mayFollow p t u
+      go true q =
+          let long = leb-true g (u - t) q in
+          let e = turns in
+          sym (follows-intro p t u later (inr (omega arith)))
+      go false q =
+          let short = leb-false g (u - t) q in
+          sym (not-true-false (mayFollow p t u) (λ e. too-soon (follows-inv p t u e .1) short))
+
+module _ (bs : List ℕ) (n t : ℕ) (terms : Terms) (x : Appearance) (i : ℕ) where
   -- there is no such record
-  pub step-past : length bs / 6 ≤ i → none ≡ step (planOf bs n t) x i
+  pub step-past : length bs / 6 ≤ i → none ≡ step (planOf bs n t terms) x i
   unfolding records
   step-past h =
       no-value _ (λ y e.
-      let inside = step-position (planOf bs n t) x i e in
-      let size = contacts-length bs n t in
+      let inside = step-position (planOf bs n t terms) x i e in
+      let size = contacts-length bs n t terms in
       omega arith)
 
   module _ (r : plan.Contact) (read : contactOf r ≡ contactAt bs i) (there : i < length bs / 6) where
     -- the contact of a step is the record that was read
-    contact-read : {y : Appearance} (s : StepBy (planOf bs n t) x i y) → s .contact ≡ contactOf r
-    contact-read s = sym (contact-inv bs n t i (s .contact) (s .at-position) .1) ∙ sym read
+    contact-read : {y : Appearance} (s : StepBy (planOf bs n t terms) x i y) → s .contact ≡ contactOf r
+    contact-read s = sym (contact-inv bs n t terms i (s .contact) (s .at-position) .1) ∙ sym read
 
-    -- the record's slot is not later
-    pub step-early : r .slot ≤ x .slot → none ≡ step (planOf bs n t) x i
-    step-early h =
-        no-value _ (λ y e.
-        let s = step-inv (planOf bs n t) x i e in
-        let later = follows-later (planOf bs n t) (x .slot) (s .contact .slot) (s .follows) in
-        let same = ap (λ (c : Contact). c .slot) (contact-read s) in
-        omega arith)
-
-    -- (turnaround) the record leads on to w
-    step-to : (w : ℕ) → x .slot < r .slot → leadsTo (contactOf r) (x .station) ≡ some w
-        → some (record { station = w; slot = r .slot }) ≡ step (planOf bs n t) x i
-    unfolding records
-    step-to w later leads =
-        sym (step-intro (planOf bs n t) x i (record {
-          contact = contactOf r;
-          at-position = contact-there bs n t i there ∙ ap some (sym read);
-          same-slot = refl;
-          follows = follows-test (planOf bs n t) (x .slot) (r .slot) ∙ lt-ltb (x .slot) (r .slot) later;
-          leads = leads;
-        }))
-
-    -- from its sender to its hearer
-    pub step-from-sender : x .slot < r .slot → x .station ≡ r .sender
-        → some (record { station = r .hearer; slot = r .slot }) ≡ step (planOf bs n t) x i
-    step-from-sender later at = step-to (r .hearer) later (ap (leadsTo (contactOf r)) at ∙ leads-from-sender (contactOf r))
-
-    -- from no other station
-    pub step-from-none : x .station ≢ r .sender → none ≡ step (planOf bs n t) x i
+    -- from a station that is not its sender it leads nowhere
+    pub step-from-none : x .station ≢ r .sender → none ≡ step (planOf bs n t terms) x i
     step-from-none other =
         no-value _ (λ y e.
-        let s = step-inv (planOf bs n t) x i e in
+        let s = step-inv (planOf bs n t terms) x i e in
         let leads = ap (λ (c : Contact). leadsTo c (x .station)) (sym (contact-read s)) ∙ s .leads in
         let nowhere = leads-none (contactOf r) (x .station) other in
         let z : _≡_ {A = ℕ} 0 1 = cc in
         omega arith)
+
+    module _ (b : Bool) (test : (p : Plan) → p .terms ≡ terms → b ≡ mayFollow p (x .slot) (r .slot)) where
+      test-here : b ≡ mayFollow (planOf bs n t terms) (x .slot) (r .slot)
+      unfolding planOf
+      test-here = test (planOf bs n t terms) refl
+
+      -- the record may not follow
+      pub step-waits : b ≡ false → none ≡ step (planOf bs n t terms) x i
+      step-waits h =
+          no-value _ (λ y e.
+          let s = step-inv (planOf bs n t terms) x i e in
+          let follows =
+          ap (λ (c : Contact). mayFollow (planOf bs n t terms) (x .slot) (c .slot)) (sym (contact-read s)) ∙ s .follows in
+          not-both follows (sym test-here ∙ h))
+
+      -- from its sender to its hearer
+      pub step-from-sender : b ≡ true → x .station ≡ r .sender
+          → some (record { station = r .hearer; slot = r .slot }) ≡ step (planOf bs n t terms) x i
+      unfolding records
+      step-from-sender h at =
+          sym (step-intro (planOf bs n t terms) x i (record {
+            contact = contactOf r;
+            at-position = contact-there bs n t terms i there ∙ ap some (sym read);
+            same-slot = refl;
+            follows = sym test-here ∙ h;
+            leads = ap (leadsTo (contactOf r)) at ∙ leads-from-sender (contactOf r);
+          }))
 
 -- ---- a walk along a buffer
 
@@ -105,53 +135,53 @@ end-off p x u w e = rw run-append (go (run p x u) e)
     go (some l) e = absurd (let z : _≡_ {A = ℕ} 0 1 = cc in omega arith)
 
 -- the first i of k entries lead from x₀ to x
-pub record Walking (bs way : List ℕ) (x₀ : Spot) (k i : ℕ) (x : Spot) : Type 0 where
+pub record Walking (bs : List ℕ) (terms : Terms) (way : List ℕ) (x₀ : Spot) (k i : ℕ) (x : Spot) : Type 0 where
   pub within : i ≤ k
-  pub there : (n t : ℕ) → endAfter (planOf bs n t) (spotOf x₀) (take i way) ≡ some (spotOf x)
+  pub there : (n t : ℕ) → endAfter (planOf bs n t terms) (spotOf x₀) (take i way) ≡ some (spotOf x)
 
-module _ (bs way : List ℕ) (x₀ : Spot) (k : ℕ) where
+module _ (bs : List ℕ) (terms : Terms) (way : List ℕ) (x₀ : Spot) (k : ℕ) where
   -- no entry leads to where it began
-  pub walking-none : Walking bs way x₀ k 0 x₀
-  walking-none = record { within = omega arith; there = λ n t. end-nil (planOf bs n t) (spotOf x₀) }
+  pub walking-none : Walking bs terms way x₀ k 0 x₀
+  walking-none = record { within = omega arith; there = λ n t. end-nil (planOf bs n t terms) (spotOf x₀) }
 
-  module _ (i : ℕ) (x : Spot) (s : Walking bs way x₀ k i x) (more : i < k) (room : k ≤ length way) (r : End) (j : ℕ)
-      (entry : j ≡ getD way i 0) (answer : (n t : ℕ) → endOf r ≡ step (planOf bs n t) (spotOf x) j) where
+  module _ (i : ℕ) (x : Spot) (s : Walking bs terms way x₀ k i x) (more : i < k) (room : k ≤ length way) (r : End) (j : ℕ)
+      (entry : j ≡ getD way i 0) (answer : (n t : ℕ) → endOf r ≡ step (planOf bs n t terms) (spotOf x) j) where
     -- one entry more
-    one-more : (n t : ℕ) → endAfter (planOf bs n t) (spotOf x₀) (take (suc i) way) ≡ endOf r
+    one-more : (n t : ℕ) → endAfter (planOf bs n t terms) (spotOf x₀) (take (suc i) way) ≡ endOf r
     unfolding bind
     one-more n t =
-        ap (endAfter (planOf bs n t) (spotOf x₀)) (take-suc way i 0 (omega arith))
-        ∙ end-snoc (planOf bs n t) (spotOf x₀) (take i way) (getD way i 0)
+        ap (endAfter (planOf bs n t terms) (spotOf x₀)) (take-suc way i 0 (omega arith))
+        ∙ end-snoc (planOf bs n t terms) (spotOf x₀) (take i way) (getD way i 0)
         ∙ rw (s .there n t) (rw (← entry) (sym (answer n t)))
 
     -- an entry that leads on
-    pub walking-more : (y : Spot) → r ≡ end.At y → Walking bs way x₀ k (i + 1) y
+    pub walking-more : (y : Spot) → r ≡ end.At y → Walking bs terms way x₀ k (i + 1) y
     unfolding endOf
     walking-more y e =
         record { within = omega arith; there = λ n t. rw add-one (one-more n t ∙ ap endOf e) }
 
     -- an entry that leads nowhere: so do all k
     pub walking-off : r ≡ end.Nowhere → (n t : ℕ)
-        → endOf end.Nowhere ≡ endAfter (planOf bs n t) (spotOf x₀) (take k way)
+        → endOf end.Nowhere ≡ endAfter (planOf bs n t terms) (spotOf x₀) (take k way)
     unfolding endOf
     walking-off e n t =
         let whole : k ≡ suc i + (k - suc i) = omega arith in
-        sym (ap (λ m. endAfter (planOf bs n t) (spotOf x₀) (take m way)) whole
-        ∙ ap (endAfter (planOf bs n t) (spotOf x₀)) (take-add (suc i) (k - suc i) way)
-        ∙ end-off (planOf bs n t) (spotOf x₀) (take (suc i) way) _ (one-more n t ∙ ap endOf e))
+        sym (ap (λ m. endAfter (planOf bs n t terms) (spotOf x₀) (take m way)) whole
+        ∙ ap (endAfter (planOf bs n t terms) (spotOf x₀)) (take-add (suc i) (k - suc i) way)
+        ∙ end-off (planOf bs n t terms) (spotOf x₀) (take (suc i) way) _ (one-more n t ∙ ap endOf e))
 
   -- no entry is left
-  pub walking-end : (i : ℕ) (x : Spot) → Walking bs way x₀ k i x → k ≤ i
-      → (n t : ℕ) → endOf (end.At x) ≡ endAfter (planOf bs n t) (spotOf x₀) (take k way)
+  pub walking-end : (i : ℕ) (x : Spot) → Walking bs terms way x₀ k i x → k ≤ i
+      → (n t : ℕ) → endOf (end.At x) ≡ endAfter (planOf bs n t terms) (spotOf x₀) (take k way)
   unfolding endOf
   walking-end i x s past n t =
       let whole : i ≡ k = let h = s .within in omega arith in
-      sym (ap (λ m. endAfter (planOf bs n t) (spotOf x₀) (take m way)) (sym whole) ∙ s .there n t)
+      sym (ap (λ m. endAfter (planOf bs n t terms) (spotOf x₀) (take m way)) (sym whole) ∙ s .there n t)
 
 -- ---- a position that serves
 
 module _ (bs : List ℕ) (q : Pair) (l : List ℕ) (x : Spot) (need i : ℕ) (r : End)
-    (answer : (n t : ℕ) → endOf r ≡ step (planOf bs n t) (spotOf x) i) where
+    (answer : (n t : ℕ) → endOf r ≡ step (planOf bs n t (termsIn q)) (spotOf x) i) where
   -- a position that leads nowhere does not serve
   pub serves-nowhere : r ≡ end.Nowhere → false ≡ servesAt (planIn bs q) l (q .slots + 1) (spotOf x) need i
   unfolding servesAt holds endOf
@@ -171,7 +201,7 @@ module _ (bs : List ℕ) (q : Pair) (l : List ℕ) (x : Spot) (need i : ℕ) (r 
     serves-room s =
         let steps : step (planIn bs q) (spotOf x) i ≡ some (spotOf y) =
         sym (answer (q .stations) (q .slots)) ∙ ap endOf e in
-        let (station, slot) = step-inside bs (q .stations) (q .slots) (s .accepted) (spotOf x) i steps in
+        let (station, slot) = step-inside bs (q .stations) (q .slots) (termsIn q) (s .accepted) (spotOf x) i steps in
         let place : y .station * (q .slots + 1) + y .slot < q .stations * (q .slots + 1) =
         digits-lt station (omega arith) in
         let fits = s .table .fits in

@@ -4,16 +4,20 @@ use Prim.Native.Nat.{ℕ, zero, suc, _+_, _-_, _*_, _/_, _%_, _<_, _≤_, min}
 use native.Mathlib.Omega.{arith}
 use native.Mathlib.Decide.{ℕ-discrete}
 use mathlib.Core.Path.{_≡_, refl, sym, ap, subst, _∙_}
+use mathlib.Core.Bool.{true, false, and-eq-true-iff}
 use mathlib.Core.List.{List}
 use mathlib.Core.Logic.{by-cases, _≢_}
+use borrow.Author.Tests.{ltb-true, lt-ltb, le-ltb, eqb-true, eq-eqb}
 use lib.Arith.{digits-lt, digits-div, digits-mod}
+use lib.Dec.{ltb, eqb}
 use lib.ListN.{length, getD, set, drop, length-set}
 use lib.Seq.{getD-set-same, getD-set-other, drop-set-lt, set-getD}
 use Rattle.temporal.specs.Plan.{Contact}
 use Rattle.temporal.specs.Bytes.{contactAt}
 use Rattle.plan.specs.declared.Contact as plan
 use Rattle.plan.specs.Record.{contactOf}
-use Rattle.ways.specs.Column.{lowered, foldedBack, copiedFrom, FoldableBack}
+use Rattle.ways.specs.Column.{lowered, foldedBack, copiedFrom, lastInSlot, leftBefore, foldedColumn}
+use Rattle.ways.specs.Column.{FoldableBack, FoldableColumn}
 
 -- an entry of n stations lies within a list that has room for them
 pub place-below : {v u n width size : ℕ} → v < n → u < width → n * width ≤ size → v * width + u < size
@@ -72,58 +76,143 @@ lowered-more l at from h =
 -- ---- a contact is folded in
 
 -- the entries of the record that was read lie within the list
-pub read-room : (bs : List ℕ) (width u j : ℕ) (l : List ℕ) (r : plan.Contact) → FoldableBack bs width u j l
+pub read-room : (bs : List ℕ) (width u k j : ℕ) (l : List ℕ) (r : plan.Contact) → FoldableBack bs width u k j l
     → contactOf r ≡ contactAt bs j
-    → (r .sender * width + u + 1 < length l) × (r .hearer * width + u + 1 < length l)
-read-room bs width u j l r f e = (
-  subst (λ (c : Contact). c .sender * width + u + 1 < length l) (sym e) (f .sender-entry),
-  subst (λ (c : Contact). c .hearer * width + u + 1 < length l) (sym e) (f .hearer-entry),
+    → (r .sender * width + u < length l) × (r .hearer * width + k < length l)
+read-room bs width u k j l r f e = (
+  subst (λ (c : Contact). c .sender * width + u < length l) (sym e) (f .entries .sender-entry),
+  subst (λ (c : Contact). c .hearer * width + k < length l) (sym e) (f .entries .hearer-entry),
 )
 
--- to lower over the record that was read is to fold it in
-pub folded-by : (bs : List ℕ) (width u j : ℕ) (l out : List ℕ) (r : plan.Contact) → contactOf r ≡ contactAt bs j
-    → out ≡ lowered l (r .sender * width + u) (r .hearer * width + u + 1)
+-- to lower over the record that was read, of slot k, is to fold it in
+pub folded-by : (bs : List ℕ) (width u k j : ℕ) (l out : List ℕ) (r : plan.Contact) → FoldableBack bs width u k j l
+    → contactOf r ≡ contactAt bs j
+    → out ≡ lowered l (r .sender * width + u) (r .hearer * width + k)
     → out ≡ foldedBack width u (contactAt bs j) l
 unfolding foldedBack
-folded-by bs width u j l out r e one = one ∙ ap (λ c. foldedBack width u c l) e
+folded-by bs width u k j l out r f e one =
+    let own : k ≡ r .slot = sym (f .slot) ∙ ap (λ (c : Contact). c .slot) (sym e) in
+    one ∙ ap (λ x. lowered l (r .sender * width + u) (r .hearer * width + x)) own ∙ ap (λ c. foldedBack width u c l) e
 
 module _ (n width u : ℕ) (c : Contact) (l : List ℕ)
-    (column : u + 1 < width) (sender : c .sender < n) (fits : n * width ≤ length l) where
+    (column : u < width) (sender : c .sender < n) (fits : n * width ≤ length l) where
   -- the length and what lies past the table stay
   pub folded-length : length (foldedBack width u c l) ≡ length l
   unfolding foldedBack
-  folded-length = lowered-length l (c .sender * width + u) (c .hearer * width + u + 1)
+  folded-length = lowered-length l (c .sender * width + u) (c .hearer * width + c .slot)
 
   -- entries of other slots stay
   pub folded-slot : (v x : ℕ) → x < width → x ≢ u
       → getD (foldedBack width u c l) (v * width + x) 0 ≡ getD l (v * width + x) 0
   unfolding foldedBack
   folded-slot v x h n =
-      lowered-other l (c .sender * width + u) (c .hearer * width + u + 1) (v * width + x)
-      (slot-apart v x (c .sender) u width h (omega arith) n)
+      lowered-other l (c .sender * width + u) (c .hearer * width + c .slot) (v * width + x)
+      (slot-apart v x (c .sender) u width h column n)
 
   -- entries of other stations stay
   pub folded-station : (v : ℕ) → v ≢ c .sender
       → getD (foldedBack width u c l) (v * width + u) 0 ≡ getD l (v * width + u) 0
   unfolding foldedBack
   folded-station v other =
-      lowered-other l (c .sender * width + u) (c .hearer * width + u + 1) (v * width + u)
-      (station-apart v u (c .sender) u width (omega arith) (omega arith) other)
+      lowered-other l (c .sender * width + u) (c .hearer * width + c .slot) (v * width + u)
+      (station-apart v u (c .sender) u width column column other)
 
   -- the sender's entry is lowered by the hearer's
   pub folded-sender : getD (foldedBack width u c l) (c .sender * width + u) 0
-      ≡ min (getD l (c .sender * width + u) 0) (getD l (c .hearer * width + (u + 1)) 0 + 1)
+      ≡ min (getD l (c .sender * width + u) 0) (getD l (c .hearer * width + c .slot) 0 + 1)
   unfolding foldedBack
   folded-sender =
-      let later : c .hearer * width + (u + 1) ≡ c .hearer * width + u + 1 = omega arith in
-      lowered-there l (c .sender * width + u) (c .hearer * width + u + 1)
-      (place-below {v = c .sender} {u = u} {n = n} {width = width} sender (omega arith) fits)
-      ∙ rw later
+      lowered-there l (c .sender * width + u) (c .hearer * width + c .slot)
+      (place-below {v = c .sender} {u = u} {n = n} {width = width} sender column fits)
 
   pub folded-beyond : drop (n * width) (foldedBack width u c l) ≡ drop (n * width) l
   unfolding foldedBack
   folded-beyond =
-      lowered-beyond l (c .sender * width + u) (c .hearer * width + u + 1) (n * width) (digits-lt sender (omega arith))
+      lowered-beyond l (c .sender * width + u) (c .hearer * width + c .slot) (n * width) (digits-lt sender column)
+
+-- ---- the records of a slot are folded in
+
+-- the record before a position lies in the slot
+pub last-in-slot : (bs : List ℕ) (j k : ℕ) → lastInSlot bs j k ≡ true → (0 < j) × (contactAt bs (j - 1) .slot ≡ k)
+unfolding lastInSlot
+last-in-slot bs j k e =
+    let (before, same) = and-eq-true-iff (ltb 0 j) _ .0 e in
+    (ltb-true 0 j before, eqb-true _ _ same)
+
+-- what code tests: the slot of the record that was read
+pub last-read : (bs : List ℕ) (j k : ℕ) (r : plan.Contact) → 0 < j → contactOf r ≡ contactAt bs (j - 1)
+    → eqb (r .slot) k ≡ lastInSlot bs j k
+unfolding lastInSlot
+last-read bs j k r h e = rw (lt-ltb 0 j h) (ap (λ (c : Contact). eqb (c .slot) k) e)
+
+-- there is no record before the first
+pub last-before-first : (bs : List ℕ) (j k : ℕ) → j ≤ 0 → false ≡ lastInSlot bs j k
+unfolding lastInSlot
+last-before-first bs j k h = rw (le-ltb 0 j h)
+
+-- Of the records before j those before i are left to look at.
+pub record Folding (bs : List ℕ) (width u k j : ℕ) (old : List ℕ) (i : ℕ) (now : List ℕ) : Type 0 where
+  pub within : i ≤ j
+  pub same : length now ≡ length old
+  pub left : leftBefore bs k i ≡ leftBefore bs k j
+  pub rest : foldedColumn bs width u k i now ≡ foldedColumn bs width u k j old
+
+module _ (bs : List ℕ) (width u k j : ℕ) (old : List ℕ) where
+  -- all are
+  pub folding-none : Folding bs width u k j old j old
+  folding-none = record { within = omega arith; same = refl; left = refl; rest = refl }
+
+  module _ (i : ℕ) (now : List ℕ) (s : Folding bs width u k j old i now) where
+    -- the last of them lies in the slot
+    module _ (here : lastInSlot bs i k ≡ true) where
+      pub folding-some : 0 < i
+      folding-some = last-in-slot bs i k here .0
+
+      one-less : i ≡ suc (i - 1)
+      one-less = let h = folding-some in omega arith
+
+      -- it can be folded in
+      pub folding-ready : FoldableColumn bs width u k j old → FoldableBack bs width u k (i - 1) now
+      folding-ready f =
+          let (before, there) = last-in-slot bs i k here in
+          let room = f .position in
+          let inside = s .within in
+          record {
+            inside = omega arith;
+            slot = there;
+            entries = rw (s .same) (f .entries (i - 1) (omega arith) there);
+          }
+
+      -- it is
+      pub folding-more : (out : List ℕ) → out ≡ foldedBack width u (contactAt bs (i - 1)) now
+          → Folding bs width u k j old (i - 1) out
+      unfolding leftBefore foldedColumn foldedBack
+      folding-more out e =
+          let (before, there) = last-in-slot bs i k here in
+          let test = eq-eqb (contactAt bs (i - 1) .slot) k there in
+          let inside = s .within in
+          rw e (record {
+            within = omega arith;
+            same = lowered-length now _ _ ∙ s .same;
+            left = sym (ap (leftBefore bs k) one-less ∙ rw test refl) ∙ s .left;
+            rest = sym (ap (λ x. foldedColumn bs width u k x now) one-less ∙ rw test refl) ∙ s .rest;
+          })
+
+    -- it lies elsewhere, or there is none
+    module _ (past : lastInSlot bs i k ≡ false) where
+      stops : (leftBefore bs k i ≡ i) × (foldedColumn bs width u k i now ≡ now)
+      unfolding leftBefore foldedColumn lastInSlot
+      stops = go i past
+        where
+          go : (i : ℕ) → lastInSlot bs i k ≡ false → (leftBefore bs k i ≡ i) × (foldedColumn bs width u k i now ≡ now)
+          go zero e = (refl, refl)
+          go (suc i) e =
+              let same : suc i - 1 ≡ i = omega arith in
+              let test : eqb (contactAt bs i .slot) k ≡ false = rw (same, lt-ltb 0 (suc i) (omega arith)) at e in
+              (rw test refl, rw test refl)
+
+      pub folding-all : (i ≡ leftBefore bs k j) × (now ≡ foldedColumn bs width u k j old)
+      folding-all = (sym (stops .0) ∙ s .left, sym (stops .1) ∙ s .rest)
 
 -- ---- a column is copied
 

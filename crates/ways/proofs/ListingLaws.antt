@@ -26,7 +26,7 @@ use Rattle.temporal.proofs.Adequacy.{complete-list-rises}
 use Rattle.ways.specs.declared.Pair.{Pair}
 use Rattle.ways.specs.Home.{homeFrom, Table}
 use Rattle.ways.specs.Prefix.{endAfter, LeastOf, Later, Advanced}
-use Rattle.ways.specs.Found.{planIn, listIn, begins, servesAt, foundAt, Placed, putAt, isOffered}
+use Rattle.ways.specs.Found.{termsIn, planIn, listIn, begins, servesAt, foundAt, Placed, putAt, isOffered}
 use Rattle.ways.specs.Found.{Listable, Stepped}
 use Rattle.ways.proofs.OrderLaws.{first-place, next-place, last-place, index-inv, index-some}
 use Rattle.ways.proofs.SearchLaws.{FirstAt, first-some, first-none, least-longer, later-here, later-behind}
@@ -108,27 +108,27 @@ module _ (bs : List ℕ) (q : Pair) (b₀ : List ℕ) (g : Listable bs q b₀) w
   -- it has no more hops than the plan has slots
   pub hops-slots : q .hops ≤ q .slots
   hops-slots =
-      hops-within bs (q .stations) (q .slots) (g .accepted) (q .source) (q .destination)
+      hops-within bs (q .stations) (q .slots) (termsIn q) (g .accepted) (q .source) (q .destination)
       (q .hops) (g .source) (g .fewest) (g .path)
 
   -- what completes has a front that completes, and can be gone on with
   front : (w : List ℕ) (i : ℕ) → begins bs q (w ++ i ∷ []) ≡ true → begins bs q w ≡ true
   front =
-      completes-front bs (q .stations) (q .slots) (g .accepted) (q .source) (q .destination)
+      completes-front bs (q .stations) (q .slots) (termsIn q) (g .accepted) (q .source) (q .destination)
       (q .hops) (g .source) (g .fewest) (g .path)
 
   onward : (w : List ℕ) → begins bs q w ≡ true → length w < q .hops → (i : ℕ) × (begins bs q (w ++ i ∷ []) ≡ true)
   onward =
-      completes-onward bs (q .stations) (q .slots) (g .accepted) (q .source) (q .destination)
+      completes-onward bs (q .stations) (q .slots) (termsIn q) (g .accepted) (q .source) (q .destination)
       (q .hops) (g .source) (g .fewest) (g .path)
 
   -- a position that completes is one of the plan's
   position-below : (w : List ℕ) (i : ℕ) → begins bs q (w ++ i ∷ []) ≡ true → i < records bs
   position-below w i e =
-      let h = completes-bounded bs (q .stations) (q .slots) (g .accepted) (q .source)
+      let h = completes-bounded bs (q .stations) (q .slots) (termsIn q) (g .accepted) (q .source)
       (q .destination) (q .hops) (g .source) (g .fewest) (g .path) .within (w ++ i ∷ []) e in
       let inside = h .1 i (Memᴰ·append-right w (List·Memᴰ·head refl)) in
-      let size = contacts-length bs (q .stations) (q .slots) in
+      let size = contacts-length bs (q .stations) (q .slots) (termsIn q) in
       omega arith
 
   -- no entry is written
@@ -140,7 +140,7 @@ module _ (bs : List ℕ) (q : Pair) (b₀ : List ℕ) (g : Listable bs q b₀) w
         rest = refl;
         least = record {
           size = refl;
-          passes = completes-nil bs (q .stations) (q .slots) (g .accepted) (q .source)
+          passes = completes-nil bs (q .stations) (q .slots) (termsIn q) (g .accepted) (q .source)
               (q .destination) (q .hops) (g .source) (g .fewest) (g .path);
           least = λ u size e. inl (empty u size);
         };
@@ -156,7 +156,7 @@ module _ (bs : List ℕ) (q : Pair) (b₀ : List ℕ) (g : Listable bs q b₀) w
   -- its members are the lists of the pair's hops that complete
   mem-list : {w : List ℕ} → List·Memᴰ w (listIn bs q) ↔ ((length w ≡ q .hops) × (begins bs q w ≡ true))
   mem-list =
-      mem-complete bs (q .stations) (q .slots) (g .accepted) (q .source) (q .destination)
+      mem-complete bs (q .stations) (q .slots) (termsIn q) (g .accepted) (q .source) (q .destination)
       (q .hops) (g .source) (g .fewest) (g .path)
 
   -- with all hops the buffer begins with the first path
@@ -195,7 +195,7 @@ module _ (bs : List ℕ) (q : Pair) (b₀ : List ℕ) (g : Listable bs q b₀) w
       → holds (endAfter p (start (q .source)) (take (q .hops) b)) (isAt (q .destination)) ≡ isOffered bs q b
   offered-walk b room =
       sym (ends-end p (start (q .source)) (isAt (q .destination)) (take (q .hops) b))
-      ∙ completes-walk bs (q .stations) (q .slots) (g .accepted) (q .source) (q .destination)
+      ∙ completes-walk bs (q .stations) (q .slots) (termsIn q) (g .accepted) (q .source) (q .destination)
       (q .hops) (g .source) (g .fewest) (g .path) (take (q .hops) b) long
       ∙ go (begins bs q (take (q .hops) b)) refl
     where
@@ -232,7 +232,7 @@ module _ (bs : List ℕ) (q : Pair) (b₀ : List ℕ) (g : Listable bs q b₀) w
 
   -- ---- with a completion table
 
-  module _ (l : List ℕ) (table : Table bs (q .stations) (q .slots) (q .destination) l) where
+  module _ (l : List ℕ) (table : Table bs (q .stations) (q .slots) (termsIn q) (q .destination) l) where
     -- the table's entry decides whether a position completes
     serves-completes : (w : List ℕ) (k : ℕ) → length w ≡ k → k < q .hops → {x : Appearance}
         → endAfter p (start (q .source)) w ≡ some x
@@ -241,7 +241,7 @@ module _ (bs : List ℕ) (q : Pair) (b₀ : List ℕ) (g : Listable bs q b₀) w
     unfolding servesAt holds
     serves-completes w k size fewer {x} there i =
         go (step p x i) refl
-        ∙ sym (completes-snoc bs (q .stations) (q .slots) (g .accepted) (q .source) (q .destination)
+        ∙ sym (completes-snoc bs (q .stations) (q .slots) (termsIn q) (g .accepted) (q .source) (q .destination)
         (q .hops) (g .source) (g .fewest) (g .path) w i there)
       where
         go : (o : Option Appearance) → step p x i ≡ o
@@ -249,7 +249,7 @@ module _ (bs : List ℕ) (q : Pair) (b₀ : List ℕ) (g : Listable bs q b₀) w
             ≡ holds o (λ y. eqb (suc (length w) + homeFrom p (q .destination) y) (q .hops))
         go none e = refl
         go (some y) e =
-            let (station, slot) = step-inside bs (q .stations) (q .slots) (g .accepted) x i e in
+            let (station, slot) = step-inside bs (q .stations) (q .slots) (termsIn q) (g .accepted) x i e in
             rw (table .entry (y .station) (y .slot) station (omega arith), size)
             (shifted k (homeFrom p (q .destination) y) (q .hops) (omega arith))
 
@@ -276,7 +276,7 @@ module _ (bs : List ℕ) (q : Pair) (b₀ : List ℕ) (g : Listable bs q b₀) w
           → (j : ℕ) → from ≤ j → begins bs q (take k b ++ j ∷ []) ≡ true → ⊥
       unfolding foundAt bind
       found-none standing e j low c =
-          let (x, there, sum) = completes-inv bs (q .stations) (q .slots) (g .accepted) (q .source)
+          let (x, there, sum) = completes-inv bs (q .stations) (q .slots) (termsIn q) (g .accepted) (q .source)
           (q .destination) (q .hops) (g .source) (g .fewest) (g .path) (take k b) standing in
           let high = position-below (take k b) j c in
           first-none _ from (records bs - from) (rw there at e) j low (omega arith)

@@ -1,34 +1,29 @@
--- The backward pass: what the table holds on the way, that a turn keeps it so, and that it is the completion table at
--- the
+-- The backward pass: what the table holds on the way, that a turn keeps it so, and that it is the completion table at the
 -- end. Assumes nothing.
-use Prim.Native.Nat.{ℕ, suc, _+_, _-_, _*_, _/_, _<_, _≤_}
+use Prim.Native.Nat.{ℕ, zero, suc, _+_, _-_, _*_, _/_, _<_, _≤_}
 use native.Mathlib.Omega.{arith}
-use native.Mathlib.Numerals.{add-one}
 use native.Mathlib.Decide.{ℕ-discrete}
 use mathlib.Core.Path.{_≡_, refl, sym, ap, subst, _∙_}
-use mathlib.Core.Bool.{Bool, true, false, cond, and-eq-true-iff}
+use mathlib.Core.Bool.{Bool, true, false, cond}
 use mathlib.Core.List.{List}
 use mathlib.Core.Logic.{by-cases, _≢_}
 use mathlib.Core.Option.{some}
-use borrow.Author.Tests.{ltb-true, lt-ltb, le-ltb, eqb-true, eqb-false, eq-eqb}
+use borrow.Author.Tests.{ltb-true, ltb-false, lt-ltb, le-ltb, le-leb, lt-leb, eqb-true, eqb-false}
 use lib.Arith.{digits-lt}
-use lib.Dec.{ltb, eqb}
+use lib.Dec.{ltb, leb, eqb}
 use lib.ListN.{length, getD, set, drop, replicate, getElem?, length-set, length-append, length-drop, length-replicate}
 use lib.ListN.{getD-replicate, List·getD-append}
 use lib.Seq.{getD-set-same, getD-set-other, drop-set-lt, drop-at}
-use Rattle.temporal.specs.Plan.{Contact, Plan}
+use Rattle.temporal.specs.Plan.{Contact, Plan, Terms, mayFollow}
 use Rattle.temporal.specs.Walk.{endsIn, isAt}
 use Rattle.temporal.specs.Bytes.{contactAt, records, planOf}
 use Rattle.temporal.specs.Outcome.{over}
-use Rattle.temporal.proofs.ListLaws.{not-both}
-use Rattle.temporal.proofs.RuleLaws.{leads-from-sender, leads-none}
+use Rattle.temporal.proofs.RuleLaws.{follows-later, follows-earlier, waits-turnaround, leads-from-sender, leads-none}
 use Rattle.temporal.proofs.Accepted.{accepted}
 use Rattle.temporal.proofs.PlanLaws.{contact-there, contact-inv, contacts-length, slots-within, slots-sorted}
-use Rattle.plan.specs.declared.Contact as plan
-use Rattle.plan.specs.Record.{contactOf}
 use Rattle.ways.specs.Home.{appearance, homeHops, Completable, Completed}
-use Rattle.ways.specs.Column.{foldedBack, copiedFrom, begunBack, lastInSlot, FoldableBack, TurnableBack}
-use Rattle.ways.specs.Column.{turnedBack}
+use Rattle.ways.specs.Column.{foldedBack, copiedFrom, begunBack, waiting, leftBefore, foldedColumn}
+use Rattle.ways.specs.Column.{turnedBack, FoldableColumn, TurnableBack}
 use Rattle.ways.proofs.FewestLaws.{Fewest, fewest-unique}
 use Rattle.ways.proofs.AheadLaws.{Ahead, fewest-home, ahead-none, ahead-all, ahead-earlier, ahead-fold}
 use Rattle.ways.proofs.AheadLaws.{ahead-past}
@@ -36,57 +31,32 @@ use Rattle.ways.proofs.ColumnLaws.{place-below, station-apart, folded-l
 use Rattle.ways.proofs.ColumnLaws.{folded-sender}
 use Rattle.ways.proofs.ColumnLaws.{folded-beyond, copied-length, copied-slot, copied-station, copied-beyond}
 
--- ---- the last record before a position
-
--- the record before a position lies in the slot, or it does not
-last-in-slot : (bs : List ℕ) (i u : ℕ) → lastInSlot bs (suc i) u ≡ true → contactAt bs i .slot ≡ u
-unfolding lastInSlot
-last-in-slot bs i u e =
-    let same : suc i - 1 ≡ i = omega arith in
-    ap (λ k. contactAt bs k .slot) (sym same)
-    ∙ eqb-true (contactAt bs (suc i - 1) .slot) u (and-eq-true-iff (ltb 0 (suc i)) _ .0 e .1)
-
-last-elsewhere : (bs : List ℕ) (i u : ℕ) → lastInSlot bs (suc i) u ≡ false → contactAt bs i .slot ≢ u
-unfolding lastInSlot
-last-elsewhere bs i u e q =
-    let same : suc i - 1 ≡ i = omega arith in
-    not-both
-    (and-eq-true-iff _ _ .1 (lt-ltb 0 (suc i) (omega arith), eq-eqb _ _ (ap (λ k. contactAt bs k .slot) same ∙ q))) e
-
--- what code tests: the slot of the record that was read
-pub last-read : (bs : List ℕ) (j u : ℕ) (r : plan.Contact) → 0 < j → contactOf r ≡ contactAt bs (j - 1)
-    → eqb (r .slot) u ≡ lastInSlot bs j u
-unfolding lastInSlot
-last-read bs j u r h e = rw (lt-ltb 0 j h) (ap (λ (c : Contact). eqb (c .slot) u) e)
-
--- there is no record before the first
-pub last-before-first : (bs : List ℕ) (j u : ℕ) → j ≤ 0 → false ≡ lastInSlot bs j u
-unfolding lastInSlot
-last-before-first bs j u h = rw (le-ltb 0 j h)
-
-last-none : (bs : List ℕ) (u : ℕ) → lastInSlot bs 0 u ≡ false
-unfolding lastInSlot
-last-none bs u = refl
-
 -- ---- a turn
 
-module _ (bs : List ℕ) (n width u j : ℕ) (l : List ℕ) where
-  -- a turn that folds
-  pub turned-folds : (l′ : List ℕ) → lastInSlot bs j (u + 1) ≡ true → l′ ≡ foldedBack width u (contactAt bs (j - 1)) l
-      → l′ ≡ turnedBack bs n width u j l
-  unfolding turnedBack
-  turned-folds l′ here e = rw here e
+-- the records of slot k can be folded in
+pub column-ready : (bs : List ℕ) (n t q k j : ℕ) (l : List ℕ) (u : ℕ) → u ≡ k - q → TurnableBack bs n t q k j l
+    → FoldableColumn bs (t + 1) u k j l
+column-ready bs n t q k j l u at s = subst (λ x. FoldableColumn bs (t + 1) x k j l) (sym at) (s .foldable)
 
-  -- a turn that copies
-  pub turned-copies : (l′ : List ℕ) → lastInSlot bs j (u + 1) ≡ false → l′ ≡ copiedFrom width (u - 1) l 0 n
-      → l′ ≡ turnedBack bs n width u j l
-  unfolding turnedBack
-  turned-copies l′ past e = rw past e
+module _ (bs : List ℕ) (n t q k j : ℕ) (l : List ℕ) (u : ℕ) (at : u ≡ k - q) (mid : List ℕ)
+    (folded : mid ≡ foldedColumn bs (t + 1) u k j l) where
+  -- the fold is that of the turn's column
+  folded-there : mid ≡ foldedColumn bs (t + 1) (k - q) k j l
+  folded-there = folded ∙ ap (λ x. foldedColumn bs (t + 1) x k j l) at
 
--- a record in the slot is there
-pub last-position : (bs : List ℕ) (j u : ℕ) → lastInSlot bs j u ≡ true → 0 < j
-unfolding lastInSlot
-last-position bs j u e = ltb-true 0 j (and-eq-true-iff (ltb 0 j) _ .0 e .0)
+  -- a turn that goes on to the column before
+  pub turned-copies : (l′ : List ℕ) → 0 < u → l′ ≡ copiedFrom (t + 1) (u - 1) mid 0 n → l′ ≡ turnedBack bs n t q k j l
+  unfolding turnedBack
+  turned-copies l′ more e =
+      let test : ltb 0 (k - q) ≡ true = lt-ltb 0 (k - q) (omega arith) in
+      let front : u - 1 ≡ k - q - 1 = omega arith in
+      e ∙ ap (λ x. copiedFrom (t + 1) x mid 0 n) front
+      ∙ ap (λ x. copiedFrom (t + 1) (k - q - 1) x 0 n) folded-there ∙ sym (rw test refl)
+
+  -- a turn in the start's column
+  pub turned-stays : u ≤ 0 → mid ≡ turnedBack bs n t q k j l
+  unfolding turnedBack
+  turned-stays none = let test : ltb 0 (k - q) ≡ false = le-ltb 0 (k - q) (omega arith) in folded-there ∙ sym (rw test refl)
 
 -- a fill and the destination's entry are the beginning
 pub begun-by : (n width t z : ℕ) (l filled : List ℕ) → filled ≡ over (replicate (n * width) 65535) l
@@ -96,26 +66,27 @@ begun-by n width t z l filled e = ap (λ x. set x (z * width + t) 0) e
 
 -- ---- the state of the pass
 
--- In column u, with the records from j on taken in: later columns are finished, and column u holds what starts from j
--- on.
-pub record Passing (bs : List ℕ) (n t z : ℕ) (old : List ℕ) (u j : ℕ) (l : List ℕ) : Type 0 where
+-- In column u, with the records from j on taken in: these may follow slot u, later columns are finished, and column u holds
+-- what starts from j on.
+pub record Passing (bs : List ℕ) (n t : ℕ) (terms : Terms) (z : ℕ) (old : List ℕ) (u j : ℕ) (l : List ℕ) : Type 0 where
   pub slot : u ≤ t
   pub position : j ≤ records bs
-  pub later : (i : ℕ) → j ≤ i → i < records bs → u < contactAt bs i .slot
-  pub earlier : (i : ℕ) → i < j → contactAt bs i .slot ≤ u + 1
-  pub column : (v : ℕ) → v < n → Fewest (Ahead (planOf bs n t) z j (appearance v u)) (getD l (v * (t + 1) + u) 0)
-  pub done : (v x : ℕ) → v < n → u < x → x < t + 1 → getD l (v * (t + 1) + x) 0 ≡ homeHops (planOf bs n t) z v x
+  pub taken : (i : ℕ) → j ≤ i → i < records bs → mayFollow (planOf bs n t terms) u (contactAt bs i .slot) ≡ true
+  pub column : (v : ℕ) → v < n → Fewest (Ahead (planOf bs n t terms) z j (appearance v u)) (getD l (v * (t + 1) + u) 0)
+  pub done : (v x : ℕ) → v < n → u < x → x < t + 1 → getD l (v * (t + 1) + x) 0 ≡ homeHops (planOf bs n t terms) z v x
   pub beyond : drop (n * (t + 1)) l ≡ drop (n * (t + 1)) old
   pub same : length l ≡ length old
 
--- the same, with what filling the table asks
-pub record Running (bs : List ℕ) (n t z : ℕ) (old : List ℕ) (u j : ℕ) (l : List ℕ) : Type 0 where
-  pub ready : Completable bs n t z old
-  pub passing : Passing bs n t z old u j l
+-- Before the turn of slot k: no record that is left lies in a later slot, and the column is the last that slot k may follow.
+pub record Running (bs : List ℕ) (n t : ℕ) (terms : Terms) (z : ℕ) (old : List ℕ) (k j : ℕ) (l : List ℕ) : Type 0 where
+  pub ready : Completable bs n t terms z old
+  pub most : k ≤ t + waiting t terms
+  pub left : (i : ℕ) → i < j → contactAt bs i .slot ≤ k
+  pub passing : Passing bs n t terms z old (k - waiting t terms) j l
 
-module _ (bs : List ℕ) (n t z : ℕ) (old : List ℕ) (g : Completable bs n t z old) where
+module _ (bs : List ℕ) (n t : ℕ) (terms : Terms) (z : ℕ) (old : List ℕ) (g : Completable bs n t terms z old) where
   abbrev p : Plan
-  p = planOf bs n t
+  p = planOf bs n t terms
 
   abbrev c : ℕ → Contact
   c i = contactAt bs i
@@ -159,28 +130,36 @@ module _ (bs : List ℕ) (n t z : ℕ) (old : List ℕ) (g : Completable bs n t 
       ∙ ap (λ k. drop k old) size
 
   -- in the last slot nothing but the empty walk is ahead
-  passing-begun : Running bs n t z (begunBack n (t + 1) t z old) t (records bs) (begunBack n (t + 1) t z old)
-  passing-begun =
+  begun-state : Passing bs n t terms z (begunBack n (t + 1) t z old) t (records bs) (begunBack n (t + 1) t z old)
+  begun-state =
       record {
-        ready = record {
-          accepted = g .accepted;
-          destination = g .destination;
-          fits = let same = begun-length in let room = g .fits in omega arith;
-        };
-        passing = begun-state;
-      }
-    where
-      begun-state : Passing bs n t z (begunBack n (t + 1) t z old) t (records bs) (begunBack n (t + 1) t z old)
-      begun-state = record {
         slot = omega arith;
         position = omega arith;
-        later = λ i h k. absurd (omega arith);
-        earlier = λ i h. let last = accepted bs n t (g .accepted) .contact i h .to-last in omega arith;
+        taken = λ i h k. absurd (omega arith);
         column = λ v h. rw (begun-entry v h)
-            (ahead-none p z v t (records bs) (let m = contacts-length bs n t in omega arith));
+            (ahead-none p z v t (records bs) (let m = contacts-length bs n t terms in omega arith));
         done = λ v x h k m. absurd (omega arith);
         beyond = refl;
         same = refl;
+      }
+
+  -- the loop begins
+  pub running-begun : (l : List ℕ) (q k j : ℕ) → l ≡ begunBack n (t + 1) t z old → q ≡ waiting t terms → k ≡ t + q
+      → j ≡ length bs / 6
+      → Running bs n t terms z l k j l
+  unfolding records
+  running-begun l q k j e wait last count =
+      let column : t ≡ k - waiting t terms = omega arith in
+      record {
+        ready = record {
+          accepted = g .accepted;
+          turns = g .turns;
+          destination = g .destination;
+          fits = let same = ap length e ∙ begun-length in let room = g .fits in omega arith;
+        };
+        most = omega arith;
+        left = λ i h. let end = accepted bs n t (g .accepted) .contact i (omega arith) .to-last in omega arith;
+        passing = subst (λ x. Passing bs n t terms z l x j l) column (rw (e, count) begun-state);
       }
 
   -- ---- a turn
@@ -192,47 +171,50 @@ module _ (bs : List ℕ) (n t z : ℕ) (old : List ℕ) (g : Completable bs n t 
   -- what an appearance has to go is the fewest of all its walks
   home-fewest : (v u : ℕ) → u ≤ t → Fewest (λ w. endsIn p (appearance v u) (isAt z) w ≡ true) (homeHops p z v u)
   unfolding planOf
-  home-fewest v u h = fewest-home p z (slots-within bs n t (g .accepted)) slots-fit (appearance v u) h
+  home-fewest v u h = fewest-home p z (slots-within bs n t terms (g .accepted)) slots-fit (appearance v u) h
 
-  module _ (u j : ℕ) (l : List ℕ) (s : Passing bs n t z old u j l) where
-    -- a column is finished where no record that is left is later
-    finished : ((i : ℕ) → i < j → contactAt bs i .slot ≤ u) → (v : ℕ) → v < n
+  module _ (u j : ℕ) (l : List ℕ) (s : Passing bs n t terms z old u j l) where
+    -- a column is finished where no record that is left may follow its slot
+    finished : ((i : ℕ) → i < j → mayFollow p u (c i .slot) ≡ false) → (v : ℕ) → v < n
         → getD l (v * (t + 1) + u) 0 ≡ homeHops p z v u
-    finished low v inside =
+    finished none v inside =
         fewest-unique
         (ahead-all p z (appearance v u) j _
-        (λ i c h e. rw (sym (contact-inv bs n t i c e .1)) (low i h)) (s .column v inside))
+        (λ i d h e. ap (λ (c : Contact). mayFollow p u (c .slot)) (sym (contact-inv bs n t terms i d e .1)) ∙ none i h)
+        (s .column v inside))
         (home-fewest v u (s .slot))
 
     fits-now : n * (t + 1) ≤ length l
     fits-now = let room = g .fits in let same = s .same in omega arith
 
-    -- The record before j lies in the next slot and is folded in.
-    passing-fold : (i : ℕ) → j ≡ suc i → lastInSlot bs (suc i) (u + 1) ≡ true
-        → Passing bs n t z old u i (foldedBack (t + 1) u (c i) l)
-    passing-fold i e here =
+    -- The record before j may follow slot u and is folded in.
+    passing-fold : (i : ℕ) → j ≡ suc i → mayFollow p u (c i .slot) ≡ true
+        → Passing bs n t terms z old u i (foldedBack (t + 1) u (c i) l)
+    passing-fold i e follows =
         record {
           slot = s .slot;
           position = omega (arith, s .position);
-          later = λ k h m. by-cases (ℕ-discrete k i)
-              (λ e. rw e (let k = in-next in omega arith))
-              (λ q. s .later k (omega arith) m);
-          earlier = λ k h. s .earlier k (omega arith);
+          taken = λ k h m. by-cases (ℕ-discrete k i)
+              (λ q. rw q follows)
+              (λ q. s .taken k (omega arith) m);
           column = column-folded;
           done = λ v x h k m.
-              folded-slot n (t + 1) u (c i) l next sender fits-now v x m (omega arith) ∙ s .done v x h k m;
-          beyond = folded-beyond n (t + 1) u (c i) l next sender fits-now ∙ s .beyond;
-          same = folded-length n (t + 1) u (c i) l next sender fits-now ∙ s .same;
+              folded-slot n (t + 1) u (c i) l column sender fits-now v x m (omega arith) ∙ s .done v x h k m;
+          beyond = folded-beyond n (t + 1) u (c i) l column sender fits-now ∙ s .beyond;
+          same = folded-length n (t + 1) u (c i) l column sender fits-now ∙ s .same;
         }
       where
-        in-next : c i .slot ≡ u + 1
-        in-next = last-in-slot bs i (u + 1) here
-
         inside : i < records bs
         inside = let h = s .position in omega arith
 
-        next : u + 1 < t + 1
-        next = let last = accepted bs n t (g .accepted) .contact i inside .to-last in let here = in-next in omega arith
+        column : u < t + 1
+        column = let h = s .slot in omega arith
+
+        later : u < c i .slot
+        later = follows-later p u (c i .slot) follows
+
+        last : c i .slot ≤ t
+        last = accepted bs n t (g .accepted) .contact i inside .to-last
 
         sender : c i .sender < n
         sender = accepted bs n t (g .accepted) .contact i inside .sender-station
@@ -243,59 +225,42 @@ module _ (bs : List ℕ) (n t z : ℕ) (old : List ℕ) (g : Completable bs n t 
         before : (v : ℕ) → v < n → Fewest (Ahead p z (suc i) (appearance v u)) (getD l (v * (t + 1) + u) 0)
         before v h = rw (← e) (s .column v h)
 
-        ahead : (v : ℕ) → v < n
-            → Fewest (λ r. endsIn p (appearance v (suc u)) (isAt z) r ≡ true) (getD l (v * (t + 1) + (u + 1)) 0)
-        ahead v h =
-            subst (λ k. Fewest (λ r. endsIn p (appearance v k) (isAt z) r ≡ true) (getD l (v * (t + 1) + (u + 1)) 0))
-            (add-one u)
-            (rw (s .done v (u + 1) h (omega arith) next) (home-fewest v (u + 1) (let k = next in omega arith)))
+        ahead : Fewest (λ r. endsIn p (appearance (c i .hearer) (c i .slot)) (isAt z) r ≡ true)
+            (getD l (c i .hearer * (t + 1) + c i .slot) 0)
+        ahead =
+            let end = last in
+            rw (s .done (c i .hearer) (c i .slot) hearer later (omega arith)) (home-fewest (c i .hearer) (c i .slot) last)
 
         there : getElem? (p .contacts) i ≡ some (c i)
-        there = contact-there bs n t i inside
-
-        slot-suc : c i .slot ≡ suc u
-        slot-suc = in-next ∙ add-one u
+        there = contact-there bs n t terms i inside
 
         column-folded : (v : ℕ) → v < n
             → Fewest (Ahead p z i (appearance v u)) (getD (foldedBack (t + 1) u (c i) l) (v * (t + 1) + u) 0)
         column-folded v h = by-cases (ℕ-discrete v (c i .sender)) from-sender (λ other.
-            rw (folded-station n (t + 1) u (c i) l next sender fits-now v other)
-            (ahead-past p z v u i (c i) there slot-suc (leads-none (c i) v other) (before v h)))
+            rw (folded-station n (t + 1) u (c i) l column sender fits-now v other)
+            (ahead-past p z v u i (c i) there (leads-none (c i) v other) (before v h)))
           where
             from-sender : v ≡ c i .sender
                 → Fewest (Ahead p z i (appearance v u)) (getD (foldedBack (t + 1) u (c i) l) (v * (t + 1) + u) 0)
             from-sender q =
-                rw (q, folded-sender n (t + 1) u (c i) l next sender fits-now)
-                (ahead-fold p z (c i .sender) u i (c i) there slot-suc (leads-from-sender (c i))
-                (before (c i .sender) sender) (ahead (c i .hearer) hearer))
+                rw (q, folded-sender n (t + 1) u (c i) l column sender fits-now)
+                (ahead-fold p z (c i .sender) u i (c i) there follows (leads-from-sender (c i))
+                (before (c i .sender) sender) ahead)
 
-    -- where the record before j lies elsewhere, every record that is left lies in slot u or before
-    left-low : lastInSlot bs j (u + 1) ≡ false → (i : ℕ) → i < j → contactAt bs i .slot ≤ u
-    left-low e i h =
-        let k = j - 1 in
-        let same : j ≡ suc k = omega arith in
-        let other = last-elsewhere bs k (u + 1) (rw (← same) e) in
-        let last = s .earlier k (omega arith) in
-        let inside = s .position in
-        let up : i + (k - i) ≡ k = omega arith in
-        let rise = rw up at (slots-sorted bs n t (g .accepted) i (k - i) (omega arith)) in
-        omega arith
-
-    -- column u is finished, and the one before it begins as its copy
-    passing-copy : (x : ℕ) → u ≡ suc x → lastInSlot bs j (u + 1) ≡ false
-        → Passing bs n t z old x j (copiedFrom (t + 1) x l 0 n)
-    passing-copy x e past =
+    -- (kept) column u is finished, and the one before it begins as its copy
+    passing-copy : (x : ℕ) → u ≡ suc x → ((i : ℕ) → i < j → mayFollow p u (c i .slot) ≡ false)
+        → Passing bs n t terms z old x j (copiedFrom (t + 1) x l 0 n)
+    passing-copy x e none =
         record {
           slot = let h = s .slot in omega arith;
           position = s .position;
-          later = λ i h k. let f = s .later i h k in omega arith;
-          earlier = λ i h. let f = left-low past i h in omega arith;
+          taken = λ i h k. follows-earlier p u x (c i .slot) (omega arith) (s .taken i h k);
           column = λ v h.
               rw (copied-station n (t + 1) x next l 0 n v fits-now (omega arith) (omega arith) (omega arith))
               (ahead-earlier p z v x j _ ahead (before v h));
           done = λ v y h k m. copied-slot n (t + 1) x next l 0 n v y m (omega arith) ∙
               by-cases (ℕ-discrete y u)
-              (λ q. rw q (finished (left-low past) v h))
+              (λ q. rw q (finished none v h))
               (λ q. s .done v y h (omega arith) m);
           beyond = copied-beyond n (t + 1) x next l 0 n (omega arith) ∙ s .beyond;
           same = copied-length n (t + 1) x next l 0 n ∙ s .same;
@@ -304,10 +269,10 @@ module _ (bs : List ℕ) (n t z : ℕ) (old : List ℕ) (g : Completable bs n t 
         next : x + 1 < t + 1
         next = let h = s .slot in omega arith
 
-        ahead : (i : ℕ) (c : Contact) → j ≤ i → getElem? (p .contacts) i ≡ some c → suc x < c .slot
-        ahead i c h there =
-            let (inside, same) = contact-inv bs n t i c there in
-            rw (← same) (let f = s .later i h inside in omega arith)
+        ahead : (i : ℕ) (d : Contact) → j ≤ i → getElem? (p .contacts) i ≡ some d → mayFollow p (suc x) (d .slot) ≡ true
+        ahead i d h there =
+            let (inside, same) = contact-inv bs n t terms i d there in
+            rw (← same, ← e) (s .taken i h inside)
 
         before : (v : ℕ) → v < n → Fewest (Ahead p z j (appearance v (suc x))) (getD l (v * (t + 1) + (x + 1)) 0)
         before v h =
@@ -315,79 +280,53 @@ module _ (bs : List ℕ) (n t z : ℕ) (old : List ℕ) (g : Completable bs n t 
             subst (λ k. Fewest (Ahead p z j (appearance v (suc x))) (getD l (v * (t + 1) + k) 0)) same
             (subst (λ k. Fewest (Ahead p z j (appearance v k)) (getD l (v * (t + 1) + u) 0)) e (s .column v h))
 
-    -- where the record before j lies elsewhere and something is left, there is a slot before u
-    slot-left : 0 < u + j → lastInSlot bs j (u + 1) ≡ false → 0 < u
-    slot-left left past =
-        by-cases (ℕ-discrete u 0)
-        (λ q.
-        let inside = s .position in
-        let low = left-low past (j - 1) (omega arith) in
-        let one = accepted bs n t (g .accepted) .contact (j - 1) (omega arith) .from-one in
-        omega arith)
-        (λ q. omega arith)
+  -- (kept) a record may follow the start, and the slots that lie at least as many before its own as what is heard waits
+  waits : (x i : ℕ) → i < records bs → mayFollow p x (c i .slot) ≡ leb x (c i .slot - waiting t terms)
+  unfolding planOf
+  waits x i inside =
+      let a = accepted bs n t (g .accepted) in
+      let k = a .contact i inside in
+      waits-turnaround p (a .some-slot) (g .turns) .follows x (c i .slot) (k .from-one) (k .to-last)
 
-    -- a turn is possible
-    turnable : 0 < u + j → TurnableBack bs n (t + 1) u j l
-    turnable left =
-        record {
-          fits = fits-now;
-          column = let h = s .slot in omega arith;
-          position = let whole = accepted bs n t (g .accepted) .whole in let h = s .position in omega arith;
-          earlier = slot-left left;
-          foldable = λ here. foldable (by-cases (ℕ-discrete j 0)
-              (λ q. absurd (not-both here (ap (λ k. lastInSlot bs k (u + 1)) q ∙ last-none bs (u + 1))))
-              (λ q. omega arith)) here;
-        }
-      where
-        foldable : 0 < j → lastInSlot bs j (u + 1) ≡ true → FoldableBack bs (t + 1) u (j - 1) l
-        foldable h here =
-            let same : j ≡ suc (j - 1) = omega arith in
-            let inside : j - 1 < records bs = let k = s .position in omega arith in
-            let in-next = last-in-slot bs (j - 1) (u + 1) (rw (← same) here) in
-            let a = accepted bs n t (g .accepted) in
-            let whole = a .whole in
-            let k = a .contact (j - 1) inside in
-            let last = k .to-last in
-            let room = fits-now in
-            record {
-              inside = omega arith;
-              sender-entry = omega (
-                arith,
-                place-below {v = contactAt bs (j - 1) .sender} {u = u + 1} {n = n} {width = t + 1}
-                    (k .sender-station) (omega arith) room,
-              );
-              hearer-entry = omega (
-                arith,
-                place-below {v = contactAt bs (j - 1) .hearer} {u = u + 1} {n = n} {width = t + 1}
-                    (k .hearer-station) (omega arith) room,
-              );
-            }
+  -- (kept) the records of slot k are folded in
+  passing-column : (u k : ℕ) → u ≤ k - waiting t terms → (j : ℕ) (l : List ℕ) → Passing bs n t terms z old u j l
+      → Passing bs n t terms z old u (leftBefore bs k j) (foldedColumn bs (t + 1) u k j l)
+  unfolding leftBefore foldedColumn
+  passing-column u k near zero l s = s
+  passing-column u k near (suc i) l s =
+      go (eqb (c i .slot) k) refl (λ there.
+      passing-column u k near i (foldedBack (t + 1) u (c i) l) (passing-fold u (suc i) l s i refl
+      (waits u i (let h = s .position in omega arith) ∙ le-leb u (c i .slot - waiting t terms) (omega arith))))
+    where
+      go : (b : Bool) → eqb (c i .slot) k ≡ b
+          → (c i .slot ≡ k
+          → Passing bs n t terms z old u (leftBefore bs k i) (foldedColumn bs (t + 1) u k i (foldedBack (t + 1) u (c i) l)))
+          → Passing bs n t terms z old u (cond b (leftBefore bs k i) (suc i))
+          (cond b (foldedColumn bs (t + 1) u k i (foldedBack (t + 1) u (c i) l)) l)
+      go true q more = more (eqb-true (c i .slot) k q)
+      go false q more = s
 
-    -- a turn that folds
-    passing-folded : (l′ : List ℕ) → lastInSlot bs j (u + 1) ≡ true → l′ ≡ turnedBack bs n (t + 1) u j l
-        → (0 < j) × Passing bs n t z old u (j - 1) l′
-    unfolding turnedBack
-    passing-folded l′ here e =
-        let before : 0 < j = by-cases (ℕ-discrete j 0)
-        (λ q. absurd (not-both here (ap (λ k. lastInSlot bs k (u + 1)) q ∙ last-none bs (u + 1))))
-        (λ q. omega arith) in
-        let same : j ≡ suc (j - 1) = omega arith in
-        let left = rw here at e in
-        (before, rw left (passing-fold (j - 1) same (rw (← same) here)))
-
-    -- a turn that goes on to the slot before
-    passing-copied : (l′ : List ℕ) → 0 < u → lastInSlot bs j (u + 1) ≡ false → l′ ≡ turnedBack bs n (t + 1) u j l
-        → Passing bs n t z old (u - 1) j l′
-    unfolding turnedBack
-    passing-copied l′ before past e =
-        let same : u ≡ suc (u - 1) = omega arith in
-        let left = rw past at e in
-        rw left (passing-copy (u - 1) same past)
-
-  -- ---- the end
+  -- the records that are left then lie in earlier slots
+  left-earlier : (k j : ℕ) → j ≤ records bs → ((i : ℕ) → i < j → c i .slot ≤ k)
+      → (i : ℕ) → i < leftBefore bs k j → c i .slot < k
+  unfolding leftBefore
+  left-earlier k zero inside most i h = absurd (omega arith)
+  left-earlier k (suc x) inside most i h =
+      go (eqb (c x .slot) k) refl h (λ less. left-earlier k x (omega arith) (λ m f. most m (omega arith)) i less)
+    where
+      go : (b : Bool) → eqb (c x .slot) k ≡ b → i < cond b (leftBefore bs k x) (suc x)
+          → (i < leftBefore bs k x → c i .slot < k)
+          → c i .slot < k
+      go true q less more = more less
+      go false q less more =
+          let other : c x .slot ≢ k = eqb-false (c x .slot) k q in
+          let last = most x (omega arith) in
+          let up : i + (x - i) ≡ x = omega arith in
+          let rise = rw up at (slots-sorted bs n t terms (g .accepted) i (x - i) (omega arith)) in
+          omega arith
 
   -- with no slot and no record left the table is filled
-  passing-end : (l : List ℕ) → Passing bs n t z old 0 0 l → Completed bs n t z old l
+  passing-end : (l : List ℕ) → Passing bs n t terms z old 0 0 l → Completed bs n t terms z old l
   passing-end l s =
       record {
         table = record {
@@ -400,53 +339,97 @@ module _ (bs : List ℕ) (n t z : ℕ) (old : List ℕ) (g : Completable bs n t 
         same = s .same;
       }
 
-  -- what was filled from the beginning on is filled from the lent list on
-  completed-begun : (l : List ℕ) → Completed bs n t z (begunBack n (t + 1) t z old) l → Completed bs n t z old l
-  completed-begun l e =
-      record { table = e .table; beyond = e .beyond ∙ begun-beyond; same = e .same ∙ begun-length }
-
-  -- the loop begins
-  pub running-begun : (l : List ℕ) (j : ℕ) → l ≡ begunBack n (t + 1) t z old → j ≡ length bs / 6
-      → Running bs n t z l t j l
-  unfolding records
-  running-begun l j e count = rw (e, count) passing-begun
-
-module _ (bs : List ℕ) (n t z : ℕ) (old : List ℕ) (u j : ℕ) (l : List ℕ) (s : Running bs n t z old u j l) where
+module _ (bs : List ℕ) (n t : ℕ) (terms : Terms) (z : ℕ) (old : List ℕ) (k j : ℕ) (l : List ℕ)
+    (s : Running bs n t terms z old k j l) where
   -- the loop goes on: a turn is possible
-  pub running-ready : 0 < u + j → TurnableBack bs n (t + 1) u j l
-  running-ready = turnable bs n t z old (s .ready) u j l (s .passing)
+  pub running-ready : (q : ℕ) → q ≡ waiting t terms → TurnableBack bs n t q k j l
+  running-ready q wait =
+      let a = accepted bs n t (s .ready .accepted) in
+      let whole = a .whole in
+      let most = s .most in
+      let position = s .passing .position in
+      let room = fits-now bs n t terms z old (s .ready) (k - waiting t terms) j l (s .passing) in
+      record {
+        fits = room;
+        few = a .slots;
+        column = omega arith;
+        foldable = record {
+          position = omega arith;
+          entries = λ i h there.
+              let c = a .contact i (omega arith) in
+              let last = c .to-last in
+              record {
+                sender-entry = place-below (c .sender-station) (omega arith) room;
+                hearer-entry = place-below (c .hearer-station) (omega arith) room;
+              };
+        };
+      }
 
-  module _ (r : Bool) (l′ : List ℕ)
-      (turned : (r ≡ lastInSlot bs j (u + 1)) × (l′ ≡ turnedBack bs n (t + 1) u j l)) where
-    -- it took a record in
-    pub running-folded : r ≡ true → (0 < j) × Running bs n t z old u (j - 1) l′
-    running-folded e =
-        let (before, next) =
-        passing-folded bs n t z old (s .ready) u j l (s .passing) l′ (sym (turned .0) ∙ e) (turned .1) in
-        (before, record { ready = s .ready; passing = next })
+  -- (kept) it went on
+  pub running-turned : (q r : ℕ) (l′ : List ℕ) → q ≡ waiting t terms → 0 < k
+      → (r ≡ leftBefore bs k j) × (l′ ≡ turnedBack bs n t q k j l)
+      → Running bs n t terms z old (k - 1) r l′
+  unfolding turnedBack
+  running-turned q r l′ wait more (left, turned) =
+      rw left (record {
+        ready = s .ready;
+        most = let h = s .most in omega arith;
+        left = λ i h. let less = earlier i h in omega arith;
+        passing = go (ltb 0 (k - waiting t terms)) refl (turned ∙ ap (λ x. turnedBack bs n t x k j l) wait);
+      })
+    where
+      u : ℕ
+      u = k - waiting t terms
 
-    -- it went on to the slot before
-    pub running-copied : 0 < u + j → r ≡ false → (0 < u) × Running bs n t z old (u - 1) j l′
-    running-copied left e =
-        let past = sym (turned .0) ∙ e in
-        let before = slot-left bs n t z old (s .ready) u j l (s .passing) left past in (
-          before,
-          record {
-            ready = s .ready;
-            passing = passing-copied bs n t z old (s .ready) u j l (s .passing) l′ before past (turned .1);
-          },
-        )
+      earlier : (i : ℕ) → i < leftBefore bs k j → contactAt bs i .slot < k
+      earlier = left-earlier bs n t terms z old (s .ready) k j (s .passing .position) (s .left)
 
-module _ (bs : List ℕ) (n t z : ℕ) (old : List ℕ) (g : Completable bs n t z old) where
-  -- the loop ends
-  pub running-end : (first l : List ℕ) (u j : ℕ) → first ≡ begunBack n (t + 1) t z old → u + j ≤ 0
-      → Running bs n t z first u j l
-      → Completed bs n t z old l
-  running-end first l u j e none r =
-      let no-slot : u ≡ 0 = omega arith in
-      let no-record : j ≡ 0 = omega arith in
-      let run : Running bs n t z (begunBack n (t + 1) t z old) 0 0 l =
-      subst (λ x. Running bs n t z x 0 0 l) e
-      (subst (λ x. Running bs n t z first x 0 l) no-slot (subst (λ x. Running bs n t z first u x l) no-record r)) in
-      completed-begun bs n t z old g l
-      (passing-end bs n t z (begunBack n (t + 1) t z old) (run .ready) l (run .passing))
+      column : Passing bs n t terms z old u (leftBefore bs k j) (foldedColumn bs (t + 1) u k j l)
+      column = passing-column bs n t terms z old (s .ready) u k (omega arith) j l (s .passing)
+
+      none : 0 < u → (i : ℕ) → i < leftBefore bs k j → mayFollow (planOf bs n t terms) u (contactAt bs i .slot) ≡ false
+      none after i h =
+          let less = earlier i h in
+          let inside = column .position in
+          waits bs n t terms z old (s .ready) u i (omega arith)
+          ∙ lt-leb u (contactAt bs i .slot - waiting t terms) (omega arith)
+
+      go : (b : Bool) → ltb 0 u ≡ b → l′ ≡ turnedBack bs n t (waiting t terms) k j l
+          → Passing bs n t terms z old (k - 1 - waiting t terms) (leftBefore bs k j) l′
+      go true test e =
+          let after = ltb-true 0 u test in
+          let before : u - 1 ≡ k - 1 - waiting t terms = omega arith in
+          let new = rw test at e in
+          subst (λ x. Passing bs n t terms z old x (leftBefore bs k j) l′) before
+          (rw new
+          (passing-copy bs n t terms z old (s .ready) u (leftBefore bs k j) (foldedColumn bs (t + 1) u k j l) column (u - 1)
+          (omega arith) (none after)))
+      go false test e =
+          let start = ltb-false 0 u test in
+          let same : u ≡ k - 1 - waiting t terms = omega arith in
+          let new = rw test at e in
+          subst (λ x. Passing bs n t terms z old x (leftBefore bs k j) l′) same (rw new column)
+
+-- it ends
+pub running-end : (bs : List ℕ) (n t : ℕ) (terms : Terms) (z : ℕ) (old : List ℕ) → Completable bs n t terms z old
+    → (first l : List ℕ) (k j : ℕ)
+    → first ≡ begunBack n (t + 1) t z old
+    → Running bs n t terms z first k j l
+    → k ≤ 0
+    → Completed bs n t terms z old l
+running-end bs n t terms z old g first l k j e s none =
+    let last : k - waiting t terms ≡ 0 = omega arith in
+    let all : j ≡ 0 = by-cases (ℕ-discrete j 0) (λ h. h) (λ h.
+    let inside = s .passing .position in
+    let low = s .left 0 (omega arith) in
+    let one = accepted bs n t (g .accepted) .contact 0 (omega arith) .from-one in
+    absurd (omega arith)) in
+    let state : Passing bs n t terms z first 0 0 l =
+    subst (λ x. Passing bs n t terms z first x 0 l) last
+    (subst (λ x. Passing bs n t terms z first (k - waiting t terms) x l) all (s .passing)) in
+    let end = passing-end bs n t terms z first (s .ready) l state in
+    record {
+      table = end .table;
+      beyond = end .beyond ∙ ap (drop (n * (t + 1))) e ∙ begun-beyond bs n t terms z old g;
+      same = end .same ∙ ap length e ∙ begun-length bs n t terms z old g;
+    }

@@ -13,7 +13,7 @@ use borrow.Author.Tests.{eqb-true, eqb-false, eq-eqb, ne-eqb}
 use lib.Dec.{eqb}
 use lib.ListN.{length, length-append}
 use Rattle.temporal.specs.Lists.{tuples}
-use Rattle.temporal.specs.Plan.{Plan, Appearance, start}
+use Rattle.temporal.specs.Plan.{Plan, Terms, Appearance, start}
 use Rattle.temporal.specs.Walk.{step, run, lastOr, holds, endsIn, isAt, isWalkTo}
 use Rattle.temporal.specs.Shortest.{ofHops, shortestPaths, hops}
 use Rattle.temporal.specs.Bytes.{planOf}
@@ -96,15 +96,15 @@ shifted k m h fits = go (eqb m (h - (k + 1))) refl
 
 -- ---- in an accepted plan
 
-module _ (bs : List ℕ) (n t : ℕ) (ok : planFault bs n t ≡ 0) where
+module _ (bs : List ℕ) (n t : ℕ) (terms : Terms) (ok : planFault bs n t ≡ 0) where
   abbrev p : Plan
-  p = planOf bs n t
+  p = planOf bs n t terms
 
   -- a step leads to a station and a slot of the plan
   pub step-inside : (x : Appearance) (i : ℕ) {y : Appearance} → step p x i ≡ some y → (y .station < n) × (y .slot ≤ t)
   step-inside x i {y} e =
       let s = step-inv p x i e in
-      let c = contact-within bs n t ok i (s .contact) (s .at-position) in
+      let c = contact-within bs n t terms ok i (s .contact) (s .at-position) in
       let last = c .to-last in
       let same = s .same-slot in
       (leads-below (s .contact) (x .station) (y .station) n (c .hearer-station) (s .leads), omega arith)
@@ -113,14 +113,14 @@ module _ (bs : List ℕ) (n t : ℕ) (ok : planFault bs n t ≡ 0) where
   end-slot : (s : ℕ) (w : List ℕ) {x : Appearance} → s < n → endAfter p (start s) w ≡ some x → x .slot ≤ t
   end-slot s w inside e =
       let (l, runs, last) = end-inv p (start s) w e in
-      subst (λ (y : Appearance). y .slot ≤ t) last (walk-ends-within bs n t ok s w l inside runs .1)
+      subst (λ (y : Appearance). y .slot ≤ t) last (walk-ends-within bs n t terms ok s w l inside runs .1)
 
   module _ (z : ℕ) where
     -- the fewest hops to z are the fewest of the walks there
     home : (x : Appearance) → x .slot ≤ t → Fewest (λ w. endsIn p x (isAt z) w ≡ true) (homeFrom p z x)
     unfolding planOf
     home x inside =
-        fewest-home p z (slots-within bs n t ok) (let few = accepted bs n t ok .slots in omega arith) x inside
+        fewest-home p z (slots-within bs n t terms ok) (let few = accepted bs n t ok .slots in omega arith) x inside
 
     -- one step saves at most one hop
     home-step : (x : Appearance) (i : ℕ) {y : Appearance} → x .slot ≤ t → step p x i ≡ some y
@@ -168,7 +168,7 @@ module _ (bs : List ℕ) (n t : ℕ) (ok : planFault bs n t ≡ 0) where
     -- (kept) the pair's hops are what the start has to go
     start-home : homeFrom p z (start s) ≡ k
     unfolding homeFrom
-    start-home = ap hops (sym (shortest-walks-are-paths bs n t ok s z)) ∙ sym fewest
+    start-home = ap hops (sym (shortest-walks-are-paths bs n t terms ok s z)) ∙ sym fewest
 
     -- (kept) no positions with what their end has to go are fewer
     start-fewest : (w : List ℕ) {x : Appearance} → endAfter p (start s) w ≡ some x → k ≤ length w + homeFrom p z x
@@ -238,7 +238,7 @@ module _ (bs : List ℕ) (n t : ℕ) (ok : planFault bs n t ≡ 0) where
           within = λ w e.
               let (x, there, sum) = completes-inv w e in
               let (l, runs, last) = end-inv p (start s) w there in
-              (run-within p (slots-within bs n t ok) s w runs, run-positions p (start s) w runs);
+              (run-within p (slots-within bs n t terms ok) s w runs, run-positions p (start s) w runs);
         }
 
     -- the walks of the pair's hops to z are those that complete
@@ -260,10 +260,10 @@ module _ (bs : List ℕ) (n t : ℕ) (ok : planFault bs n t ≡ 0) where
     pub complete-list : shortestPaths p s z ≡ ofHops p (completes p s z k) k
     unfolding ofHops
     complete-list =
-        let walks = shortest-walks-are-paths bs n t ok s z in
+        let walks = shortest-walks-are-paths bs n t terms ok s z in
         let m = length (p .contacts) in
         walks
-        ∙ shortest-ofHops (bounded-ends p (slots-within bs n t ok) s (isAt z))
+        ∙ shortest-ofHops (bounded-ends p (slots-within bs n t terms ok) s (isAt z))
         ∙ ap (ofHops p (isWalkTo p s z)) (ap hops (sym walks) ∙ sym fewest)
         ∙ select-ext (tuples m k) (λ w mem. completes-walk w (mem-tuples m k .0 mem .0))
 
@@ -299,8 +299,8 @@ module _ (bs : List ℕ) (n t : ℕ) (ok : planFault bs n t ≡ 0) where
     pub hops-within : k ≤ t
     unfolding planOf
     hops-within =
-        let walks = shortest-walks-are-paths bs n t ok s z in
+        let walks = shortest-walks-are-paths bs n t terms ok s z in
         ⊎-elim
         (λ e. absurd (omega (arith, hops-empty (shortestPaths p s z) (walks ∙ e))))
         (λ h. omega (arith, ap hops walks))
-        (hops-bound (bounded-ends p (slots-within bs n t ok) s (isAt z)))
+        (hops-bound (bounded-ends p (slots-within bs n t terms ok) s (isAt z)))

@@ -7,7 +7,7 @@ use mathlib.Core.List.{List, []}
 use mathlib.Core.Option.{Option, none, some, bind}
 use lib.Dec.{ltb, eqb}
 use lib.ListN.{length, getD, set, take}
-use Rattle.temporal.specs.Plan.{Plan, Appearance, start}
+use Rattle.temporal.specs.Plan.{Plan, Terms, turning, Appearance, start}
 use Rattle.temporal.specs.Walk.{step, holds}
 use Rattle.temporal.specs.Shortest.{shortestPaths, hops}
 use Rattle.temporal.specs.Bytes.{records, planOf}
@@ -37,9 +37,12 @@ unfoldable pub foundOf : Found → Option ℕ
 foundOf (found.At i) = some i
 foundOf found.Nothing = none
 
--- the plan, the complete list of the pair, and the test whether positions begin a member of it
+-- the terms, the plan, the complete list of the pair, and the test whether positions begin a member of it
+abbrev pub termsIn : Pair → Terms
+termsIn q = turning (q .turnaround)
+
 abbrev pub planIn : List ℕ → Pair → Plan
-planIn bs q = planOf bs (q .stations) (q .slots)
+planIn bs q = planOf bs (q .stations) (q .slots) (termsIn q)
 
 abbrev pub listIn : List ℕ → Pair → List (List ℕ)
 listIn bs q = shortestPaths (planIn bs q) (q .source) (q .destination)
@@ -75,7 +78,7 @@ foundAt bs q l k from b =
 -- an accepted plan with a completion table of the destination
 pub record Searchable (bs : List ℕ) (q : Pair) (l : List ℕ) : Type 0 where
   pub accepted : planFault bs (q .stations) (q .slots) ≡ 0
-  pub table : Table bs (q .stations) (q .slots) (q .destination) l
+  pub table : Table bs (q .stations) (q .slots) (termsIn q) (q .destination) l
 
 -- besides, leg k of the pair's and a buffer that has an entry for it
 pub record Placeable (bs : List ℕ) (q : Pair) (l : List ℕ) (k : ℕ) (b : List ℕ) : Type 0 where
@@ -95,12 +98,12 @@ pub record Listable (bs : List ℕ) (q : Pair) (b : List ℕ) : Type 0 where
 -- what finding the first path asks
 pub record Startable (bs : List ℕ) (q : Pair) (l b : List ℕ) : Type 0 where
   pub listable : Listable bs q b
-  pub table : Table bs (q .stations) (q .slots) (q .destination) l
+  pub table : Table bs (q .stations) (q .slots) (termsIn q) (q .destination) l
 
 -- what advancing the first k entries asks: they begin a shortest path
 pub record Advancable (bs : List ℕ) (q : Pair) (l : List ℕ) (k : ℕ) (b : List ℕ) : Type 0 where
   pub listable : Listable bs q b
-  pub table : Table bs (q .stations) (q .slots) (q .destination) l
+  pub table : Table bs (q .stations) (q .slots) (termsIn q) (q .destination) l
   pub legs : k ≤ q .hops
   pub standing : begins bs q (take k b) ≡ true
 
@@ -111,7 +114,7 @@ isOffered bs q b = holds (indexIn (listIn bs q) b) (λ i. true)
 -- what finding the next path asks: the buffer begins with a shortest path
 pub record Continuable (bs : List ℕ) (q : Pair) (l b : List ℕ) : Type 0 where
   pub listable : Listable bs q b
-  pub table : Table bs (q .stations) (q .slots) (q .destination) l
+  pub table : Table bs (q .stations) (q .slots) (termsIn q) (q .destination) l
   pub offered : isOffered bs q b ≡ true
 
 -- The buffer is moved from the member of a list with which it begins to the next one; on the last it stays.

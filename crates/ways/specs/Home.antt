@@ -4,7 +4,7 @@ use Prim.Native.Nat.{ℕ, _+_, _*_, _<_, _≤_}
 use mathlib.Core.Path.{_≡_}
 use mathlib.Core.List.{List}
 use lib.ListN.{length, getD, drop}
-use Rattle.temporal.specs.Plan.{Plan, Appearance}
+use Rattle.temporal.specs.Plan.{Plan, Terms, Appearance}
 use Rattle.temporal.specs.Walk.{endsIn, isAt}
 use Rattle.temporal.specs.Shortest.{shortest, hops}
 use Rattle.temporal.specs.Bytes.{planOf}
@@ -23,18 +23,19 @@ abbrev pub homeHops : Plan → ℕ → ℕ → ℕ → ℕ
 homeHops p z v u = homeFrom p z (appearance v u)
 
 -- a table whose entry at place v (T + 1) + u is what the appearance (v, u) has to go
-pub record Table (bs : List ℕ) (n t z : ℕ) (l : List ℕ) : Type 0 where
+pub record Table (bs : List ℕ) (n t : ℕ) (terms : Terms) (z : ℕ) (l : List ℕ) : Type 0 where
   pub fits : n * (t + 1) ≤ length l
-  pub entry : (v u : ℕ) → v < n → u < t + 1 → getD l (v * (t + 1) + u) 0 ≡ homeHops (planOf bs n t) z v u
+  pub entry : (v u : ℕ) → v < n → u < t + 1 → getD l (v * (t + 1) + u) 0 ≡ homeHops (planOf bs n t terms) z v u
 
--- what filling the table asks: an accepted plan, a destination in it, and room
-pub record Completable (bs : List ℕ) (n t z : ℕ) (l : List ℕ) : Type 0 where
+-- what filling the table asks: an accepted plan, a turnaround, a destination in the plan, and room
+pub record Completable (bs : List ℕ) (n t : ℕ) (terms : Terms) (z : ℕ) (l : List ℕ) : Type 0 where
   pub accepted : planFault bs n t ≡ 0
+  pub turns : 0 < terms .turnaround
   pub destination : z < n
   pub fits : n * (t + 1) ≤ length l
 
 -- the table is filled, and the entries past it and the length are kept
-pub record Completed (bs : List ℕ) (n t z : ℕ) (old new : List ℕ) : Type 0 where
-  pub table : Table bs n t z new
+pub record Completed (bs : List ℕ) (n t : ℕ) (terms : Terms) (z : ℕ) (old new : List ℕ) : Type 0 where
+  pub table : Table bs n t terms z new
   pub beyond : drop (n * (t + 1)) new ≡ drop (n * (t + 1)) old
   pub same : length new ≡ length old

@@ -18,8 +18,7 @@ use Rattle.ways.specs.Home.{homeFrom}
 unfoldable pub endAfter : Plan → Appearance → List ℕ → Option Appearance
 endAfter p x w = Option·map (lastOr x) (run p x w)
 
--- Whether w is a walk from s whose hops and the fewest hops from its end to z are together k. Where k is the pair's
--- hops
+-- Whether w is a walk from s whose hops and the fewest hops from its end to z are together k. Where k is the pair's hops
 -- these are the beginnings of its shortest paths: document 01's legs of which the last contact leads home.
 unfoldable pub completes : Plan → ℕ → ℕ → ℕ → List ℕ → Bool
 completes p s z k w = holds (endAfter p (start s) w) (λ x. eqb (length w + homeFrom p z x) k)

@@ -2,9 +2,9 @@
 // with one, and the one after it. None of these is an operation: a caller has excluded every cause of refusal before.
 ghost use mathlib.Core.Path.{_≡_};
 ghost use mathlib.Core.List.{[]};
-ghost use Prim.Native.Nat.{ℕ, _+_, _-_, _*_, _<_, _≤_};
+ghost use Prim.Native.Nat.{ℕ, _+_, _-_, _*_, _<_, _≤_, min};
 ghost use lib.ListN.{length, getD, set, take};
-ghost use Rattle.temporal.specs.Plan.{start};
+ghost use Rattle.temporal.specs.Plan.{Plan, turning, start, mayFollow};
 ghost use Rattle.temporal.specs.Walk.{step};
 ghost use Rattle.temporal.specs.Bytes.{contactAt, records, planOf};
 ghost use Rattle.temporal.specs.Outcome.{over};
@@ -15,8 +15,11 @@ ghost use Rattle.ways.specs.Column.{
   copiedFrom,
   begunBack,
   lastInSlot,
+  leftBefore,
+  foldedColumn,
   turnedBack,
   FoldableBack,
+  FoldableColumn,
   TurnableBack,
 };
 ghost use Rattle.ways.specs.Prefix.{endAfter, Advanced};
@@ -42,10 +45,11 @@ ghost use Rattle.ways.specs.Found.{
   Stepped,
 };
 
-// What a listing is about: the numbers of an accepted plan, a pair of its stations, and the pair's hops.
+// What a listing is about: the numbers of an accepted plan, its units' turnaround, a pair of its stations, and the pair's hops.
 pub struct Pair {
     pub stations: usize,
     pub slots: usize,
+    pub turnaround: usize,
     pub source: usize,
     pub destination: usize,
     pub hops: usize,
@@ -80,14 +84,14 @@ fn lower(work: &mut [u64], at: usize, from: usize)
     }
 }
 
-// Folds the record at j into column u: its sender's entry is lowered by its hearer's of the next column.
-fn fold_back(work: &mut [u64], plan: &[u8], width: usize, u: usize, j: usize)
-    requires { ⌜ FoldableBack (now plan) width u j (now work) ⌝ }
+// Folds the record at j, of slot k, into column u: its sender's entry is lowered by its hearer's of column k.
+fn fold_back(work: &mut [u64], plan: &[u8], width: usize, u: usize, k: usize, j: usize)
+    requires { ⌜ FoldableBack (now plan) width u k j (now work) ⌝ }
     ensures { λ _. ⌜ now (work .exit) ≡ foldedBack width u (contactAt (now (plan .entry)) j) (now (work .entry)) ⌝ }
 {
     let c = plan::contact_at(plan, j);
     let at = c.sender * width + u;
-    let from = c.hearer * width + u + 1;
+    let from = c.hearer * width + k;
     lower(work, at, from);
 }
 
@@ -121,48 +125,88 @@ fn begin_back(work: &mut [u64], n: usize, width: usize, t: usize, z: usize)
     work[home] = 0;
 }
 
-// Whether there is a record before position j and the last of them lies in slot u.
-fn last_in_slot(plan: &[u8], j: usize, u: usize) -> bool
+// Whether there is a record before position j and the last of them lies in slot k.
+fn last_in_slot(plan: &[u8], j: usize, k: usize) -> bool
     requires { ⌜ j * 6 ≤ length (now plan) ⌝ }
-    ensures { λ r. ⌜ r ≡ lastInSlot (now (plan .entry)) j u ⌝ }
+    ensures { λ r. ⌜ r ≡ lastInSlot (now (plan .entry)) j k ⌝ }
 {
     if 0 < j {
         let c = plan::contact_at(plan, j - 1);
-        c.slot == u
+        c.slot == k
     } else {
         false
     }
 }
 
-// One turn of the pass in column u: folds the last record before j in where it lies in the next slot, and else goes on to
-// the column before. True where it folded.
-fn turn_back(work: &mut [u64], plan: &[u8], n: usize, width: usize, u: usize, j: usize) -> bool
-    requires { ⌜ TurnableBack (now plan) n width u j (now work) ⌝ }
-    ensures { λ r. ⌜ (r ≡ lastInSlot (now (plan .entry)) j (u + 1)) × (now (work .exit) ≡ turnedBack (now (plan .entry)) n width u j (now (work .entry))) ⌝ }
+// Folds the last records before position j into column u, as long as they lie in slot k. How many are left before them.
+fn fold_column(work: &mut [u64], plan: &[u8], width: usize, u: usize, k: usize, j: usize) -> usize
+    requires { ⌜ FoldableColumn (now plan) width u k j (now work) ⌝ }
+    ensures { λ r. ⌜ (r ≡ leftBefore (now (plan .entry)) k j) × (now (work .exit) ≡ foldedColumn (now (plan .entry)) width u k j (now (work .entry))) ⌝ }
 {
-    if last_in_slot(plan, j, u + 1) {
-        fold_back(work, plan, width, u, j - 1);
-        return true;
+    let mut i = j;
+    while last_in_slot(plan, i, k) {
+        i -= 1;
+        fold_back(work, plan, width, u, k, i);
     }
-    copy_column(work, n, width, u - 1);
-    false
+    i
 }
 
-// Fills the completion table of destination z: one pass back over the slots and the records.
-pub fn complete(work: &mut [u64], plan: &[u8], n: usize, t: usize, z: usize)
-    requires { ⌜ Completable (now plan) n t z (now work) ⌝ }
-    ensures { λ _. ⌜ Completed (now (plan .entry)) n t z (now (work .entry)) (now (work .exit)) ⌝ }
+// The smaller of two numbers.
+fn least(a: usize, b: usize) -> usize
+    ensures { λ r. ⌜ r ≡ min a b ⌝ }
+{
+    if a < b {
+        return a;
+    }
+    b
+}
+
+// What one number is more than another; 0 where it is not.
+fn above(a: usize, b: usize) -> usize
+    ensures { λ r. ⌜ r ≡ a - b ⌝ }
+{
+    if a < b {
+        return 0;
+    }
+    a - b
+}
+
+// One turn of the pass: folds the records of slot k into the last column that they may follow, q slots before, and goes on to the
+// column before it. How many records are left.
+fn turn_back(
+    work: &mut [u64],
+    plan: &[u8],
+    n: usize,
+    t: usize,
+    q: usize,
+    k: usize,
+    j: usize,
+) -> usize
+    requires { ⌜ TurnableBack (now plan) n t q k j (now work) ⌝ }
+    ensures { λ r. ⌜ (r ≡ leftBefore (now (plan .entry)) k j) × (now (work .exit) ≡ turnedBack (now (plan .entry)) n t q k j (now (work .entry))) ⌝ }
 {
     let width = t + 1;
-    begin_back(work, n, width, t, z);
-    let mut u = t;
+    let u = above(k, q);
+    let left = fold_column(work, plan, width, u, k, j);
+    if 0 < u {
+        copy_column(work, n, width, u - 1);
+        return left;
+    }
+    left
+}
+
+// Fills the completion table of destination z: one pass back over the slots and the records. What is heard waits q slots.
+pub fn complete(work: &mut [u64], plan: &[u8], n: usize, t: usize, g: usize, z: usize)
+    requires { ⌜ Completable (now plan) n t (turning g) z (now work) ⌝ }
+    ensures { λ _. ⌜ Completed (now (plan .entry)) n t (turning g) z (now (work .entry)) (now (work .exit)) ⌝ }
+{
+    begin_back(work, n, t + 1, t, z);
+    let q = least(g, t);
+    let mut k = t + q;
     let mut j = plan.len() / 6;
-    while 0 < u + j {
-        if turn_back(work, plan, n, width, u, j) {
-            j -= 1;
-        } else {
-            u -= 1;
-        }
+    while 0 < k {
+        j = turn_back(work, plan, n, t, q, k, j);
+        k -= 1;
     }
 }
 
@@ -173,18 +217,31 @@ fn wide(x: u16) -> usize
     x as usize
 }
 
+// Whether a contact in slot u may follow an appearance in slot t.
+fn may_follow(g: usize, t: usize, u: usize) -> bool
+    ensures { λ r. ⌜ ((p : Plan) → p .terms ≡ turning g → r ≡ mayFollow p t u) ⌝ }
+{
+    if u <= t {
+        return false;
+    }
+    if t == 0 {
+        return true;
+    }
+    g <= u - t
+}
+
 // Where position i leads from an appearance. A position that is no record leads nowhere.
-fn step_on(plan: &[u8], x: Spot, i: usize) -> End
-    ensures { λ r. ⌜ ((n t : ℕ) → endOf r ≡ step (planOf (now (plan .entry)) n t) (spotOf x) i) ⌝ }
+fn step_on(plan: &[u8], g: usize, x: Spot, i: usize) -> End
+    ensures { λ r. ⌜ ((n t : ℕ) → endOf r ≡ step (planOf (now (plan .entry)) n t (turning g)) (spotOf x) i) ⌝ }
 {
     if plan.len() / 6 <= i {
         return End::Nowhere;
     }
     let c = plan::contact_at(plan, i);
-    if c.slot <= x.slot {
+    if x.station != c.sender {
         return End::Nowhere;
     }
-    if x.station == c.sender {
+    if may_follow(g, x.slot, c.slot) {
         return End::At(Spot {
             station: c.hearer,
             slot: c.slot,
@@ -204,7 +261,7 @@ fn end_of(way: &[u16], plan: &[u8], q: Pair, k: usize) -> End
     };
     let mut i = 0;
     while i < k {
-        let next = step_on(plan, x, wide(way[i]));
+        let next = step_on(plan, q.turnaround, x, wide(way[i]));
         let End::At(y) = next else {
             return End::Nowhere;
         };
@@ -219,7 +276,7 @@ fn serves(work: &[u64], plan: &[u8], q: Pair, x: Spot, need: u64, i: usize) -> b
     requires { ⌜ Searchable (now plan) q (now work) ⌝ }
     ensures { λ r. ⌜ r ≡ servesAt (planIn (now (plan .entry)) q) (now (work .entry)) (q .slots + 1) (spotOf x) need i ⌝ }
 {
-    let end = step_on(plan, x, i);
+    let end = step_on(plan, q.turnaround, x, i);
     let End::At(y) = end else {
         return false;
     };

@@ -16,6 +16,7 @@ macro_rules! way_function {
             plan_length: usize,
             n: usize,
             t: usize,
+            g: usize,
             s: usize,
             z: usize,
             hops: *mut usize,
@@ -35,6 +36,7 @@ extern "C" {
         plan_length: usize,
         n: usize,
         t: usize,
+        g: usize,
         s: usize,
         hops: *mut u16,
         hops_length: usize,
@@ -66,6 +68,7 @@ extern "C" {
         plan_length: usize,
         n: usize,
         t: usize,
+        g: usize,
         s: usize,
         z: usize,
         hops: *mut usize,
@@ -80,6 +83,7 @@ extern "C" {
         plan_length: usize,
         n: usize,
         t: usize,
+        g: usize,
         pairs: *mut u64,
         pairs_length: usize,
         loads: *mut u64,
@@ -92,6 +96,7 @@ extern "C" {
         plan_length: usize,
         n: usize,
         t: usize,
+        g: usize,
         station: *mut usize,
         work: *mut u64,
         work_length: usize,
@@ -101,6 +106,7 @@ extern "C" {
         plan_length: usize,
         n: usize,
         t: usize,
+        g: usize,
         s: usize,
         z: usize,
         count: *mut u64,
@@ -114,6 +120,7 @@ extern "C" {
         plan_length: usize,
         n: usize,
         t: usize,
+        g: usize,
         s: usize,
         z: usize,
         arrival: *mut usize,
@@ -133,7 +140,7 @@ fn size(slot: &mut u64) -> *mut usize {
     (slot as *mut u64).cast()
 }
 
-/// Calls a function that reads a plan: the plan, n and T come first.
+/// Calls a function that takes a turnaround: the plan, n, T and g come first.
 ///
 /// SAFETY of each call: each pointer comes with the length of its own slice, or is of a slot that the
 /// caller lends.
@@ -144,16 +151,19 @@ macro_rules! on_plan {
                 $input.bytes.as_ptr(),
                 $input.bytes.len(),
                 $input.stations,
-                $input.slots
+                $input.slots,
+                $input.turnaround
                 $(, $argument)*
             )
         }
     };
 }
 
-/// Operation 1.
+/// Operation 1, on the plan, n and T of an input.
 pub fn check(input: PlanInput) -> u32 {
-    on_plan!(joftaki_check, input)
+    let (plan, n, t) = (input.bytes, input.stations, input.slots);
+    // SAFETY: as above.
+    unsafe { joftaki_check(plan.as_ptr(), plan.len(), n, t) }
 }
 
 /// Operation 2.

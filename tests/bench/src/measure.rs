@@ -61,6 +61,20 @@ pub fn in_turn<E>(
     })
 }
 
+/// Compares the results, then times the library in turn on two plans of equal sizes, for each call.
+pub fn measure_plans(plans: [&Plan; 2], question: Question, effort: Effort) -> Times {
+    for plan in plans {
+        compare(plan, question);
+    }
+    let mut lent = Lent::new(plans[0]);
+    let Ok(times) = in_turn(effort, |side| {
+        let start = thread_time();
+        let calls = ask(&LIBRARY, plans[side], question, &mut lent);
+        Ok::<Duration, Infallible>((thread_time() - start) / calls)
+    });
+    times
+}
+
 /// Compares the results, then times the library and Rust in turn on the same lent memory.
 pub fn measure(plan: &Plan, question: Question, effort: Effort) -> Times {
     compare(plan, question);

@@ -4,11 +4,11 @@
 use std::collections::BTreeSet;
 
 use lister::cases::{doubled, plan_bytes, Record};
-use lister::plan::{Ends, PlanInput, RECORD_BYTES};
+use lister::plan::{Ends, PlanInput, LEAST_TURNAROUND, RECORD_BYTES};
 use lister::random::Random;
 use lister::reach_cases;
 
-use crate::native::pass::{pass, Task};
+use crate::native::pass::{pass, pass_entries, Task};
 
 /// The seed of every random plan.
 const SEED: u64 = 1;
@@ -21,6 +21,8 @@ pub struct Plan {
     pub stations: usize,
     /// T
     pub slots: usize,
+    /// g
+    pub turnaround: usize,
     bytes: Vec<u8>,
 }
 
@@ -30,7 +32,13 @@ impl Plan {
             bytes: &self.bytes,
             stations: self.stations,
             slots: self.slots,
+            turnaround: self.turnaround,
         }
+    }
+
+    /// The plan with another turnaround.
+    pub fn turning(self, turnaround: usize) -> Plan {
+        Plan { turnaround, ..self }
     }
 
     pub fn records(&self) -> usize {
@@ -58,7 +66,7 @@ impl Plan {
             low: 0,
             block: 0,
         };
-        let mut work = vec![0; 4 * self.stations];
+        let mut work = vec![0; pass_entries(self.input(), 0)];
         let area = pass(&mut work, self.input(), task).expect("counts within 64 bits");
         area.counts.to_vec()
     }
@@ -81,6 +89,7 @@ fn random(name: &str, stations: usize, slots: usize, records: usize) -> Plan {
         name: name.to_string(),
         stations,
         slots,
+        turnaround: LEAST_TURNAROUND,
         bytes: plan_bytes(&doubled(&contacts)),
     }
 }
@@ -93,6 +102,7 @@ fn ladder(name: &str, layers: usize) -> Plan {
         name: name.to_string(),
         stations: stations.into(),
         slots: slots.into(),
+        turnaround: LEAST_TURNAROUND,
         bytes: builder.bytes(),
     }
 }
@@ -106,6 +116,14 @@ pub fn named() -> [Plan; 4] {
         ladder("ladder of 64 layers", 64),
         random("load program's limit", 32, 63, 1024),
     ]
+}
+
+/// The largest random plan with each turnaround that is timed beside the least one.
+pub fn turned() -> [Plan; 2] {
+    [2, 16].map(|turnaround| {
+        let [largest, ..] = named();
+        largest.turning(turnaround)
+    })
 }
 
 /// The plan of a name.

@@ -84,9 +84,10 @@ impl Lent {
     }
 }
 
-/// Asks one side; an answer that is no acceptance stops the program.
-pub fn ask(side: &Side, plan: &Plan, question: Question, lent: &mut Lent) {
+/// Asks one side, and gives the number of calls; an answer that is no acceptance stops the program.
+pub fn ask(side: &Side, plan: &Plan, question: Question, lent: &mut Lent) -> u32 {
     let input = plan.input();
+    let mut calls = 1;
     match question {
         Question::Loads => {
             let number = (side.loads)(input, &mut lent.pairs, &mut lent.loads, &mut lent.work);
@@ -101,10 +102,12 @@ pub fn ask(side: &Side, plan: &Plan, question: Question, lent: &mut Lent) {
                 (side.way)(Way::First, input, ends, &mut lent.buffer, &mut lent.work);
             while number == 0 {
                 (number, _) = (side.way)(Way::Next, input, ends, &mut lent.buffer, &mut lent.work);
+                calls += 1;
             }
             assert_eq!(number, LAST);
         }
     }
+    calls
 }
 
 /// Both sides, each with lent memory of its own, in step.

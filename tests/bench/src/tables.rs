@@ -4,9 +4,9 @@ use std::time::Duration;
 
 use lister::plan::Ends;
 
-use crate::measure::{measure, Effort, Times, WHOLE};
-use crate::plans::{by_records, by_slots, by_stations, named, Plan};
-use crate::question::{timed_pair, Question};
+use crate::measure::{measure, measure_plans, Effort, Times, WHOLE};
+use crate::plans::{by_records, by_slots, by_stations, named, turned, Plan};
+use crate::question::{question_of, timed_pair, Question, QUESTIONS};
 
 /// The questions of the named plans.
 fn questions(effort: Effort) {
@@ -19,6 +19,7 @@ fn questions(effort: Effort) {
 pub fn all() {
     let effort = WHOLE;
     questions(effort);
+    turnarounds(effort);
     growth("Loads by records", effort, &by_records());
     growth("Loads by n", effort, &by_stations());
     growth("Loads by T", effort, &by_slots());
@@ -91,6 +92,24 @@ fn of_pairs(title: &str, effort: Effort, plans: &[Plan], question: impl Fn(Ends)
         let mut cells = vec![plan.name.clone(), pair, paths.to_string()];
         cells.extend(timed(&times));
         print_row(&cells);
+    }
+    println!();
+}
+
+/// Each question on the largest plan with longer turnarounds beside the least one, by the library alone;
+/// a listing's time is that of one call.
+fn turnarounds(effort: Effort) {
+    let columns = ["question", "plan", "g", "ms", "with g = 1, ms", "ratio"];
+    print_head("Turnarounds", &columns);
+    for name in QUESTIONS {
+        for plan in turned() {
+            let [least, ..] = named();
+            let question = question_of(name, &plan).expect("a known question");
+            let times = measure_plans([&plan, &least], question, effort);
+            let mut cells = vec![name.to_string(), plan.name.clone(), plan.turnaround.to_string()];
+            cells.extend(timed(&times));
+            print_row(&cells);
+        }
     }
     println!();
 }

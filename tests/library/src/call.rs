@@ -50,7 +50,7 @@ fn lengths<N>(tables: &[Vec<N>]) -> Vec<usize> {
 }
 
 impl fmt::Display for Call<'_> {
-    /// The plan as lines "slot a b" (a sends, b hears), n, T, the arguments and the lengths.
+    /// The plan as lines "slot a b" (a sends, b hears), n, T, g, the arguments and the lengths.
     fn fmt(&self, to: &mut fmt::Formatter) -> fmt::Result {
         for contact in contacts(self.input.bytes) {
             let Contact {
@@ -65,9 +65,12 @@ impl fmt::Display for Call<'_> {
             writeln!(to, "and the bytes {rest:?}")?;
         }
         let PlanInput {
-            stations, slots, ..
+            stations,
+            slots,
+            turnaround,
+            ..
         } = self.input;
-        writeln!(to, "n {stations} T {slots}")?;
+        writeln!(to, "n {stations} T {slots} g {turnaround}")?;
         let named = &self.stations[..self.operation.stations()];
         write!(to, "{}, stations {named:?}", function(self.operation))?;
         write!(to, ", 16-bit tables {:?}", lengths(&self.lent.narrow))?;

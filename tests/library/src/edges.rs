@@ -1,11 +1,17 @@
-//! Plans at the edges of the limits: most stations, slots and records, and counts around 2^64.
+//! Plans at the edges of the limits: most stations, slots and records, counts around 2^64, and the smallest
+//! and the largest turnarounds.
 
 use lister::cases::Record;
 use lister::means::COUNTED;
 use lister::operation::{Operation, LAST, OPERATIONS};
+use lister::plan::{LEAST_TURNAROUND, MOST_TURNAROUND};
 use lister::plans::{pairs, Owned};
 use lister::random::Random;
-use lister::reach_cases::{exact_plans, falling_ladder, ladder, sent_ladder};
+use lister::reach_cases::{
+    exact_plans, falling_ladder, ladder, most_turnaround, sent_ladder, spaced_ladder,
+    spaced_sent_ladder, SPACED_LADDERS,
+};
+use lister::turned::spaced_row;
 
 use crate::call::Call;
 use crate::compare::{Comparison, Difference};
@@ -23,7 +29,10 @@ pub fn compare(comparison: &mut Comparison, seed: u64) -> Result<(), Difference>
         some_calls(comparison, random, &owned, COUNTED, 2)?;
     }
     most_records(comparison, random)?;
-    last_positions(comparison, random)
+    for turnaround in [LEAST_TURNAROUND, 2, MOST_TURNAROUND] {
+        last_positions(comparison, random, turnaround)?;
+    }
+    turnarounds(comparison, random)
 }
 
 /// So many records in the first slots, each slot's between the first 64 stations.
@@ -62,7 +71,30 @@ fn plans() -> Vec<Owned> {
         plans.push(Owned::built(&sent_ladder(layers, width)));
     }
     plans.extend([64, 65].map(|layers| Owned::built(&falling_ladder(layers))));
-    let exact = exact_plans(64);
+    let exact = exact_plans(64, LEAST_TURNAROUND);
+    plans.extend(exact.iter().map(|plan| Owned::built(&plan.builder)));
+    plans.extend(turned_plans());
+    plans
+}
+
+/// Plans with turnarounds above 1: none of the hops of some can follow each other, those of others just can.
+fn turned_plans() -> Vec<Owned> {
+    let mut plans = Vec::new();
+    for turnaround in [2, 3, MOST_TURNAROUND] {
+        let empty = Owned::new(256, 255, &[]);
+        let full = Owned::new(256, 255, &packed(8192));
+        let row = Owned::new(256, 255, &spaced_row(turnaround as u16));
+        let most = [empty, line(), last_heard(), full, row];
+        plans.extend(most.map(|plan| plan.turning(turnaround)));
+        plans.push(Owned::built(&ladder(64, 2)).turning(turnaround));
+    }
+    for (turnaround, layers, width, _) in SPACED_LADDERS {
+        let sent = Owned::built(&spaced_sent_ladder(turnaround, layers, width));
+        plans.push(sent.clone().turning(turnaround - 1));
+        plans.push(sent);
+        plans.push(Owned::built(&spaced_ladder(turnaround, layers, width)));
+    }
+    let exact = [exact_plans(64, 2), exact_plans(64, 3), most_turnaround()].concat();
     plans.extend(exact.iter().map(|plan| Owned::built(&plan.builder)));
     plans
 }
@@ -113,9 +145,13 @@ fn most_records(comparison: &mut Comparison, random: &mut Random) -> Result<(), 
 }
 
 /// Next way on paths that end with position 8,191, and on positions that are no such path, some of
-/// them no record's.
-fn last_positions(comparison: &mut Comparison, random: &mut Random) -> Result<(), Difference> {
-    let owned = last_heard();
+/// them no record's. The last hop is more than the largest turnaround after the first.
+fn last_positions(
+    comparison: &mut Comparison,
+    random: &mut Random,
+    turnaround: usize,
+) -> Result<(), Difference> {
+    let owned = last_heard().turning(turnaround);
     for (offered, number) in [
         ([4, 8191], 0),
         ([4036, 8191], 0),
@@ -129,6 +165,41 @@ fn last_positions(comparison: &mut Comparison, random: &mut Random) -> Result<()
         let mut call = lend::call(random, operation, input, [0, 255], Lengths::Named);
         call.lent.narrow[0][..2].copy_from_slice(&offered);
         stated(comparison, &call, number)?;
+    }
+    Ok(())
+}
+
+/// Turnarounds at their limits and outside of them, some inside in their low bits: every operation that takes
+/// one gives 12 outside, and check and row do not look at it.
+const TURNAROUNDS: [(usize, bool); 12] = [
+    (0, false),
+    (1, true),
+    (2, true),
+    (15, true),
+    (16, true),
+    (17, false),
+    (256 + 1, false),
+    (65535, false),
+    (65536 + 1, false),
+    ((1 << 32) + 1, false),
+    (1 << 63, false),
+    (usize::MAX, false),
+];
+
+fn turnarounds(comparison: &mut Comparison, random: &mut Random) -> Result<(), Difference> {
+    let records = [(1, 0, 1), (1, 1, 2), (17, 1, 2), (17, 2, 3), (33, 2, 3)];
+    for (turnaround, known) in TURNAROUNDS {
+        let owned = Owned::new(4, 33, &records).turning(turnaround);
+        for operation in OPERATIONS {
+            for lengths in [Lengths::Named, Lengths::Any] {
+                let call = lend::call(random, operation, owned.input(), [0, 3], lengths);
+                if !known && operation.causes().contains(&12) {
+                    stated(comparison, &call, 12)?;
+                } else {
+                    comparison.compare(&call, COUNTED)?;
+                }
+            }
+        }
     }
     Ok(())
 }

@@ -1,10 +1,11 @@
-//! Generated plans: small and large, valid and damaged.
+//! Generated plans: small and large, valid and damaged, and turnarounds.
 
 use lister::cases::{damage, doubled, valid_records, Case};
-use lister::plan::{MOST_CONTACTS, MOST_SLOTS, MOST_STATIONS, RECORD_BYTES};
+use lister::plan::{MOST_CONTACTS, MOST_SLOTS, MOST_STATIONS, MOST_TURNAROUND, RECORD_BYTES};
 use lister::plans::{random_plan, Owned};
 use lister::random::Random;
 use lister::reach_cases::Builder;
+use lister::turned::{drawn_turnaround, random_turned_plan};
 
 /// A valid plan of so many stations and slots: one of three with so many records, each in both
 /// directions, or with twice so many in any direction; records that are drawn again count once.
@@ -19,8 +20,9 @@ fn drawn(random: &mut Random, stations: usize, slots: usize, wanted: usize) -> O
 
 /// A valid plan with few walks: dense in few slots, a few stations in more slots, or few records.
 pub fn small(random: &mut Random) -> Owned {
-    match random.below(4) {
-        0 | 1 => random_plan(random),
+    match random.below(5) {
+        0 => random_turned_plan(random),
+        1 | 4 => random_plan(random),
         2 => {
             let (stations, slots) = (random.between(2, 4), random.between(2, 9));
             let wanted = random.between(0, 14);
@@ -58,6 +60,7 @@ pub fn damaged(random: &mut Random, owned: Owned) -> Owned {
         bytes: case.bytes,
         stations: case.stations.into(),
         slots: case.slots.into(),
+        turnaround: owned.turnaround,
     }
 }
 
@@ -93,6 +96,21 @@ pub fn far(random: &mut Random, number: usize) -> usize {
     }
 }
 
+/// The plan with a turnaround in its limits.
+pub fn turned(random: &mut Random, owned: Owned) -> Owned {
+    owned.turning(drawn_turnaround(random))
+}
+
+/// A turnaround outside of its limits; some are inside of them in their low bits.
+pub fn wrong_turnaround(random: &mut Random) -> usize {
+    let known = random.between(1, MOST_TURNAROUND);
+    match random.below(4) {
+        0 => 0,
+        1 => MOST_TURNAROUND + 1,
+        _ => far(random, known),
+    }
+}
+
 /// The plan with another n or T, mostly outside of its limits.
 pub fn resized(random: &mut Random, owned: Owned) -> Owned {
     let (stations, slots) = (owned.stations, owned.slots);
@@ -123,18 +141,20 @@ pub fn full(random: &mut Random) -> Owned {
     owned
 }
 
-/// A valid plan with too many walks to be listed; some have over 2^64−1 shortest ones.
+/// A valid plan with a turnaround and too many walks to be listed; some have over 2^64−1 shortest ones.
 pub fn large(random: &mut Random) -> Owned {
     match random.below(4) {
         0 => {
             let (stations, slots) = (random.between(8, 64), random.between(4, 63));
             let wanted = random.between(50, 600);
-            drawn(random, stations, slots, wanted)
+            let owned = drawn(random, stations, slots, wanted);
+            turned(random, owned)
         }
         1 => {
             let (stations, slots) = (random.between(2, 10), random.between(20, MOST_SLOTS));
             let wanted = random.between(100, 1200);
-            drawn(random, stations, slots, wanted)
+            let owned = drawn(random, stations, slots, wanted);
+            turned(random, owned)
         }
         2 => Owned::built(&layers(random)),
         _ => Owned::built(&row(random)),
@@ -142,14 +162,23 @@ pub fn large(random: &mut Random) -> Owned {
 }
 
 /// Layers of stations: in some of the slots between two layers their stations meet, or those of the
-/// one send to those of the other; and a few stations meet in any slot.
+/// one send to those of the other, mostly a turnaround or more after the layer before; and a few stations
+/// meet in any slot.
 fn layers(random: &mut Random) -> Builder {
-    let mut builder = Builder::start();
+    let turnaround = drawn_turnaround(random);
+    let mut builder = Builder::turning(turnaround);
     let (most_width, most_slots) = (random.between(1, 6), random.between(1, 4));
     let mut before = vec![0];
     let mut slot = 0;
     let mut stations = 1;
     for _ in 0..random.between(8, 40) {
+        if slot + turnaround + most_slots + 3 > MOST_SLOTS {
+            break;
+        }
+        slot += match random.below(8) {
+            0 => random.below(turnaround),
+            _ => turnaround - 1,
+        };
         let next = builder.layer(random.between(1, most_width));
         stations += next.len();
         for _ in 0..random.between(1, most_slots) {
@@ -176,10 +205,11 @@ fn layers(random: &mut Random) -> Builder {
     builder
 }
 
-/// A row of stations with as many slots between two, and around 2^64 paths from end to end.
+/// A row of stations with as many slots between two, and around 2^64 paths from end to end; up to
+/// turnaround 3 it fits the slots.
 fn row(random: &mut Random) -> Builder {
     let (width, stages) = [(2, 64), (3, 41), (4, 32), (5, 28), (8, 22)][random.below(5)];
-    let mut builder = Builder::start();
+    let mut builder = Builder::turning(random.between(1, 3));
     builder.slot_ladder(stages - random.below(4), width);
     builder
 }

@@ -4,7 +4,7 @@ use lister::cursor::{Cursor, Step};
 use lister::lent::appearances;
 use lister::means::{Means, COUNTED, COUNT_LIMIT, LISTED};
 use lister::operation::{way_hops, way_number, Operation, OPERATIONS};
-use lister::plan::{check, MOST_SLOTS, MOST_STATIONS, RECORD_BYTES};
+use lister::plan::{read, MOST_SLOTS, MOST_STATIONS, RECORD_BYTES};
 use lister::plans::{pairs, Owned};
 use lister::random::Random;
 use lister::traces::random_trace;
@@ -15,12 +15,13 @@ use crate::compare::{Comparison, Difference};
 use crate::lend::{self, Lengths};
 use crate::plans;
 
-/// One round: a plan, calls of every operation on it, and traces.
+/// One round: a plan with a turnaround, calls of every operation on it, and traces.
 pub fn compare(comparison: &mut Comparison, seed: u64) -> Result<(), Difference> {
     let random = &mut Random::new(seed);
     match random.below(64) {
         0 => {
             let owned = plans::full(random);
+            let owned = plans::turned(random, owned);
             some_calls(comparison, random, &owned, COUNTED, 1)
         }
         1..=4 => {
@@ -40,12 +41,18 @@ pub fn compare(comparison: &mut Comparison, seed: u64) -> Result<(), Difference>
     }
 }
 
-/// Most plans as they are, some damaged or with other stations or sizes.
+/// The plan with a turnaround drawn, some outside of its limits; some plans damaged or with other stations
+/// or sizes.
 fn changed(random: &mut Random, owned: Owned) -> Owned {
+    let turned = plans::turned(random, owned);
+    let owned = match random.below(12) {
+        0..=2 => plans::damaged(random, turned),
+        3 => plans::other_stations(random, turned),
+        4 => plans::resized(random, turned),
+        _ => turned,
+    };
     match random.below(12) {
-        0..=2 => plans::damaged(random, owned),
-        3 => plans::other_stations(random, owned),
-        4 => plans::resized(random, owned),
+        0 => owned.turning(plans::wrong_turnaround(random)),
         _ => owned,
     }
 }
@@ -67,7 +74,7 @@ fn small_plan(
         return some_calls(comparison, random, owned, COUNTED, 2);
     }
     some_calls(comparison, random, owned, LISTED, 2)?;
-    if check(owned.input()).is_err() || !(2..=6).contains(&owned.stations) {
+    if read(owned.input()).is_err() || !(2..=6).contains(&owned.stations) {
         return Ok(());
     }
     for (source, destination) in pairs(owned.stations) {
@@ -170,7 +177,8 @@ fn trace_text(steps: &[Step]) -> String {
         Step::Write(entry, value) => format!("write {value} to entry {entry}\n"),
         Step::Call(way, call) => {
             let input = call.input;
-            let sizes = format!("n {} T {}", input.stations, input.slots);
+            let (n, t, g) = (input.stations, input.slots, input.turnaround);
+            let sizes = format!("n {n} T {t} g {g}");
             let stations = call.ends();
             let lengths = [input.bytes.len(), call.buffer_length, call.scratch_length];
             format!("{way:?} {sizes}, stations {stations:?}, plan, buffer, scratch {lengths:?}\n")

@@ -1,5 +1,6 @@
-//! All plans of tiny sizes, one-way plans, plans with equal loads and plans in which the earliest slot
-//! decides, in all calls; every number of through set and of foremost against every other.
+//! All plans of tiny sizes with the first turnarounds, one-way plans, plans with equal loads, plans in which
+//! the earliest slot decides and plans with turnarounds, in all calls; every number of through set and of
+//! foremost against every other, and 12 against every other number of each operation.
 
 use lister::cases::{plan_bytes, Record, PLAN_A};
 use lister::foremost_cases::ARRIVALS;
@@ -7,12 +8,13 @@ use lister::means::{COUNTED, LISTED};
 use lister::one_way::ONE_WAY_PLANS;
 use lister::operation::{Operation, OPERATIONS};
 use lister::pair_cases::TIED_PLANS;
-use lister::plan::{PlanInput, RECORD_BYTES};
+use lister::plan::{PlanInput, LEAST_TURNAROUND, RECORD_BYTES};
 use lister::plans::{all_doubled_plans, all_lists, all_plans, pairs, possible_records, Owned};
 use lister::random::Random;
 use lister::reach_cases::ladder;
 use lister::set_cases::all_sets;
 use lister::sets::set_of;
+use lister::turned::{rows_around, two_links, TURNED_PLANS};
 
 use crate::call::Call;
 use crate::compare::{Comparison, Difference};
@@ -23,7 +25,10 @@ pub fn compare(comparison: &mut Comparison, seed: u64) -> Result<(), Difference>
     let random = &mut Random::new(seed);
     for (stations, slots) in [(1, 1), (1, 2), (2, 1), (2, 2), (2, 3), (3, 1)] {
         for owned in all_plans(stations, slots) {
-            every_argument(comparison, random, &owned)?;
+            for turnaround in TURNAROUNDS {
+                let turned = owned.clone().turning(turnaround);
+                every_argument(comparison, random, &turned)?;
+            }
         }
     }
     for owned in all_doubled_plans(3, 2) {
@@ -33,6 +38,7 @@ pub fn compare(comparison: &mut Comparison, seed: u64) -> Result<(), Difference>
     for owned in &all {
         every_pair(comparison, random, owned)?;
     }
+    turned(comparison, random)?;
     for owned in all.iter().step_by(61) {
         every_argument(comparison, random, owned)?;
     }
@@ -56,7 +62,39 @@ pub fn compare(comparison: &mut Comparison, seed: u64) -> Result<(), Difference>
     every_sequence(comparison, random)?;
     every_length(comparison, random)?;
     every_set_byte(comparison, random)?;
-    every_two_causes(comparison, random)
+    every_two_causes(comparison, random)?;
+    turnaround_and_another_cause(comparison, random)
+}
+
+/// The turnarounds of all plans of tiny sizes.
+const TURNAROUNDS: [usize; 3] = [1, 2, 3];
+
+/// Plans with turnarounds above 1: some of three stations and two slots, all doubled ones of three stations
+/// and three slots, all of two links in four slots, rows with T around the turnaround, and those by hand.
+fn turned(comparison: &mut Comparison, random: &mut Random) -> Result<(), Difference> {
+    for (index, owned) in all_plans(3, 2).into_iter().step_by(5).enumerate() {
+        let owned = owned.turning(2 + index % 2);
+        every_pair(comparison, random, &owned)?;
+    }
+    for owned in all_doubled_plans(3, 3) {
+        for turnaround in [2, 3] {
+            let turned = owned.clone().turning(turnaround);
+            every_pair(comparison, random, &turned)?;
+        }
+    }
+    for plan in two_links() {
+        for turnaround in [2, 3, 4] {
+            let turned = plan.owned().turning(turnaround);
+            every_pair(comparison, random, &turned)?;
+        }
+    }
+    for plan in rows_around() {
+        every_call(comparison, random, &plan.owned())?;
+    }
+    for plan in TURNED_PLANS {
+        every_call(comparison, random, &plan.owned())?;
+    }
+    Ok(())
 }
 
 /// A plan with each possible record at odds of one in three.
@@ -170,7 +208,12 @@ fn every_set(
     Ok(())
 }
 
-/// The operations that read a plan, from 0 to 1.
+/// A turnaround: mostly 1, some in their limits, some outside of them.
+fn any_turnaround(random: &mut Random) -> usize {
+    [1, 1, 1, 1, 2, 3, 16, 0, 17][random.below(9)]
+}
+
+/// The operations, from 0 to 1.
 fn each_operation(
     comparison: &mut Comparison,
     random: &mut Random,
@@ -194,6 +237,7 @@ fn every_size(comparison: &mut Comparison, random: &mut Random) -> Result<(), Di
                     bytes,
                     stations,
                     slots,
+                    turnaround: any_turnaround(random),
                 };
                 each_operation(comparison, random, input)?;
             }
@@ -227,7 +271,7 @@ fn every_sequence(comparison: &mut Comparison, random: &mut Random) -> Result<()
         plans.push(choice.iter().map(|at| possible[usize::from(*at)]).collect());
     }
     for records in plans {
-        let owned = Owned::new(3, 2, &records);
+        let owned = Owned::new(3, 2, &records).turning(any_turnaround(random));
         each_operation(comparison, random, owned.input())?;
     }
     Ok(())
@@ -241,6 +285,7 @@ fn every_length(comparison: &mut Comparison, random: &mut Random) -> Result<(), 
             bytes: &bytes[..length],
             stations: 5,
             slots: 4,
+            turnaround: any_turnaround(random),
         };
         each_operation(comparison, random, input)?;
     }
@@ -281,10 +326,9 @@ fn every_set_byte(comparison: &mut Comparison, random: &mut Random) -> Result<()
     Ok(())
 }
 
-/// Through set and foremost with each set of causes of which one is of the plan, and any of the call: 6
-/// and 7 by the stations, 8 by the set or the table and the work area, 11, and 9 by a ladder of 65
-/// layers.
-fn every_two_causes(comparison: &mut Comparison, random: &mut Random) -> Result<(), Difference> {
+/// A ladder of 65 layers, which gives 9 from its source; plans of its sizes, accepted or with one of the
+/// causes 1 to 5; and pairs of them, one with 6, one with 6 and 7, one with 7.
+fn plans_with_causes() -> (Vec<Owned>, [[usize; 2]; 5]) {
     let ladder = Owned::built(&ladder(65, 2));
     let (stations, slots) = (ladder.stations, ladder.slots);
     let slot = slots as u16;
@@ -304,18 +348,29 @@ fn every_two_causes(comparison: &mut Comparison, random: &mut Random) -> Result<
         (with((slot, 0, stations as u16)), stations, slots),
         (with((1, 0, 1)), stations, slots),
     ];
+    let plan = |(bytes, stations, slots)| Owned {
+        bytes,
+        stations,
+        slots,
+        turnaround: LEAST_TURNAROUND,
+    };
     let ends = [[0, 130], [1, 130], [0, 131], [300, 300], [7, 7]];
-    for (bytes, stations, slots) in &plans {
-        let input = PlanInput {
-            bytes,
-            stations: *stations,
-            slots: *slots,
-        };
+    (plans.map(plan).to_vec(), ends)
+}
+
+/// Through set and foremost with each set of causes of which one is of the plan, and any of the call: 6
+/// and 7 by the stations, 8 by the set or the table and the work area, 11, and 9 by a ladder of 65
+/// layers.
+fn every_two_causes(comparison: &mut Comparison, random: &mut Random) -> Result<(), Difference> {
+    let (plans, ends) = plans_with_causes();
+    let ladder = &plans[0];
+    for owned in &plans {
+        let input = owned.input();
         for ends in ends {
             for change in all_changes() {
                 for operation in [Operation::ThroughSet, Operation::Foremost] {
                     let mut call = lend::call(random, operation, input, ends, Lengths::Named);
-                    if change.made(random, &ladder, &mut call) {
+                    if change.made(random, ladder, &mut call) {
                         comparison.compare(&call, COUNTED)?;
                     }
                 }
@@ -369,4 +424,52 @@ fn all_changes() -> Vec<Change> {
         }
     }
     changes
+}
+
+/// Each operation with 12 alone, with every other of its numbers and with several of them: 1 to 5 by the plan, 6
+/// and 7 by the stations, 8 by each lent part, 9 by the ladder, 10 by what the way buffer holds, 11 by a byte of
+/// the set.
+fn turnaround_and_another_cause(
+    comparison: &mut Comparison,
+    random: &mut Random,
+) -> Result<(), Difference> {
+    let (plans, ends) = plans_with_causes();
+    for owned in &plans {
+        for turnaround in [0, 17, usize::MAX, 16] {
+            let owned = owned.clone().turning(turnaround);
+            for operation in OPERATIONS {
+                for ends in ends {
+                    short_parts(comparison, random, &owned, operation, ends)?;
+                }
+            }
+        }
+    }
+    Ok(())
+}
+
+/// A call on the named lengths, and for each lent part one on which it lacks an entry; half of the sets have a
+/// wrong byte.
+fn short_parts(
+    comparison: &mut Comparison,
+    random: &mut Random,
+    owned: &Owned,
+    operation: Operation,
+    ends: [usize; 2],
+) -> Result<(), Difference> {
+    let named = lend::named(operation, owned.input());
+    let parts = named.iter().map(Vec::len).sum::<usize>();
+    for short in 0..=parts {
+        let mut lengths = named.clone();
+        let part = lengths.iter_mut().flatten().nth(short);
+        if let Some(length) = part {
+            *length -= 1;
+        }
+        let mut call = lend::call(random, operation, owned.input(), ends, Lengths::Named);
+        call.lent = lend::of_lengths(random, &lengths, owned.stations);
+        if let [set] = &mut call.lent.sets[..] {
+            set[0] = [1, 2][random.below(2)];
+        }
+        comparison.compare(&call, COUNTED)?;
+    }
+    Ok(())
 }

@@ -30,6 +30,8 @@ pub enum CallFault {
     NotShortest,
     /// 11: a byte of a set is neither 0 nor 1.
     SetByte,
+    /// 12: g is outside its limits.
+    Turnaround,
 }
 
 /// A refusal, of the plan or of the call.
@@ -54,6 +56,7 @@ impl Refusal {
             Refusal::Call(CallFault::TooMany) => 9,
             Refusal::Call(CallFault::NotShortest) => 10,
             Refusal::Call(CallFault::SetByte) => 11,
+            Refusal::Call(CallFault::Turnaround) => 12,
         }
     }
 }

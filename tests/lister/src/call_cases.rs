@@ -25,6 +25,8 @@ pub struct CallCase<O, const TABLES: usize> {
     pub stations: u16,
     /// T
     pub slots: u16,
+    /// g; row takes none.
+    pub turnaround: u16,
     pub bytes: Vec<u8>,
     /// What the tables hold before the call.
     pub mark: u16,
@@ -55,6 +57,11 @@ impl<O: Called, const TABLES: usize> CallCase<O, TABLES> {
         self
     }
 
+    /// The case with another turnaround.
+    pub fn turning(self, turnaround: u16) -> Self {
+        CallCase { turnaround, ..self }
+    }
+
     /// The case with another mark.
     pub fn marked(self, mark: u16) -> Self {
         CallCase { mark, ..self }
@@ -73,6 +80,7 @@ impl<O: Called, const TABLES: usize> CallCase<O, TABLES> {
             bytes: &self.bytes,
             stations: self.stations.into(),
             slots: self.slots.into(),
+            turnaround: self.turnaround.into(),
         }
     }
 
@@ -82,13 +90,13 @@ impl<O: Called, const TABLES: usize> CallCase<O, TABLES> {
         tables.map(|table| self.lengths[table]).collect()
     }
 
-    /// The bytes on standard input: the kind, n, T, the stations, the length of the plan, the length of
+    /// The bytes on standard input: the kind, n, T, g, the stations, the length of the plan, the length of
     /// the label and the mark; the lengths; the label; the plan. Where there is no kind, only the
     /// operation's tables have a length.
     pub fn stdin_bytes(&self) -> Vec<u8> {
         let kind = self.operation.kind();
         let mut words = Vec::from_iter(kind);
-        words.extend([self.stations, self.slots]);
+        words.extend([self.stations, self.slots, self.turnaround]);
         words.extend(self.operation.stations());
         words.extend([self.bytes.len(), self.label.len()].map(|length| length as u16));
         words.push(self.mark);

@@ -13,7 +13,7 @@ use std::collections::BTreeSet;
 
 use crate::answer::number;
 use crate::files::{case_bytes, words_bytes, Filed};
-use crate::plan::{check, PlanInput};
+use crate::plan::{check, PlanInput, NO_TURNAROUND};
 
 pub use generated::{damage, generated_cases, valid_records, SEED};
 
@@ -95,6 +95,7 @@ impl Case {
             bytes: &self.bytes,
             stations: usize::from(self.stations),
             slots: usize::from(self.slots),
+            turnaround: NO_TURNAROUND,
         }))
     }
 }

@@ -1,7 +1,7 @@
-//! The causes of the call from 6 to 9, and 11; those of the plan are in `plan`, 10 in `ways`.
+//! The causes of the call from 6 to 9, 11 and 12; those of the plan are in `plan`, 10 in `ways`.
 
 use crate::answer::{Answer, CallFault};
-use crate::plan::Ends;
+use crate::plan::{Ends, LEAST_TURNAROUND, MOST_TURNAROUND};
 
 /// The cause, if it holds.
 fn unless(holds: bool, cause: CallFault) -> Answer<()> {
@@ -9,6 +9,12 @@ fn unless(holds: bool, cause: CallFault) -> Answer<()> {
         true => Err(cause.into()),
         false => Ok(()),
     }
+}
+
+/// Cause 12: g is inside its limits. It is looked at after 5 and before 6.
+pub fn known_turnaround(turnaround: usize) -> Answer<()> {
+    let fits = (LEAST_TURNAROUND..=MOST_TURNAROUND).contains(&turnaround);
+    unless(!fits, CallFault::Turnaround)
 }
 
 /// Cause 6: a named station is below n.

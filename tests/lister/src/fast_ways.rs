@@ -55,7 +55,7 @@ impl Ranked {
     /// The appearance that a contact brings after an appearance.
     fn followed(&self, at: usize, position: usize) -> Option<usize> {
         let contact = self.plan.contacts.get(position)?;
-        let reached = self.appearances.all[at].step(*contact)?;
+        let reached = self.appearances.all[at].step(self.plan.turnaround, *contact)?;
         Some(self.appearances.number(reached))
     }
 

@@ -1,9 +1,9 @@
 //! Cases for a program that runs foremost on cases from standard input.
 //!
-//! A case on standard input: n, T, the source, the destination, the length of the plan, the length of
-//! the label and a mark, each 16 bits, high byte first; two lengths of 32 bits, high byte first; then
-//! the label; then the plan. The lengths are the lent entries of the table of through counts and of the
-//! scratch; both hold the mark before the call.
+//! A case on standard input: n, T, g, the source, the destination, the length of the plan, the length
+//! of the label and a mark, each 16 bits, high byte first; two lengths of 32 bits, high byte first;
+//! then the label; then the plan. The lengths are the lent entries of the table of through counts and
+//! of the scratch; both hold the mark before the call.
 //!
 //! The expected output has one line a case: the label, a colon, a space, the number, and slot, hops and
 //! count, zeros beside a refusal; then the lent table and the scratch after the call as in
@@ -13,6 +13,7 @@ mod arrivals;
 mod drawn;
 mod exact;
 mod examples;
+mod turnarounds;
 
 use crate::pair_cases::{
     ladder_cases, limit_cases, refusal_cases, share_cases, small_cases, Case, Operation,
@@ -53,6 +54,7 @@ pub fn all_cases() -> Vec<Case> {
         exact::cases(),
         calls_of_pair(),
         drawn::cases(),
+        turnarounds::cases(),
     ]
     .concat()
 }

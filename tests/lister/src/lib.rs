@@ -12,6 +12,7 @@
 //! |---|---|
 //! | station, slot, contact, plan, position, appearance | the same |
 //! | sender, hearer | a, b of a contact (t, a, b), as document 02's C-16 has it |
+//! | turnaround | g, as document 02's C-17 has it |
 //! | walk | chain |
 //! | hops | legs |
 //! | path | way |
@@ -59,6 +60,7 @@ pub mod sets;
 pub mod shortest;
 pub mod show;
 pub mod traces;
+pub mod turned;
 pub mod walk;
 pub mod way_cases;
 pub mod ways;

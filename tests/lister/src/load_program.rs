@@ -13,6 +13,9 @@ pub const MOST_SLOTS: usize = 63;
 /// The load program's largest number of records.
 pub const MOST_CONTACTS: usize = 1024;
 
+/// The load program's g.
+pub const TURNAROUND: usize = 1;
+
 /// The most walks, from all sources together, that are listed.
 const MOST_LISTED: u128 = 10_000;
 
@@ -30,6 +33,7 @@ fn named_plan(bytes: &[u8]) -> Answer<PlanInput<'_>> {
         bytes,
         stations,
         slots,
+        turnaround: TURNAROUND,
     })
 }
 

@@ -22,11 +22,14 @@ const USAGE: &str = "usage:
   lister way-cases DIR           write DIR/stdin and DIR/stdout, cases of first way and next way
   lister set-cases DIR           write DIR/stdin and DIR/stdout, cases of through set
   lister foremost-cases DIR      write DIR/stdin and DIR/stdout, cases of foremost
-  lister show n T s z < plan     hops, count, through counts and shortest paths of s, z
-  lister foremost n T s z < plan slot, hops, count, through counts and shortest foremost paths of s, z
-  lister reach n T s < plan      hops and count of each station from s, and the stations' rows
-  lister loads n T < plan        pairs and load of each station
-  lister set n T s z V.. < plan  how many shortest paths of s, z have one of the stations V interior";
+  lister show n T g s z < plan
+      hops, count, through counts and shortest paths of s, z with turnaround g
+  lister foremost n T g s z < plan
+      slot, hops, count, through counts and shortest foremost paths of s, z
+  lister reach n T g s < plan    hops and count of each station from s, and the stations' rows
+  lister loads n T g < plan      pairs and load of each station
+  lister set n T g s z V.. < plan
+      how many shortest paths of s, z have one of the stations V interior";
 
 fn main() -> ExitCode {
     program::exit(run)
@@ -45,28 +48,24 @@ fn run(words: &[&str]) -> Result<(), String> {
         ["way-cases", directory] => write_files(directory, &way_cases::all_cases()),
         ["set-cases", directory] => write_files(directory, &set_cases::all_cases()),
         ["foremost-cases", directory] => write_files(directory, &foremost_cases::all_cases()),
-        [word @ ("show" | "foremost"), stations, slots, source, destination] => {
+        [word @ ("show" | "foremost"), n, t, g, source, destination] => {
             let ends = (decimal(source)?, decimal(destination)?);
             let text = match *word {
                 "show" => pair_text,
                 _ => foremost_text,
             };
-            print_for_plan(stations, slots, |input| text_of(text(input, ends)))
+            print_for_plan([n, t, g], |input| text_of(text(input, ends)))
         }
-        ["loads", stations, slots] => {
-            print_for_plan(stations, slots, |input| text_of(loads_text(LISTED, input)))
-        }
-        ["set", stations, slots, source, destination, members @ ..] => {
+        ["loads", n, t, g] => print_for_plan([n, t, g], |input| text_of(loads_text(LISTED, input))),
+        ["set", n, t, g, source, destination, members @ ..] => {
             let ends = (decimal(source)?, decimal(destination)?);
             let members = members.iter().map(|member| decimal(member));
             let members: Vec<usize> = members.collect::<Result<_, _>>()?;
-            print_for_plan(stations, slots, |input| {
-                text_of(set_text(input, ends, &members))
-            })
+            print_for_plan([n, t, g], |input| text_of(set_text(input, ends, &members)))
         }
-        ["reach", stations, slots, source] => {
+        ["reach", n, t, g, source] => {
             let source = decimal(source)?;
-            print_for_plan(stations, slots, |input| text_of(reach_text(input, source)))
+            print_for_plan([n, t, g], |input| text_of(reach_text(input, source)))
         }
         _ => Err(USAGE.to_string()),
     }
@@ -88,18 +87,15 @@ fn standard_input() -> Result<Vec<u8>, String> {
     Ok(bytes)
 }
 
-fn print_for_plan(
-    stations: &str,
-    slots: &str,
-    text: impl Fn(PlanInput) -> String,
-) -> Result<(), String> {
-    let stations = decimal(stations)?;
-    let slots = decimal(slots)?;
+/// Prints the text of a call on the plan of standard input, with n, T and g from words.
+fn print_for_plan([n, t, g]: [&str; 3], text: impl Fn(PlanInput) -> String) -> Result<(), String> {
+    let (stations, slots, turnaround) = (decimal(n)?, decimal(t)?, decimal(g)?);
     let bytes = standard_input()?;
     let input = PlanInput {
         bytes: &bytes,
         stations,
         slots,
+        turnaround,
     };
     print!("{}", text(input));
     Ok(())

@@ -49,7 +49,7 @@ impl Appearances {
             let row = appearances.number(Appearance::start(station))
                 ..appearances.number(Appearance::start(station + 1));
             for at in row.clone() {
-                let followed = appearances.followed_from(row.clone(), at);
+                let followed = appearances.followed_from(plan.turnaround, row.clone(), at);
                 appearances.followed.push(followed);
             }
             appearances.of_station.push(row);
@@ -63,8 +63,9 @@ impl Appearances {
     }
 
     /// The appearances of a row that contacts in the slot of one of them may follow.
-    fn followed_from(&self, row: Range<usize>, at: usize) -> Range<usize> {
-        let may_follow = |earlier: &Appearance| follows(earlier.slot, self.all[at].slot);
+    fn followed_from(&self, turnaround: usize, row: Range<usize>, at: usize) -> Range<usize> {
+        let slot = self.all[at].slot;
+        let may_follow = |earlier: &Appearance| follows(turnaround, earlier.slot, slot);
         row.start..row.start + self.all[row].partition_point(may_follow)
     }
 

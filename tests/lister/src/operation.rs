@@ -43,12 +43,12 @@ impl Operation {
     pub fn causes(self) -> &'static [u32] {
         match self {
             Check => &[1, 2, 3, 4, 5],
-            Reach => &[1, 2, 3, 4, 5, 6, 8, 9],
+            Reach => &[1, 2, 3, 4, 5, 12, 6, 8, 9],
             Row | RowNumber => &[1, 6, 8],
-            Pair | FirstWay | Foremost => &[1, 2, 3, 4, 5, 6, 7, 8, 9],
-            Loads | Busiest => &[1, 2, 3, 4, 5, 8, 9],
-            NextWay => &[1, 2, 3, 4, 5, 6, 7, 8, 9, 10],
-            ThroughSet => &[1, 2, 3, 4, 5, 6, 7, 8, 11, 9],
+            Pair | FirstWay | Foremost => &[1, 2, 3, 4, 5, 12, 6, 7, 8, 9],
+            Loads | Busiest => &[1, 2, 3, 4, 5, 12, 8, 9],
+            NextWay => &[1, 2, 3, 4, 5, 12, 6, 7, 8, 9, 10],
+            ThroughSet => &[1, 2, 3, 4, 5, 12, 6, 7, 8, 11, 9],
         }
     }
 

@@ -55,7 +55,7 @@ fn listed_pairs(limit: u64, plan: &Plan) -> PairsFrom<'_> {
     })
 }
 
-/// The plan of a call on a pair without a cause up to 8; the named parts of what is lent are then 0.
+/// The plan of a call on a pair without a cause before 9; the named parts of what is lent are then 0.
 pub fn cleared(
     input: PlanInput,
     ends: Ends,

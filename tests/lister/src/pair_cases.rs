@@ -1,7 +1,7 @@
 //! Cases for a program that runs operations 4 to 6, pair, loads and busiest, on cases from standard
 //! input.
 //!
-//! A case on standard input: the kind (0 pair, 1 loads, 2 busiest), n, T, the source, the
+//! A case on standard input: the kind (0 pair, 1 loads, 2 busiest), n, T, g, the source, the
 //! destination, the length of the plan, the length of the label and a mark, each 16 bits, high byte
 //! first; three lengths of 32 bits, high byte first; then the label; then the plan. The lengths are
 //! the lent entries of the first table (through counts or pairs), of the second (loads) and of the
@@ -23,6 +23,7 @@ mod refusals;
 mod shares;
 mod small;
 mod ties;
+mod turnarounds;
 
 use std::mem;
 
@@ -33,7 +34,8 @@ use crate::files::Filed;
 use crate::foremost::ForemostValues;
 use crate::lent::scratch_length;
 use crate::means::Counting;
-use crate::plans::pairs;
+use crate::plan::LEAST_TURNAROUND;
+use crate::plans::{pairs, Owned};
 use crate::reach_cases::{counts_text, Builder};
 
 pub use ladders::cases as ladder_cases;
@@ -42,6 +44,7 @@ pub use refusals::cases as refusal_cases;
 pub use shares::{cases as share_cases, mixed_ladders, MixedLadder};
 pub use small::{cases as small_cases, checked_plans, small_plans};
 pub use ties::{TiedPlan, TIED_PLANS};
+pub use turnarounds::{calls as turnaround_calls, TURNED_BLOCKS};
 
 /// The longest label, in bytes.
 pub const LONGEST_LABEL: usize = 64;
@@ -189,6 +192,8 @@ pub struct LabelledPlan {
     pub label: String,
     /// n and T
     pub sizes: (u16, u16),
+    /// g
+    pub turnaround: u16,
     pub bytes: Vec<u8>,
     pub counting: Counting,
 }
@@ -199,6 +204,7 @@ impl LabelledPlan {
         LabelledPlan {
             label: label.to_string(),
             sizes,
+            turnaround: LEAST_TURNAROUND as u16,
             bytes,
             counting: Counting::Listed,
         }
@@ -211,7 +217,24 @@ impl LabelledPlan {
 
     /// A plan with too many walks to be listed.
     pub fn built(label: &str, builder: &Builder) -> LabelledPlan {
-        LabelledPlan::new(label, builder.sizes(), builder.bytes()).counted()
+        let plan = LabelledPlan::new(label, builder.sizes(), builder.bytes());
+        plan.turning(builder.turnaround() as u16).counted()
+    }
+
+    /// The plan with another turnaround.
+    pub fn turning(self, turnaround: u16) -> LabelledPlan {
+        LabelledPlan { turnaround, ..self }
+    }
+
+    /// The plan without its label.
+    pub fn owned(&self) -> Owned {
+        let (stations, slots) = self.sizes;
+        Owned {
+            bytes: self.bytes.clone(),
+            stations: stations.into(),
+            slots: slots.into(),
+            turnaround: self.turnaround.into(),
+        }
     }
 
     /// The plan with its walks counted and not listed.
@@ -230,6 +253,7 @@ impl LabelledPlan {
             operation,
             stations,
             slots,
+            turnaround: self.turnaround,
             bytes: self.bytes.clone(),
             mark: 999,
             lengths: operation.named(self.sizes),
@@ -280,6 +304,7 @@ pub fn all_cases() -> Vec<Case> {
         exact::cases(),
         shares::cases(),
         small::cases(),
+        turnarounds::cases(),
     ]
     .concat()
 }

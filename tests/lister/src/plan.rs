@@ -1,6 +1,7 @@
 //! Plans, their bytes, and operation 1, check.
 
 use crate::answer::{Answer, PlanFault};
+use crate::causes::known_turnaround;
 
 /// The largest n.
 pub const MOST_STATIONS: usize = 256;
@@ -8,6 +9,12 @@ pub const MOST_STATIONS: usize = 256;
 pub const MOST_SLOTS: usize = 255;
 /// The largest number of records.
 pub const MOST_CONTACTS: usize = 8192;
+/// The smallest g: slots rise strictly, and nothing more is asked.
+pub const LEAST_TURNAROUND: usize = 1;
+/// The largest g.
+pub const MOST_TURNAROUND: usize = 16;
+/// The g of a call of check or row, which take none.
+pub const NO_TURNAROUND: usize = 0;
 /// The bytes of one record.
 pub const RECORD_BYTES: usize = 6;
 
@@ -42,10 +49,11 @@ impl Contact {
     }
 }
 
-/// The rule of following: whether a contact in a slot may follow an appearance in another.
+/// The rule of following: whether a contact in a slot may follow an appearance in another. The start, in
+/// slot 0, may be followed by any slot; what is heard in slot t goes out in slot t + g or later.
 #[inline]
-pub fn follows(reached: usize, slot: usize) -> bool {
-    reached < slot
+pub fn follows(turnaround: usize, reached: usize, slot: usize) -> bool {
+    reached < slot && (reached == 0 || reached + turnaround <= slot)
 }
 
 /// An appearance: a station, and the slot in which it is reached.
@@ -66,8 +74,8 @@ impl Appearance {
 
     /// The appearance that a contact brings after this one.
     #[inline]
-    pub fn step(self, contact: Contact) -> Option<Appearance> {
-        if !follows(self.slot, contact.slot) {
+    pub fn step(self, turnaround: usize, contact: Contact) -> Option<Appearance> {
+        if !follows(turnaround, self.slot, contact.slot) {
             return None;
         }
         let station = contact.leads_from(self.station)?;
@@ -81,7 +89,7 @@ impl Appearance {
 /// The source and the destination of a pair.
 pub type Ends = (usize, usize);
 
-/// A plan as a call names it: its bytes, n and T, all unchecked.
+/// A plan as a call names it: its bytes, n, T and g, all unchecked. Check and row do not look at g.
 #[derive(Clone, Copy, Debug)]
 pub struct PlanInput<'a> {
     pub bytes: &'a [u8],
@@ -89,6 +97,8 @@ pub struct PlanInput<'a> {
     pub stations: usize,
     /// T
     pub slots: usize,
+    /// g
+    pub turnaround: usize,
 }
 
 /// An accepted plan; a contact's index is its position.
@@ -98,6 +108,8 @@ pub struct Plan {
     pub stations: usize,
     /// T
     pub slots: usize,
+    /// g
+    pub turnaround: usize,
     pub contacts: Vec<Contact>,
 }
 
@@ -156,12 +168,14 @@ pub fn check(input: PlanInput) -> Answer<()> {
     Ok(())
 }
 
-/// The plan that the bytes hold, or the first of causes 1 to 5.
+/// The plan that the bytes hold, or the first of causes 1 to 5 and 12.
 pub fn read(input: PlanInput) -> Answer<Plan> {
     check(input)?;
+    known_turnaround(input.turnaround)?;
     Ok(Plan {
         stations: input.stations,
         slots: input.slots,
+        turnaround: input.turnaround,
         contacts: contacts(input.bytes).collect(),
     })
 }

@@ -3,7 +3,7 @@
 use crate::cases::{doubled, plan_bytes, Record};
 use crate::lent;
 use crate::means::COUNT_LIMIT;
-use crate::plan::{Ends, PlanInput};
+use crate::plan::{Ends, PlanInput, LEAST_TURNAROUND};
 use crate::random::Random;
 use crate::reach_cases::Builder;
 use crate::ways::{paths_of_call, PathCall};
@@ -27,20 +27,23 @@ impl Records {
     }
 }
 
-/// A plan's bytes with n and T.
+/// A plan's bytes with n, T and g.
 #[derive(Clone, Debug)]
 pub struct Owned {
     pub bytes: Vec<u8>,
     pub stations: usize,
     pub slots: usize,
+    pub turnaround: usize,
 }
 
 impl Owned {
+    /// The plan of some records, with the smallest turnaround.
     pub fn new(stations: usize, slots: usize, records: &[Record]) -> Owned {
         Owned {
             bytes: plan_bytes(records),
             stations,
             slots,
+            turnaround: LEAST_TURNAROUND,
         }
     }
 
@@ -51,7 +54,13 @@ impl Owned {
             bytes: builder.bytes(),
             stations: stations.into(),
             slots: slots.into(),
+            turnaround: builder.turnaround(),
         }
+    }
+
+    /// The plan with another turnaround.
+    pub fn turning(self, turnaround: usize) -> Owned {
+        Owned { turnaround, ..self }
     }
 
     pub fn input(&self) -> PlanInput<'_> {
@@ -59,6 +68,7 @@ impl Owned {
             bytes: &self.bytes,
             stations: self.stations,
             slots: self.slots,
+            turnaround: self.turnaround,
         }
     }
 

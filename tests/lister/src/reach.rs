@@ -145,7 +145,7 @@ fn write(entries: &[Entry], hops: &mut [u16], counts: &mut [u64]) {
     }
 }
 
-/// The plan of a call without a cause up to 8; the named parts of the tables are then 0.
+/// The plan of a call without a cause before 9; the named parts of the tables are then 0.
 fn cleared(input: PlanInput, source: usize, tables: &mut ReachTables) -> Answer<Plan> {
     let plan = read(input)?;
     known_station(plan.stations, source)?;

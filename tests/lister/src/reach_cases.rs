@@ -1,9 +1,9 @@
 //! Cases for a program that runs operations 2 and 3, reach and row, on cases from standard input.
 //!
-//! A case on standard input: the kind (0 reach, 1 row), n, T, the source or the station, the length
+//! A case on standard input: the kind (0 reach, 1 row), n, T, g, the source or the station, the length
 //! of the plan, the length of the label and a mark, each 16 bits, high byte first; four lengths of
 //! 32 bits, high byte first; then the label; then the plan. The lengths are the lent entries of
-//! reach's four tables; row's table has the second.
+//! reach's four tables; row's table has the second. Row takes no g; its cases have 0 in that place.
 //!
 //! The expected output has one line a case: the label, a colon, a space, and the number. For reach
 //! the lent tables follow, which hold the mark before the call, each behind " |". A run of one value
@@ -17,18 +17,22 @@ mod limits;
 mod refusals;
 mod rows;
 mod small;
+mod turnarounds;
 
 use crate::answer::number;
 use crate::call_cases::{CallCase, Called};
 use crate::cases::{plan_bytes, Record};
 use crate::files::Filed;
 use crate::means::Counting;
+use crate::plan::{LEAST_TURNAROUND, NO_TURNAROUND};
 use crate::reach::{reach_named, Tables};
 use crate::row::{row, row_number};
 use crate::shortest::NO_WALK;
 
-pub use exact::{exact_plans, Exact};
-pub use ladders::{falling_ladder, ladder, sent_ladder, Builder};
+pub use exact::{exact_plans, most_turnaround, Exact};
+pub use ladders::{
+    falling_ladder, ladder, sent_ladder, spaced_ladder, spaced_sent_ladder, Builder, SPACED_LADDERS,
+};
 pub use limits::{every_slot, falling_row, rising_row, star, CORNERS};
 pub use refusals::{bytes_with_cause, plan_faults};
 pub use small::{cases as small_cases, further_plans, other_length, outer_stations};
@@ -79,6 +83,7 @@ impl Case {
             operation: Operation::Reach(source),
             stations,
             slots,
+            turnaround: LEAST_TURNAROUND as u16,
             bytes,
             mark: 999,
             lengths: reach_named(stations.into(), slots.into()),
@@ -96,6 +101,7 @@ impl Case {
     fn on_table(label: &str, sizes: (u16, u16), station: u16, length: usize) -> Case {
         Case {
             operation: Operation::Row(station),
+            turnaround: NO_TURNAROUND as u16,
             mark: 0,
             lengths: [0, length, 0, 0],
             ..Case::on_bytes(label, sizes, Vec::new(), station)
@@ -215,6 +221,7 @@ pub fn all_cases() -> Vec<Case> {
         ladders::cases(),
         exact::cases(),
         small::cases(),
+        turnarounds::cases(),
     ]
     .concat()
 }

@@ -1,9 +1,9 @@
 //! Cases for a program that runs through set on cases from standard input.
 //!
-//! A case on standard input: n, T, the source, the destination, the length of the plan, the length of
-//! the label, a mark and the length of the set, each 16 bits, high byte first; the lent entries of the
-//! scratch, 32 bits, high byte first; then the label, the plan and the set. The scratch holds the mark
-//! before the call.
+//! A case on standard input: n, T, g, the source, the destination, the length of the plan, the length
+//! of the label, a mark and the length of the set, each 16 bits, high byte first; the lent entries of
+//! the scratch, 32 bits, high byte first; then the label, the plan and the set. The scratch holds the
+//! mark before the call.
 //!
 //! The expected output has one line a case: the label, a colon, a space, the number, and the count, 0
 //! beside a refusal; then, behind " |", the lent scratch after the call, in runs as in `reach_cases`;
@@ -14,6 +14,7 @@ mod ladders;
 mod limits;
 mod refusals;
 mod small;
+mod turnarounds;
 
 use crate::answer::{beside, number};
 use crate::files::{case_bytes, Filed};
@@ -39,6 +40,8 @@ pub struct Case {
     pub stations: u16,
     /// T
     pub slots: u16,
+    /// g
+    pub turnaround: u16,
     pub bytes: Vec<u8>,
     pub source: u16,
     pub destination: u16,
@@ -82,6 +85,7 @@ impl LabelledPlan {
             label: format!("{}, {source} to {destination}, {set}", self.label),
             stations,
             slots,
+            turnaround: self.turnaround,
             bytes: self.bytes.clone(),
             source,
             destination,
@@ -110,6 +114,11 @@ impl Case {
     fn behind(mut self, bytes: &[u8]) -> Case {
         self.set.extend(bytes);
         self
+    }
+
+    /// The case with another turnaround.
+    pub fn turning(self, turnaround: u16) -> Case {
+        Case { turnaround, ..self }
     }
 
     /// The case with another mark, and with so many entries behind the named ones of the scratch.
@@ -144,6 +153,7 @@ impl Case {
             bytes: &self.bytes,
             stations: self.stations.into(),
             slots: self.slots.into(),
+            turnaround: self.turnaround.into(),
         }
     }
 
@@ -174,7 +184,8 @@ impl Filed for Case {
     fn stdin(&self) -> Vec<u8> {
         let [plan, label, set] =
             [self.bytes.len(), self.label.len(), self.set.len()].map(|length| length as u16);
-        let (sizes, ends) = ([self.stations, self.slots], [self.source, self.destination]);
+        let sizes = [self.stations, self.slots, self.turnaround];
+        let ends = [self.source, self.destination];
         let words = [&sizes[..], &ends, &[plan, label, self.mark, set]].concat();
         let mut bytes = case_bytes(&words, &[self.scratch], &self.label, &self.bytes);
         bytes.extend(&self.set);
@@ -203,6 +214,7 @@ pub fn all_cases() -> Vec<Case> {
         limits::cases(),
         ladders::cases(),
         small::cases(),
+        turnarounds::cases(),
     ]
     .concat()
 }

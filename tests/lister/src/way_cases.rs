@@ -3,7 +3,7 @@
 //! A case on standard input: the length of the label, the number of its bytes of plans, the entries of
 //! the way buffer, the number of steps and a mark, each 16 bits, high byte first; then the label, the
 //! bytes of plans, the entries of the way buffer before the first step, and the steps. A step has
-//! eight numbers of 16 bits: the kind (0 first way, 1 next way, 2 the caller writes), n, T, source,
+//! nine numbers of 16 bits: the kind (0 first way, 1 next way, 2 the caller writes), n, T, g, source,
 //! destination, the first byte of the plan, its length, the lent entries of the way buffer; and one of
 //! 32 bits, the lent entries of the scratch. A write has the entry for n and the value for T.
 //!
@@ -18,6 +18,7 @@ mod limits;
 mod refusals;
 mod small;
 mod starts;
+mod turnarounds;
 
 use std::collections::BTreeMap;
 
@@ -27,13 +28,15 @@ use crate::cursor::{self, Cursor};
 use crate::files::{case_bytes, words_bytes, Filed};
 use crate::lent;
 use crate::means::{Counting, COUNT_LIMIT};
-use crate::plan::PlanInput;
+use crate::pair_cases::LabelledPlan;
+use crate::plan::{PlanInput, LEAST_TURNAROUND};
 use crate::plans::pairs;
 use crate::reach_cases::counts_text;
 use crate::ways::{accepted_plan, paths_of_call, Found, PathCall, Way};
 
 pub use ladders::{ladder_path, sent_ladder_path};
 pub use small::mixed;
+pub use turnarounds::other_turnarounds;
 
 /// The longest label, in bytes.
 pub const LONGEST_LABEL: usize = 60;
@@ -51,6 +54,8 @@ pub struct Arguments {
     pub stations: u16,
     /// T
     pub slots: u16,
+    /// g
+    pub turnaround: u16,
     pub source: u16,
     pub destination: u16,
     /// The first byte of the plan.
@@ -69,6 +74,7 @@ impl Arguments {
                 bytes: plan,
                 stations: self.stations.into(),
                 slots: self.slots.into(),
+                turnaround: self.turnaround.into(),
             },
             source: self.source.into(),
             destination: self.destination.into(),
@@ -154,6 +160,7 @@ impl Case {
         let pair = Arguments {
             stations,
             slots,
+            turnaround: LEAST_TURNAROUND as u16,
             source,
             destination,
             plan_from: 0,
@@ -176,13 +183,7 @@ impl Case {
 
     /// A trace without steps on bytes; the plain lister gives its list.
     pub fn on_bytes(label: &str, sizes: (u16, u16), bytes: Vec<u8>, stations: (u16, u16)) -> Case {
-        let case = Case::unlisted(label, sizes, bytes, stations);
-        let list = paths_of_call(COUNT_LIMIT, &case.pair.call(&case.bytes));
-        Case {
-            list: list.expect("an accepted call"),
-            counting: Counting::Listed,
-            ..case
-        }
+        Case::unlisted(label, sizes, bytes, stations).listed()
     }
 
     /// A trace without steps on records; the plain lister gives its list.
@@ -195,6 +196,15 @@ impl Case {
         Case::on_bytes(label, sizes, plan_bytes(records), stations)
     }
 
+    /// A trace without steps on a plan and its turnaround; the plain lister gives its list.
+    pub fn on_plan(plan: &LabelledPlan, (source, destination): (u16, u16)) -> Case {
+        let label = format!("{}, {source} to {destination}", plan.label);
+        let bytes = plan.bytes.clone();
+        let mut case = Case::unlisted(&label, plan.sizes, bytes, (source, destination));
+        case.pair.turnaround = plan.turnaround;
+        case.listed()
+    }
+
     /// A trace without steps for each two different stations of a plan.
     fn every_pair(label: &str, sizes: (u16, u16), bytes: &[u8]) -> Vec<Case> {
         let case = |(source, destination): (usize, usize)| {
@@ -203,6 +213,16 @@ impl Case {
             Case::on_bytes(&label, sizes, bytes.to_vec(), stations)
         };
         pairs(sizes.0.into()).map(case).collect()
+    }
+
+    /// The trace with the plain lister's list.
+    fn listed(self) -> Case {
+        let list = paths_of_call(COUNT_LIMIT, &self.pair.call(&self.bytes));
+        Case {
+            list: list.expect("an accepted call"),
+            counting: Counting::Listed,
+            ..self
+        }
     }
 
     /// The trace with another buffer, which its calls are lent whole.
@@ -272,7 +292,7 @@ impl Case {
         entries.within(COUNT_LIMIT)
     }
 
-    /// The scratch after a call: the named part is 0 where no cause from 1 to 8 holds.
+    /// The scratch after a call: the named part is 0 where no cause before 9 holds.
     fn scratch_after(&self, call: &PathCall) -> Vec<u64> {
         let mut scratch = vec![self.mark.into(); call.scratch_length];
         let named =
@@ -338,7 +358,7 @@ impl Filed for Case {
 /// The bytes of a step.
 fn step_bytes(step: &Step) -> Vec<u8> {
     let (words, scratch_length) = match step {
-        Step::Write(entry, value) => ([2, *entry, *value, 0, 0, 0, 0, 0], 0),
+        Step::Write(entry, value) => ([2, *entry, *value, 0, 0, 0, 0, 0, 0], 0),
         Step::Call(way, call) => {
             let words = [
                 match way {
@@ -347,6 +367,7 @@ fn step_bytes(step: &Step) -> Vec<u8> {
                 },
                 call.stations,
                 call.slots,
+                call.turnaround,
                 call.source,
                 call.destination,
                 call.plan_from,
@@ -369,6 +390,7 @@ pub fn all_cases() -> Vec<Case> {
         limits::cases(),
         layered::cases(),
         small::cases(),
+        turnarounds::cases(),
     ]
     .concat()
 }

@@ -54,7 +54,7 @@ impl PathCall<'_> {
     }
 }
 
-/// The plan of a call, or the first of causes 1 to 8.
+/// The plan of a call, or the first of its causes before 9.
 pub fn accepted_plan(call: &PathCall) -> Answer<Plan> {
     let plan = read(call.input)?;
     known_pair(plan.stations, call.ends())?;
@@ -72,7 +72,7 @@ fn path_positions(limit: u64, plan: &Plan, ends: Ends) -> Answer<Vec<Vec<u16>>> 
     Ok(positions_of(&shortest_paths(&walks, ends.1)))
 }
 
-/// The positions of the pair's shortest paths in order, or the first of causes 1 to 9.
+/// The positions of the pair's shortest paths in order, or the first cause other than 10.
 pub fn paths_of_call(limit: u64, call: &PathCall) -> Answer<Vec<Vec<u16>>> {
     let plan = accepted_plan(call)?;
     path_positions(limit, &plan, call.ends())

@@ -15,7 +15,7 @@ same-length : tie.Need-same-length
 same-length c = search needs
 
 returns : tie.Need-returns
-returns c = appearances-met _ _ _ _ _ (c .before .before .before .before .before .before .before .pre) _ _ _ (c .before .before .before .pass-until .ensures) (c .met-appearance .ensures)
+returns c = appearances-met _ _ _ _ _ _ (c .before .before .before .before .before .before .before .pre) _ _ _ (c .before .before .before .pass-until .ensures) (c .met-appearance .ensures)
 
 pub appearance-too-many-spec : {M : Type 1} → statement M
 appearance-too-many-spec =

@@ -29,7 +29,7 @@ returns : tie.Need-returns
 returns c = search needs
 
 returns-2 : tie.Need-returns-2
-returns-2 c = foremost-plan _ _ _ _ _ _ _ _ _ (c .before .before .before .check .ensures) (c .before .fault .given .1)
+returns-2 c = foremost-plan _ _ _ _ _ _ _ _ _ _ (c .before .before .before .check .ensures) (c .before .fault .given .1)
 
 pub foremost-spec : {M : Type 1} → statement M
 foremost-spec =

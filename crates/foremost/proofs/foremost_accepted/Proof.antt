@@ -18,7 +18,7 @@ enum-told : tie.Need-enum-told
 enum-told c = search needs
 
 foremost-work-requires : tie.Need-foremost-work-requires
-foremost-work-requires c κs = call-free _ _ _ _ _ _ _ (c .before .before .before .before .before .before .before .before .pre) _ (c .before .before .before .before .pair-call .ensures) (c .before .before .enum-told .given .1)
+foremost-work-requires c κs = call-free _ _ _ _ _ _ _ _ (c .before .before .before .before .before .before .before .before .pre) _ (c .before .before .before .before .pair-call .ensures) (c .before .before .enum-told .given .1)
 
 same-length : tie.Need-same-length
 same-length c = search needs
@@ -29,10 +29,10 @@ same-length-2 c = search needs
 returns : tie.Need-returns
 returns c =
     c .before .before .before .before .foremost-work .ensures ∙
-    sym (foremost-works _ _ _ _ _ _ _ (c .before .before .before .before .before .before .before .before .before .before .before .before .before .pre) _ (c .before .before .before .before .before .before .before .before .before .pair-call .ensures) (c .before .before .before .before .before .before .before .enum-told .given .1))
+    sym (foremost-works _ _ _ _ _ _ _ _ (c .before .before .before .before .before .before .before .before .before .before .before .before .before .pre) _ (c .before .before .before .before .before .before .before .before .before .pair-call .ensures) (c .before .before .before .before .before .before .before .enum-told .given .1))
 
 returns-2 : tie.Need-returns-2
-returns-2 c = foremost-call _ _ _ _ _ _ _ (c .before .before .before .before .before .before .before .pre) _ (c .before .before .before .pair-call .ensures) _ (c .before .fault .given .1)
+returns-2 c = foremost-call _ _ _ _ _ _ _ _ (c .before .before .before .before .before .before .before .pre) _ (c .before .before .before .pair-call .ensures) _ (c .before .fault .given .1)
 
 pub foremost-accepted-spec : {M : Type 1} → statement M
 foremost-accepted-spec =

@@ -35,7 +35,7 @@ same-length-2 c = search needs
 
 returns : tie.Need-returns
 returns c =
-    foremost-refused _ _ _ _ _ _ _ (c .before .before .before .before .before .before .before .before .before .before .before .before .before .before .before .before .before .before .before .pre) _ _ _ (c .before .before .before .before .before .before .before .before .before .before .before .before .before .foremost-throughs .ensures) (omega arith) _ _ (c .before .before .before .before .before .before .clear .ensures)
+    foremost-refused _ _ _ _ _ _ _ _ (c .before .before .before .before .before .before .before .before .before .before .before .before .before .before .before .before .before .before .before .pre) _ _ _ (c .before .before .before .before .before .before .before .before .before .before .before .before .before .foremost-throughs .ensures) (omega arith) _ _ (c .before .before .before .before .before .before .clear .ensures)
     (c .before .before .clear2 .ensures)
 
 mul-hops : tie.Need-mul-hops
@@ -76,7 +76,7 @@ same-length-4 c = search needs
 
 returns-2 : tie.Need-returns-2
 returns-2 c =
-    foremost-counted _ _ _ _ _ _ _ (c .before .before .before .before .before .before .before .before .before .before .before .before .before .before .before .before .before .before .pre) _ _ _ (c .before .before .before .before .before .before .before .before .before .before .before .before .foremost-throughs .ensures) (λ q. omega arith) _ _ _ _
+    foremost-counted _ _ _ _ _ _ _ _ (c .before .before .before .before .before .before .before .before .before .before .before .before .before .before .before .before .before .before .pre) _ _ _ (c .before .before .before .before .before .before .before .before .before .before .before .before .foremost-throughs .ensures) (λ q. omega arith) _ _ _ _
     (c .slot-value .ensures) refl refl (c .before .before .before .clear3 .ensures)
 
 pub foremost-work-spec : {M : Type 1} → statement M

@@ -3,13 +3,13 @@
 use Rattle.listing.specs.Answer.{question}
 use native.Mathlib.Omega.{arith}
 use mathlib.Core.Path.{refl}
-use Rattle.listing.proofs.WorkLaws.{worked-too-many, worked-no-path, ready-startable, worked-first}
+use Rattle.listing.proofs.WorkLaws.{pass-ready, worked-too-many, worked-no-path, ready-startable, worked-first}
 use borrow.Author.Needs.{needs}
 use Rattle.listing.proofs.first_work.Statement.{statement}
 use Rattle.listing.proofs.first_work.Tie as tie
 
 pass-requires : tie.Need-pass-requires
-pass-requires c κs = search needs
+pass-requires c κs = pass-ready (question _ _ _ _ _ _) _ _ (c .before .before .before .before .pre)
 
 same-length : tie.Need-same-length
 same-length c = search needs
@@ -34,7 +34,7 @@ complete-requires c κs = search needs
 
 first-path-requires : tie.Need-first-path-requires
 first-path-requires c κs =
-    ready-startable (question _ _ _ _ _) _ _ (c .before .before .before .before .before .before .before .before .before .before .before .before .before .before .before .before .pre) _ _ (c .before .before .before .before .before .before .before .before .before .before .before .pass .ensures) (c .before .before .before .before .before .before .before .before .if1 .left) _ refl
+    ready-startable (question _ _ _ _ _ _) _ _ (c .before .before .before .before .before .before .before .before .before .before .before .before .before .before .before .before .pre) _ _ (c .before .before .before .before .before .before .before .before .before .before .before .pass .ensures) (c .before .before .before .before .before .before .before .before .if1 .left) _ refl
     (λ e. c .before .before .before .before .before .before .if2 .left e) _ (c .before .before .before .before .complete .ensures)
 
 same-length-3 : tie.Need-same-length-3

@@ -1,4 +1,4 @@
--- `listing::next_accepted` meets its contract: a call that 6, 7 or 8 refuses is passed on, any other does the work.
+-- `listing::next_accepted` meets its contract: a call that 12, 6, 7 or 8 refuses is passed on, any other does the work.
 -- Assumes nothing.
 use mathlib.Core.Path.{sym, _∙_}
 use Rattle.temporal.specs.Cursor.{next-way}

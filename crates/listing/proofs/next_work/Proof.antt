@@ -3,13 +3,13 @@
 use Rattle.listing.specs.Answer.{question}
 use native.Mathlib.Omega.{arith}
 use mathlib.Core.Path.{refl, sym, _∙_}
-use Rattle.listing.proofs.WorkLaws.{worked-too-many, worked-no-offer, ready-listable, ready-continuable, worked-next, worked-last, worked-not-offered}
+use Rattle.listing.proofs.WorkLaws.{pass-ready, worked-too-many, worked-no-offer, ready-listable, ready-continuable, worked-next, worked-last, worked-not-offered}
 use borrow.Author.Needs.{needs}
 use Rattle.listing.proofs.next_work.Statement.{statement}
 use Rattle.listing.proofs.next_work.Tie as tie
 
 pass-requires : tie.Need-pass-requires
-pass-requires c κs = search needs
+pass-requires c κs = pass-ready (question _ _ _ _ _ _) _ _ (c .before .before .before .before .pre)
 
 same-length : tie.Need-same-length
 same-length c = search needs
@@ -31,7 +31,7 @@ returns-2 c = worked-no-offer _ _ _ (c .before .before .before .before .before .
 
 offered-requires : tie.Need-offered-requires
 offered-requires c κs =
-    ready-listable (question _ _ _ _ _) _ _ (c .before .before .before .before .before .before .before .before .before .before .before .pre) _ _ (c .before .before .before .before .before .before .pass .ensures) (c .before .before .before .if1 .left) _ refl
+    ready-listable (question _ _ _ _ _ _) _ _ (c .before .before .before .before .before .before .before .before .before .before .before .pre) _ _ (c .before .before .before .before .before .before .pass .ensures) (c .before .before .before .if1 .left) _ refl
     (λ e. c .before .if2 .left e)
 
 complete-requires : tie.Need-complete-requires
@@ -39,7 +39,7 @@ complete-requires c κs = search needs
 
 next-path-requires : tie.Need-next-path-requires
 next-path-requires c κs =
-    ready-continuable (question _ _ _ _ _) _ _ (c .before .before .before .before .before .before .before .before .before .before .before .before .before .before .before .before .before .before .before .pre) _ _ (c .before .before .before .before .before .before .before .before .before .before .before .before .before .before .pass .ensures) (c .before .before .before .before .before .before .before .before .before .before .before .if1 .left) _ refl
+    ready-continuable (question _ _ _ _ _ _) _ _ (c .before .before .before .before .before .before .before .before .before .before .before .before .before .before .before .before .before .before .before .pre) _ _ (c .before .before .before .before .before .before .before .before .before .before .before .before .before .before .pass .ensures) (c .before .before .before .before .before .before .before .before .before .before .before .if1 .left) _ refl
     (λ e. c .before .before .before .before .before .before .before .before .before .if2 .left e) _ (c .before .before .before .before .complete .ensures) (sym (c .before .before .before .before .before .before .before .offered .ensures) ∙ c .before .before .before .before .before .before .if3 .taken)
 
 same-length-3 : tie.Need-same-length-3

@@ -28,7 +28,7 @@ same-length c = search needs
 
 returns : tie.Need-returns
 returns c =
-    compared-refused _ _ _ _ _ _ (c .before .before .before .before .before .before .before .tally .ensures) _ (c .before .before .clear .ensures)
+    compared-refused _ _ _ _ _ _ _ (c .before .before .before .before .before .before .before .tally .ensures) _ (c .before .before .clear .ensures)
     (c .before .before .before .before .if1 .taken)
 
 base-of-requires : tie.Need-base-of-requires
@@ -38,14 +38,14 @@ base-of-requires c κs =
 add-largest : tie.Need-add-largest
 add-largest c =
     omega
-    (arith, tally-room _ _ _ _ _ (c .before .before .before .before .before .before .before .before .before .pre .accepted) (c .before .base-of .ensures) (c .before .before .before .before .before .before .before .before .before .pre .area), c .before .before .before .before .before .before .before .before .before .good .0 .0)
+    (arith, tally-room _ _ _ _ _ _ (c .before .before .before .before .before .before .before .before .before .pre .accepted) (c .before .base-of .ensures) (c .before .before .before .before .before .before .before .before .before .pre .area), c .before .before .before .before .before .before .before .before .before .good .0 .0)
 
 largest-requires : tie.Need-largest-requires
 largest-requires c κs = (
   accepted _ _ _ (c .before .before .before .before .before .before .before .before .before .pre .accepted) .some-station,
   omega (
     arith,
-    tally-room _ _ _ _ _ (c .before .before .before .before .before .before .before .before .before .pre .accepted) (c .before .base-of .ensures) (c .before .before .before .before .before .before .before .before .before .pre .area),
+    tally-room _ _ _ _ _ _ (c .before .before .before .before .before .before .before .before .before .pre .accepted) (c .before .base-of .ensures) (c .before .before .before .before .before .before .before .before .before .pre .area),
     c .before .before .before .before .before .tally .ensures .same-length,
   ),
 )
@@ -67,7 +67,7 @@ same-length-2 c = search needs
 
 returns-2 : tie.Need-returns-2
 returns-2 c =
-    compared-found _ _ _ _ _ _ (c .before .before .before .before .before .before .before .before .before .before .tally .ensures) _ (c .before .before .clear2 .ensures)
+    compared-found _ _ _ _ _ _ _ (c .before .before .before .before .before .before .before .before .before .before .tally .ensures) _ (c .before .before .clear2 .ensures)
     (c .before .before .before .before .before .before .before .if1 .left) _ _ (c .before .before .before .before .before .before .base-of .ensures)
     (c .before .before .before .before .largest .ensures)
 

@@ -32,7 +32,7 @@ returns : tie.Need-returns
 returns c = search needs
 
 returns-2 : tie.Need-returns-2
-returns-2 c = loads-plan _ _ _ _ _ _ _ _ (c .before .before .before .check .ensures) (c .before .fault .given .1)
+returns-2 c = loads-plan _ _ _ _ _ _ _ _ _ (c .before .before .before .check .ensures) (c .before .fault .given .1)
 
 pub loads-spec : {M : Type 1} → statement M
 loads-spec =

@@ -1,34 +1,40 @@
--- `loads::loads_accepted` meets its contract: the tests of the lengths decide 8.
+-- `loads::loads_accepted` meets its contract: the tests of the turnaround and of the lengths decide 12 and 8.
 -- Assumes nothing.
 use native.Mathlib.Omega.{arith}
 use mathlib.Core.Path.{sym, _∙_}
 use Rattle.temporal.proofs.Accepted.{accepted}
 use Rattle.plan.proofs.LimitLaws.{limited-places}
-use Rattle.loads.proofs.LoadLaws.{loads-short-pairs, loads-short-loads, loads-short-area, loads-works}
+use Rattle.loads.proofs.LoadLaws.{loads-terms, loads-short-pairs, loads-short-loads, loads-short-area, loads-works, loads-ready}
 use borrow.Author.Needs.{needs}
 use Rattle.loads.proofs.loads_accepted.Statement.{statement}
 use Rattle.loads.proofs.loads_accepted.Tie as tie
 
+wrong-turnaround-requires : tie.Need-wrong-turnaround-requires
+wrong-turnaround-requires c κs = search needs
+
 returns : tie.Need-returns
-returns c = loads-short-pairs _ _ _ _ _ _ (c .before .before .before .before .before .pre) (omega arith)
+returns c = loads-terms _ _ _ _ _ _ _ (c .before .before .before .before .before .before .pre) (sym (c .before .wrong-turnaround .ensures) ∙ c .if1 .taken)
 
 returns-2 : tie.Need-returns-2
-returns-2 c = loads-short-loads _ _ _ _ _ _ (c .before .before .before .before .before .before .pre) (omega arith) (omega arith)
-
-add-if3 : tie.Need-add-if3
-add-if3 c = omega (arith, accepted _ _ _ (c .before .before .before .before .before .before .pre) .slots)
-
-mul-if3 : tie.Need-mul-if3
-mul-if3 c = let a = accepted _ _ _ (c .before .before .before .before .before .before .pre) in omega (arith, limited-places _ _ (a .stations) (a .slots))
-
-mul-if3-2 : tie.Need-mul-if3-2
-mul-if3-2 c = let a = accepted _ _ _ (c .before .before .before .before .before .before .pre) in omega (arith, limited-places _ _ (a .stations) (a .slots))
+returns-2 c = loads-short-pairs _ _ _ _ _ _ _ (c .before .before .before .before .before .before .before .pre) (sym (c .before .before .wrong-turnaround .ensures) ∙ c .before .if1 .left) (omega arith)
 
 returns-3 : tie.Need-returns-3
-returns-3 c = loads-short-area _ _ _ _ _ _ (c .before .before .before .before .before .before .before .pre) (omega arith) (omega arith) (omega arith)
+returns-3 c = loads-short-loads _ _ _ _ _ _ _ (c .before .before .before .before .before .before .before .before .pre) (sym (c .before .before .before .wrong-turnaround .ensures) ∙ c .before .before .if1 .left) (omega arith) (omega arith)
+
+add-if4 : tie.Need-add-if4
+add-if4 c = omega (arith, accepted _ _ _ (c .before .before .before .before .before .before .before .before .pre) .slots)
+
+mul-if4 : tie.Need-mul-if4
+mul-if4 c = let a = accepted _ _ _ (c .before .before .before .before .before .before .before .before .pre) in omega (arith, limited-places _ _ (a .stations) (a .slots))
+
+mul-if4-2 : tie.Need-mul-if4-2
+mul-if4-2 c = let a = accepted _ _ _ (c .before .before .before .before .before .before .before .before .pre) in omega (arith, limited-places _ _ (a .stations) (a .slots))
+
+returns-4 : tie.Need-returns-4
+returns-4 c = loads-short-area _ _ _ _ _ _ _ (c .before .before .before .before .before .before .before .before .before .pre) (sym (c .before .before .before .before .wrong-turnaround .ensures) ∙ c .before .before .before .if1 .left) (omega arith) (omega arith) (omega arith)
 
 loads-work-requires : tie.Need-loads-work-requires
-loads-work-requires c κs = search needs
+loads-work-requires c κs = loads-ready _ _ _ _ _ _ _ (c .before .before .before .before .before .before .before .before .before .before .before .before .pre) (sym (c .before .before .before .before .before .before .before .wrong-turnaround .ensures) ∙ c .before .before .before .before .before .before .if1 .left) (omega arith) (omega arith) (omega arith)
 
 same-length : tie.Need-same-length
 same-length c = search needs
@@ -39,23 +45,23 @@ same-length-2 c = search needs
 same-length-3 : tie.Need-same-length-3
 same-length-3 c = search needs
 
-returns-4 : tie.Need-returns-4
-returns-4 c =
-    c .before .before .before .before .before .before .loads-work .ensures ∙
-    sym (loads-works _ _ _ _ _ _ (c .before .before .before .before .before .before .before .before .before .before .before .before .before .before .before .before .before .pre) (omega arith) (omega arith) (omega arith))
+returns-5 : tie.Need-returns-5
+returns-5 c = c .before .before .before .before .before .before .loads-work .ensures ∙ sym (loads-works _ _ _ _ _ _ _ (c .before .before .before .before .before .before .before .before .before .before .before .before .before .before .before .before .before .before .before .pre) (sym (c .before .before .before .before .before .before .before .before .before .before .before .before .before .before .wrong-turnaround .ensures) ∙ c .before .before .before .before .before .before .before .before .before .before .before .before .before .if1 .left) (omega arith) (omega arith) (omega arith))
 
 pub loads-accepted-spec : {M : Type 1} → statement M
 loads-accepted-spec =
     tie.close
     (tie.spec
+    wrong-turnaround-requires
     returns
     returns-2
-    add-if3
-    mul-if3
-    mul-if3-2
     returns-3
+    add-if4
+    mul-if4
+    mul-if4-2
+    returns-4
     loads-work-requires
     same-length
     same-length-2
     same-length-3
-    returns-4)
+    returns-5)

@@ -40,7 +40,7 @@ same-length-3 c = search needs
 
 returns : tie.Need-returns
 returns c =
-    loaded-refused _ _ _ _ _ _ (c .before .before .before .before .before .before .before .before .before .before .before .before .before .before .before .before .before .before .before .before .before .pre) _ _ (c .before .before .before .before .before .before .before .before .before .before .before .before .before .before .before .tally .ensures) (c .before .before .before .before .before .before .before .before .before .before .before .before .if1 .taken) _ _ _ (c .before .before .before .before .before .before .before .before .before .before .clear .ensures)
+    loaded-refused _ _ _ _ _ _ _ (c .before .before .before .before .before .before .before .before .before .before .before .before .before .before .before .before .before .before .before .before .before .pre) _ _ (c .before .before .before .before .before .before .before .before .before .before .before .before .before .before .before .tally .ensures) (c .before .before .before .before .before .before .before .before .before .before .before .before .if1 .taken) _ _ _ (c .before .before .before .before .before .before .before .before .before .before .clear .ensures)
     (c .before .before .before .before .before .before .clear2 .ensures) (c .before .before .clear3 .ensures)
 
 base-of-requires : tie.Need-base-of-requires
@@ -49,18 +49,18 @@ base-of-requires c κs =
 
 copy-requires : tie.Need-copy-requires
 copy-requires c κs =
-    let room = tally-room _ _ _ _ _ (c .before .before .before .before .before .before .before .before .before .before .before .before .pre .accepted) (c .before .before .base-of .ensures) (c .before .before .before .before .before .before .before .before .before .before .before .before .pre .area) in
+    let room = tally-room _ _ _ _ _ _ (c .before .before .before .before .before .before .before .before .before .before .before .before .pre .accepted) (c .before .before .base-of .ensures) (c .before .before .before .before .before .before .before .before .before .before .before .before .pre .area) in
     let size = c .before .before .before .before .before .before .tally .ensures .same-length in
     record { source-room = omega arith; table-room = c .before .before .before .before .before .before .before .before .before .before .before .before .pre .pairs-room }
 
 add-copy : tie.Need-add-copy
 add-copy c =
     omega
-    (arith, tally-room _ _ _ _ _ (c .before .before .before .before .before .before .before .before .before .before .before .before .before .before .before .before .before .pre .accepted) (c .before .before .before .before .before .before .before .base-of .ensures) (c .before .before .before .before .before .before .before .before .before .before .before .before .before .before .before .before .before .pre .area), c .before .before .before .before .before .before .before .before .before .before .before .before .before .before .before .before .before .good .1 .1 .0 .0)
+    (arith, tally-room _ _ _ _ _ _ (c .before .before .before .before .before .before .before .before .before .before .before .before .before .before .before .before .before .pre .accepted) (c .before .before .before .before .before .before .before .base-of .ensures) (c .before .before .before .before .before .before .before .before .before .before .before .before .before .before .before .before .before .pre .area), c .before .before .before .before .before .before .before .before .before .before .before .before .before .before .before .before .before .good .1 .1 .0 .0)
 
 copy-requires-2 : tie.Need-copy-requires-2
 copy-requires-2 c κs =
-    let room = tally-room _ _ _ _ _ (c .before .before .before .before .before .before .before .before .before .before .before .before .before .before .before .before .before .pre .accepted) (c .before .before .before .before .before .before .before .base-of .ensures) (c .before .before .before .before .before .before .before .before .before .before .before .before .before .before .before .before .before .pre .area) in
+    let room = tally-room _ _ _ _ _ _ (c .before .before .before .before .before .before .before .before .before .before .before .before .before .before .before .before .before .pre .accepted) (c .before .before .before .before .before .before .before .base-of .ensures) (c .before .before .before .before .before .before .before .before .before .before .before .before .before .before .before .before .before .pre .area) in
     let size = c .before .before .before .before .before .before .before .before .before .before .before .tally .ensures .same-length in
     record { source-room = omega arith; table-room = c .before .before .before .before .before .before .before .before .before .before .before .before .before .before .before .before .before .pre .loads-room }
 
@@ -87,7 +87,7 @@ same-length-6 c = search needs
 
 returns-2 : tie.Need-returns-2
 returns-2 c =
-    loaded-filled _ _ _ _ _ _ (c .before .before .before .before .before .before .before .before .before .before .before .before .before .before .before .before .before .before .before .before .before .before .before .before .pre) _ _ (c .before .before .before .before .before .before .before .before .before .before .before .before .before .before .before .before .before .before .tally .ensures) (c .before .before .before .before .before .before .before .before .before .before .before .before .before .before .before .if1 .left) _ _ _ _ (c .before .before .before .before .before .before .before .before .before .before .before .before .before .before .base-of .ensures)
+    loaded-filled _ _ _ _ _ _ _ (c .before .before .before .before .before .before .before .before .before .before .before .before .before .before .before .before .before .before .before .before .before .before .before .before .pre) _ _ (c .before .before .before .before .before .before .before .before .before .before .before .before .before .before .before .before .before .before .tally .ensures) (c .before .before .before .before .before .before .before .before .before .before .before .before .before .before .before .if1 .left) _ _ _ _ (c .before .before .before .before .before .before .before .before .before .before .before .before .before .before .base-of .ensures)
     (c .before .before .before .before .before .before .before .before .before .before .before .copy .ensures) (c .before .before .before .before .before .before .copy2 .ensures) (c .before .before .clear4 .ensures)
 
 pub loads-work-spec : {M : Type 1} → statement M

@@ -18,7 +18,7 @@ enum-told : tie.Need-enum-told
 enum-told c = search needs
 
 pair-work-requires : tie.Need-pair-work-requires
-pair-work-requires c κs = call-free _ _ _ _ _ _ _ (c .before .before .before .before .before .before .before .before .pre) _ (c .before .before .before .before .pair-call .ensures) (c .before .before .enum-told .given .1)
+pair-work-requires c κs = call-free _ _ _ _ _ _ _ _ (c .before .before .before .before .before .before .before .before .pre) _ (c .before .before .before .before .pair-call .ensures) (c .before .before .enum-told .given .1)
 
 same-length : tie.Need-same-length
 same-length c = search needs
@@ -29,10 +29,10 @@ same-length-2 c = search needs
 returns : tie.Need-returns
 returns c =
     c .before .before .before .before .pair-work .ensures ∙
-    sym (pair-works _ _ _ _ _ _ _ (c .before .before .before .before .before .before .before .before .before .before .before .before .before .pre) _ (c .before .before .before .before .before .before .before .before .before .pair-call .ensures) (c .before .before .before .before .before .before .before .enum-told .given .1))
+    sym (pair-works _ _ _ _ _ _ _ _ (c .before .before .before .before .before .before .before .before .before .before .before .before .before .pre) _ (c .before .before .before .before .before .before .before .before .before .pair-call .ensures) (c .before .before .before .before .before .before .before .enum-told .given .1))
 
 returns-2 : tie.Need-returns-2
-returns-2 c = pair-call _ _ _ _ _ _ _ (c .before .before .before .before .before .before .before .pre) _ (c .before .before .before .pair-call .ensures) _ (c .before .fault .given .1)
+returns-2 c = pair-call _ _ _ _ _ _ _ _ (c .before .before .before .before .before .before .before .pre) _ (c .before .before .before .pair-call .ensures) _ (c .before .fault .given .1)
 
 pub pair-accepted-spec : {M : Type 1} → statement M
 pair-accepted-spec =

@@ -1,31 +1,39 @@
 -- `pair::throughs` meets its contract. The loop's invariant: the stations below low are stored. The measure is the number
 -- of stations left, which falls since no block is empty.
 -- Assumes nothing.
+use Prim.Native.Nat.{_-_}
+use native.Mathlib.Omega.{arith}
+use mathlib.Core.Path.{ap, _∙_}
+use Rattle.temporal.specs.Plan.{turning}
+use Rattle.temporal.proofs.Accepted.{accepted}
+use Rattle.pass.specs.Passed.{mostColumns}
 use Rattle.pair.proofs.BlockLaws.{blocks-refused, blocks-more, block-progress, blocks-end}
 use Rattle.pair.proofs.BlockLaws.{Blocks, blocks-none, block-within, next-ready}
-use Rattle.temporal.proofs.Accepted.{accepted}
-use mathlib.Core.Path.{sym, _∙_}
-use native.Mathlib.Omega.{arith}
-use Prim.Native.Nat.{_-_}
 use borrow.Author.Needs.{needs}
 use Rattle.pair.proofs.throughs.Statement.{statement}
 use Rattle.pair.proofs.throughs.Tie as tie
 
 abbrev Inv-loop : tie.InvT-loop
-Inv-loop through₀ work₀ plan n t s z until most low₀ slot₀ through work low slot =
-    Blocks plan n t s z until through₀ work₀ low through work slot
+Inv-loop through₀ work₀ plan n t g s z until q most low₀ slot₀ through work low slot =
+    Blocks plan n t (turning g) s z until through₀ work₀ low through work slot
 
 abbrev μ-loop : tie.MeasureT-loop
-μ-loop through₀ work₀ plan n t s z until most low₀ slot₀ through work low slot = n - low
-
-mul-smaller : tie.Need-mul-smaller Inv-loop μ-loop
-mul-smaller c = omega (arith, accepted _ _ _ (c .before .before .before .pre .ready .accepted) .slots)
+μ-loop through₀ work₀ plan n t g s z until q most low₀ slot₀ through work low slot = n - low
 
 smaller-requires : tie.Need-smaller-requires Inv-loop μ-loop
 smaller-requires c κs = search needs
 
+add-most-columns : tie.Need-add-most-columns Inv-loop μ-loop
+add-most-columns c = omega (arith, accepted _ _ _ (c .before .before .before .before .pre .ready .accepted) .slots)
+
+mul-most-columns : tie.Need-mul-most-columns Inv-loop μ-loop
+mul-most-columns c = omega (arith, accepted _ _ _ (c .before .before .before .before .pre .ready .accepted) .slots)
+
+most-columns-requires : tie.Need-most-columns-requires Inv-loop μ-loop
+most-columns-requires c κs = let a = accepted _ _ _ (c .before .before .before .before .pre .ready .accepted) in let slots = a .slots in let q = c .smaller .ensures in (omega arith, omega arith)
+
 loop-holds : tie.Need-loop-holds Inv-loop μ-loop
-loop-holds c = blocks-none _ _ _ _ _ _ _ _ _ (c .before .before .before .before .pre)
+loop-holds c = blocks-none _ _ _ _ _ _ _ _ _ _ (c .before .before .before .before .before .pre)
 
 sub-smaller : tie.Need-sub-smaller Inv-loop μ-loop
 sub-smaller c = omega arith
@@ -34,7 +42,7 @@ smaller-requires-2 : tie.Need-smaller-requires-2 Inv-loop μ-loop
 smaller-requires-2 c κs = search needs
 
 block-throughs-requires : tie.Need-block-throughs-requires Inv-loop μ-loop
-block-throughs-requires c κs = next-ready _ _ _ _ _ _ _ _ _ _ _ _ (c .before .before .before .before .loop .inv) (c .before .before .before .loop-test .taken) _ _ (c .before .before .before .before .before .smaller .ensures) (c .before .before .smaller2 .ensures)
+block-throughs-requires c κs = next-ready _ _ _ _ _ _ _ _ _ _ _ _ _ (c .before .before .before .before .loop .inv) (c .before .before .before .loop-test .taken) _ _ (c .before .before .before .before .before .most-columns .ensures ∙ ap (mostColumns _ _) (c .before .before .before .before .before .before .smaller .ensures)) (c .before .before .smaller2 .ensures)
 
 same-length : tie.Need-same-length Inv-loop μ-loop
 same-length c = c .before .before .before .before .before .block-throughs .ensures .table-length ∙ c .before .before .before .before .before .before .before .before .before .before .loop .inv .table-length
@@ -43,24 +51,16 @@ same-length-2 : tie.Need-same-length-2 Inv-loop μ-loop
 same-length-2 c = c .before .before .before .before .before .block-throughs .ensures .area-length ∙ c .before .before .before .before .before .before .before .before .before .before .loop .inv .area-length
 
 returns : tie.Need-returns Inv-loop μ-loop
-returns c =
-    blocks-refused _ _ _ _ _ _ _ _ _ _ _ _ (c .before .before .before .before .before .before .before .before .before .before .loop .inv) (c .before .before .before .before .before .before .before .before .before .loop-test .taken) _ _ (c .before .before .before .before .before .before .before .before .before .before .before .smaller .ensures) (c .before .before .before .before .before .before .before .before .smaller2 .ensures)
-    _ _ _ (c .before .before .before .before .before .block-throughs .ensures) (omega arith)
+returns c = blocks-refused _ _ _ _ _ _ _ _ _ _ _ _ _ (c .before .before .before .before .before .before .before .before .before .before .loop .inv) (c .before .before .before .before .before .before .before .before .before .loop-test .taken) _ _ (c .before .before .before .before .before .before .before .before .before .before .before .most-columns .ensures ∙ ap (mostColumns _ _) (c .before .before .before .before .before .before .before .before .before .before .before .before .smaller .ensures)) (c .before .before .before .before .before .before .before .before .smaller2 .ensures) _ _ _ (c .before .before .before .before .before .block-throughs .ensures) (omega arith)
 
 add-low : tie.Need-add-low Inv-loop μ-loop
-add-low c =
-    let inside = block-within _ _ _ _ _ _ _ _ _ _ _ _ (c .before .before .before .before .before .before .before .before .before .before .loop .inv) (c .before .before .before .before .before .before .before .before .before .loop-test .taken) _ _ (c .before .before .before .before .before .before .before .before .before .before .before .smaller .ensures) (c .before .before .before .before .before .before .before .before .smaller2 .ensures) in
-    omega (arith, accepted _ _ _ (c .before .before .before .before .before .before .before .before .before .before .before .before .before .before .before .pre .ready .accepted) .stations)
+add-low c = let inside = block-within _ _ _ _ _ _ _ _ _ _ _ _ _ (c .before .before .before .before .before .before .before .before .before .before .loop .inv) (c .before .before .before .before .before .before .before .before .before .loop-test .taken) _ _ (c .before .before .before .before .before .before .before .before .before .before .before .most-columns .ensures ∙ ap (mostColumns _ _) (c .before .before .before .before .before .before .before .before .before .before .before .before .smaller .ensures)) (c .before .before .before .before .before .before .before .before .smaller2 .ensures) in omega (arith, accepted _ _ _ (c .before .before .before .before .before .before .before .before .before .before .before .before .before .before .before .before .pre .ready .accepted) .stations)
 
 loop-less : tie.Need-loop-less Inv-loop μ-loop
-loop-less c =
-    block-progress _ _ _ _ _ _ _ _ _ _ _ _ (c .before .before .before .before .before .before .before .before .before .before .loop .inv) (c .before .before .before .before .before .before .before .before .before .loop-test .taken) _ _ (c .before .before .before .before .before .before .before .before .before .before .before .smaller .ensures) (c .before .before .before .before .before .before .before .before .smaller2 .ensures)
-    _ _ _ (c .before .before .before .before .before .block-throughs .ensures) (λ q. omega arith)
+loop-less c = block-progress _ _ _ _ _ _ _ _ _ _ _ _ _ (c .before .before .before .before .before .before .before .before .before .before .loop .inv) (c .before .before .before .before .before .before .before .before .before .loop-test .taken) _ _ (c .before .before .before .before .before .before .before .before .before .before .before .most-columns .ensures ∙ ap (mostColumns _ _) (c .before .before .before .before .before .before .before .before .before .before .before .before .smaller .ensures)) (c .before .before .before .before .before .before .before .before .smaller2 .ensures) _ _ _ (c .before .before .before .before .before .block-throughs .ensures) (λ q. omega arith)
 
 loop-again : tie.Need-loop-again Inv-loop μ-loop
-loop-again c =
-    blocks-more _ _ _ _ _ _ _ _ _ _ _ _ (c .before .before .before .before .before .before .before .before .before .before .loop .inv) (c .before .before .before .before .before .before .before .before .before .loop-test .taken) _ _ (c .before .before .before .before .before .before .before .before .before .before .before .smaller .ensures) (c .before .before .before .before .before .before .before .before .smaller2 .ensures)
-    _ _ _ (c .before .before .before .before .before .block-throughs .ensures) (λ q. omega arith)
+loop-again c = blocks-more _ _ _ _ _ _ _ _ _ _ _ _ _ (c .before .before .before .before .before .before .before .before .before .before .loop .inv) (c .before .before .before .before .before .before .before .before .before .loop-test .taken) _ _ (c .before .before .before .before .before .before .before .before .before .before .before .most-columns .ensures ∙ ap (mostColumns _ _) (c .before .before .before .before .before .before .before .before .before .before .before .before .smaller .ensures)) (c .before .before .before .before .before .before .before .before .smaller2 .ensures) _ _ _ (c .before .before .before .before .before .block-throughs .ensures) (λ q. omega arith)
 
 same-length-3 : tie.Need-same-length-3 Inv-loop μ-loop
 same-length-3 c = c .before .loop .inv .table-length
@@ -69,7 +69,7 @@ same-length-4 : tie.Need-same-length-4 Inv-loop μ-loop
 same-length-4 c = c .before .loop .inv .area-length
 
 returns-2 : tie.Need-returns-2 Inv-loop μ-loop
-returns-2 c = blocks-end _ _ _ _ _ _ _ _ _ _ _ _ (omega arith) (c .before .loop .inv)
+returns-2 c = blocks-end _ _ _ _ _ _ _ _ _ _ _ _ _ (omega arith) (c .before .loop .inv)
 
 pub throughs-spec : {M : Type 1} → statement M
 throughs-spec =
@@ -77,8 +77,10 @@ throughs-spec =
     (tie.spec
     Inv-loop
     μ-loop
-    mul-smaller
     smaller-requires
+    add-most-columns
+    mul-most-columns
+    most-columns-requires
     loop-holds
     sub-smaller
     smaller-requires-2

@@ -2,7 +2,7 @@
 -- Assumes nothing.
 use native.Mathlib.Omega.{arith}
 use mathlib.Core.Path.{sym}
-use Rattle.pass.proofs.PlaceLaws.{row-settled, masked-source, masked-none, masked-own}
+use Rattle.pass.proofs.PlaceLaws.{masked-source, masked-none, masked-own}
 use borrow.Author.Needs.{needs}
 use Rattle.pass.proofs.mask.Statement.{statement}
 use Rattle.pass.proofs.mask.Tie as tie
@@ -14,16 +14,16 @@ column-of-requires : tie.Need-column-of-requires
 column-of-requires c κs = search needs
 
 row-at-requires : tie.Need-row-at-requires
-row-at-requires c κs = omega (arith, row-settled (c .before .before .before .before .before .pre .1) (c .before .before .before .before .before .pre .0), c .before .before .before .before .before .good .0 .0)
+row-at-requires c κs = omega (arith, c .before .before .before .before .before .pre, c .before .before .before .before .before .good .0 .0)
 
 add-work : tie.Need-add-work
-add-work c = omega (arith, row-settled (c .before .before .before .before .before .before .pre .1) (c .before .before .before .before .before .before .pre .0), c .row-at .ensures, c .before .before .before .before .before .before .good .0 .0)
+add-work c = omega (arith, c .before .before .before .before .before .before .pre, c .row-at .ensures, c .before .before .before .before .before .before .good .0 .0)
 
 mul-work : tie.Need-mul-work
-mul-work c = omega (arith, row-settled (c .before .before .before .before .before .before .pre .1) (c .before .before .before .before .before .before .pre .0), c .row-at .ensures, c .before .before .before .before .before .before .good .0 .0)
+mul-work c = omega (arith, c .before .before .before .before .before .before .pre, c .row-at .ensures, c .before .before .before .before .before .before .good .0 .0)
 
 slice-write-work : tie.Need-slice-write-work
-slice-write-work c = omega (arith, row-settled (c .before .before .before .before .before .before .pre .1) (c .before .before .before .before .before .before .pre .0), c .row-at .ensures)
+slice-write-work c = omega (arith, c .before .before .before .before .before .before .pre, c .row-at .ensures)
 
 same-length : tie.Need-same-length
 same-length c = search needs

@@ -6,7 +6,7 @@ use Rattle.pass.proofs.pass.Statement.{statement}
 use Rattle.pass.proofs.pass.Tie as tie
 
 pass-until-requires : tie.Need-pass-until-requires
-pass-until-requires c κs = block-ready _ _ _ _ _ _ _ (c .before .before .before .pre)
+pass-until-requires c κs = block-ready _ _ _ _ _ _ _ _ (c .before .before .before .pre)
 
 over-requires : tie.Need-over-requires
 over-requires c κs = search needs
@@ -15,7 +15,7 @@ same-length : tie.Need-same-length
 same-length c = search needs
 
 returns : tie.Need-returns
-returns c = block-passed _ _ _ _ _ _ _ _ _ _ (c .before .before .before .before .before .before .before .pre) (c .before .before .before .pass-until .ensures) (c .over .ensures)
+returns c = block-passed _ _ _ _ _ _ _ _ _ _ _ (c .before .before .before .before .before .before .before .pre) (c .before .before .before .pass-until .ensures) (c .over .ensures)
 
 pub pass-spec : {M : Type 1} → statement M
 pass-spec = tie.close (tie.spec pass-until-requires over-requires same-length returns)

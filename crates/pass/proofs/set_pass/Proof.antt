@@ -6,7 +6,7 @@ use Rattle.pass.proofs.set_pass.Statement.{statement}
 use Rattle.pass.proofs.set_pass.Tie as tie
 
 pass-columns-requires : tie.Need-pass-columns-requires
-pass-columns-requires c κs = set-ready _ _ _ _ _ _ (c .before .before .before .before .pre)
+pass-columns-requires c κs = set-ready _ _ _ _ _ _ _ (c .before .before .before .before .pre)
 
 over-requires : tie.Need-over-requires
 over-requires c κs = search needs
@@ -15,7 +15,7 @@ same-length : tie.Need-same-length
 same-length c = search needs
 
 returns : tie.Need-returns
-returns c = set-passed _ _ _ _ _ _ _ _ _ _ (c .before .before .before .before .before .before .before .before .pre) (c .before .before .before .pass-columns .ensures) (c .over .ensures)
+returns c = set-passed _ _ _ _ _ _ _ _ _ _ _ (c .before .before .before .before .before .before .before .before .pre) (c .before .before .before .pass-columns .ensures) (c .over .ensures)
 
 pub set-pass-spec : {M : Type 1} → statement M
 set-pass-spec = tie.close (tie.spec pass-columns-requires over-requires same-length returns)

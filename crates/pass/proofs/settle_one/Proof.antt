@@ -1,15 +1,12 @@
--- `pass::settle_one` meets its contract: what is pending is absorbed, the own column masked, the pending entry cleared.
+-- `pass::settle_one` meets its contract: what waits is absorbed, the own column masked, the waiting entry cleared.
 -- Assumes nothing.
 use lib.Seq.{lt-length-set}
 use native.Mathlib.Omega.{arith}
 use mathlib.Core.Path.{_∙_}
-use Rattle.pass.proofs.PlaceLaws.{row-settled, row-pending, absorbable, settled-over, settled-within, settled-none, set-twice-length}
+use Rattle.pass.proofs.PlaceLaws.{row-settled, row-waiting, absorb-settled, settled-over, settled-within, settled-none, set-twice-length}
 use borrow.Author.Needs.{needs}
 use Rattle.pass.proofs.settle_one.Statement.{statement}
 use Rattle.pass.proofs.settle_one.Tie as tie
-
-mul-at : tie.Need-mul-at
-mul-at c = search needs
 
 add-at : tie.Need-add-at
 add-at c = search needs
@@ -32,17 +29,14 @@ slice-read-d c = search needs
 row-at-requires : tie.Need-row-at-requires
 row-at-requires c κs = omega (arith, row-settled (c .before .before .before .before .before .pre .1) (c .before .before .before .before .before .pre .0), c .before .before .before .before .before .good .0 .0)
 
-add-row-at : tie.Need-add-row-at
-add-row-at c = search needs
-
-row-at-requires-2 : tie.Need-row-at-requires-2
-row-at-requires-2 c κs = omega (arith, row-pending (c .before .before .before .before .before .before .pre .1) (c .before .before .before .before .before .before .pre .0), c .before .before .before .before .before .before .good .0 .0)
+add-absorb : tie.Need-add-absorb
+add-absorb c = omega (arith, row-waiting (c .before .before .before .before .before .before .before .pre .1) (c .before .before .before .before .before .before .before .pre .0), c .before .row-at .ensures, c .before .before .before .before .before .before .before .good .0 .0)
 
 absorb-requires : tie.Need-absorb-requires
-absorb-requires c κs = absorbable _ _ _ _ _ _ _ _ (c .before .before .before .before .before .before .before .before .pre .0) (omega arith) (omega arith) (omega arith) (c .before .before .row-at .ensures) (c .before .row-at2 .ensures)
+absorb-requires c κs = absorb-settled _ (c .before .before .before .before .before .before .before .pre .1) (c .before .before .before .before .before .before .before .pre .0) (c .before .row-at .ensures)
 
 mask-requires : tie.Need-mask-requires
-mask-requires c κs = search needs
+mask-requires c κs = omega (arith, row-settled (c .before .before .before .before .before .before .before .before .before .before .before .pre .1) (c .before .before .before .before .before .before .before .before .before .before .before .pre .0), c .before .before .before .absorb .kept .0)
 
 mul-work : tie.Need-mul-work
 mul-work c = search needs
@@ -54,28 +48,27 @@ mul-work-2 : tie.Need-mul-work-2
 mul-work-2 c = search needs
 
 slice-write-work-2 : tie.Need-slice-write-work-2
-slice-write-work-2 c = lt-length-set (c .before .before .mask .last .0) _ _ (omega (arith, c .before .before .mask .kept .0, c .before .before .before .before .before .before .absorb .kept .0, c .before .before .before .before .before .before .before .before .before .before .before .before .before .before .before .pre .0 .fits))
+slice-write-work-2 c = lt-length-set (c .before .before .mask .last .0) _ _ (omega (arith, c .before .before .mask .kept .0, c .before .before .before .before .before .before .absorb .kept .0, c .before .before .before .before .before .before .before .before .before .before .before .before .before .before .pre .0 .fits))
 
 same-length : tie.Need-same-length
 same-length c = set-twice-length (c .before .before .before .mask .last .0) _ _ _ _ ∙ c .before .before .before .mask .kept .0 ∙ c .before .before .before .before .before .before .before .absorb .kept .0
 
 returns : tie.Need-returns
-returns c = settled-over _ _ _ _ _ _ _ _ _ _ _ (c .before .before .before .before .before .before .before .before .before .before .row-at .ensures) (c .before .before .before .before .before .before .before .before .before .row-at2 .ensures) (omega arith) (c .before .before .before .before .before .before .before .absorb .ensures) (c .before .before .before .mask .ensures) (omega arith)
+returns c = settled-over _ _ _ _ _ _ _ _ _ _ _ (c .before .before .before .before .before .before .before .before .before .row-at .ensures) (omega arith) (c .before .before .before .before .before .before .before .absorb .ensures) (c .before .before .before .mask .ensures) (omega arith)
 
 same-length-2 : tie.Need-same-length-2
 same-length-2 c = set-twice-length (c .before .before .before .mask .last .0) _ _ _ _ ∙ c .before .before .before .mask .kept .0 ∙ c .before .before .before .before .before .before .before .absorb .kept .0
 
 returns-2 : tie.Need-returns-2
-returns-2 c = settled-within _ _ _ _ _ _ _ _ _ _ _ (c .before .before .before .before .before .before .before .before .before .before .row-at .ensures) (c .before .before .before .before .before .before .before .before .before .row-at2 .ensures) (omega arith) (c .before .before .before .before .before .before .before .absorb .ensures) (c .before .before .before .mask .ensures) (omega arith)
+returns-2 c = settled-within _ _ _ _ _ _ _ _ _ _ _ (c .before .before .before .before .before .before .before .before .before .row-at .ensures) (omega arith) (c .before .before .before .before .before .before .before .absorb .ensures) (c .before .before .before .mask .ensures) (omega arith)
 
 returns-3 : tie.Need-returns-3
-returns-3 c = settled-none _ _ _ _ _ _ _ (omega arith)
+returns-3 c = settled-none _ _ _ _ _ _ _ _ (omega arith)
 
 pub settle-one-spec : {M : Type 1} → statement M
 settle-one-spec =
     tie.close
     (tie.spec
-    mul-at
     add-at
     mul-h
     slice-read-h
@@ -83,8 +76,7 @@ settle-one-spec =
     mul-d
     slice-read-d
     row-at-requires
-    add-row-at
-    row-at-requires-2
+    add-absorb
     absorb-requires
     mask-requires
     mul-work

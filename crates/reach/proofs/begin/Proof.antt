@@ -1,4 +1,4 @@
--- `reach::begin` meets its contract: four fills, and the source's entry in slot 0.
+-- `reach::begin` meets its contract: four fills, and the source's entries.
 -- Assumes nothing.
 use native.Mathlib.Omega.{arith}
 use Rattle.reach.proofs.PlaceLaws.{place-below}
@@ -37,6 +37,18 @@ mul-counts c = omega (arith, place-below _ _ _ _ _ (c .before .before .before .b
 slice-write-counts : tie.Need-slice-write-counts
 slice-write-counts c = omega (arith, place-below _ _ _ _ _ (c .before .before .before .before .before .before .before .before .before .before .before .before .before .before .before .before .before .before .before .before .pre .1) (c .before .before .before .before .before .before .before .before .before .before .before .before .before .before .before .before .before .before .before .before .pre .2) (c .before .before .before .before .before .before .before .before .before .before .before .before .before .before .before .before .before .before .before .before .pre .0 .hops), place-below _ _ _ _ _ (c .before .before .before .before .before .before .before .before .before .before .before .before .before .before .before .before .before .before .before .before .pre .1) (c .before .before .before .before .before .before .before .before .before .before .before .before .before .before .before .before .before .before .before .before .pre .2) (c .before .before .before .before .before .before .before .before .before .before .before .before .before .before .before .before .before .before .before .before .pre .0 .counts), c .before .before .before .before .before .before .before .before .before .before .before .before .before .before .before .before .before .before .before .before .good .0 .0, c .before .before .before .before .before .before .before .before .before .before .before .before .before .before .before .before .before .before .before .before .good .0 .1, c .before .before .before .before .before .before .before .before .before .before .before .before .before .before .before .before .before .before .before .before .good .1 .0 .1, c .before .before .before .before .before .before .before .before .before .before .before .before .before .before .fill16 .kept .0, c .before .before .before .before .before .before .before .before .before .before .fill64 .kept .0)
 
+mul-station-hops : tie.Need-mul-station-hops
+mul-station-hops c = search needs
+
+slice-write-station-hops : tie.Need-slice-write-station-hops
+slice-write-station-hops c = search needs
+
+mul-station-counts : tie.Need-mul-station-counts
+mul-station-counts c = search needs
+
+slice-write-station-counts : tie.Need-slice-write-station-counts
+slice-write-station-counts c = search needs
+
 same-length : tie.Need-same-length
 same-length c = search needs
 
@@ -68,6 +80,10 @@ begin-spec =
     slice-write-hops
     mul-counts
     slice-write-counts
+    mul-station-hops
+    slice-write-station-hops
+    mul-station-counts
+    slice-write-station-counts
     same-length
     same-length-2
     same-length-3

@@ -17,7 +17,7 @@ enum-told c = search needs
 
 set-free-requires : tie.Need-set-free-requires
 set-free-requires c κs =
-    set-asked _ _ _ _ _ _ _ (c .before .before .before .before .before .before .before .pre) _ (c .before .before .before .pair-call .ensures) (c .before .enum-told .given .1)
+    set-asked _ _ _ _ _ _ _ _ (c .before .before .before .before .before .before .before .pre) _ (c .before .before .before .pair-call .ensures) (c .before .enum-told .given .1)
 
 same-length : tie.Need-same-length
 same-length c = search needs
@@ -27,7 +27,7 @@ returns c = search needs
 
 returns-2 : tie.Need-returns-2
 returns-2 c =
-    set-call _ _ _ _ _ _ _ (c .before .before .before .before .before .before .before .pre) _ (c .before .before .before .pair-call .ensures) _ (c .before .fault .given .1)
+    set-call _ _ _ _ _ _ _ _ (c .before .before .before .before .before .before .before .pre) _ (c .before .before .before .pair-call .ensures) _ (c .before .fault .given .1)
 
 pub set-accepted-spec : {M : Type 1} → statement M
 set-accepted-spec =

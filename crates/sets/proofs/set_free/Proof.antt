@@ -10,7 +10,7 @@ wrong-set-requires : tie.Need-wrong-set-requires
 wrong-set-requires c κs = search needs
 
 returns : tie.Need-returns
-returns c = set-byte _ _ _ _ _ _ _ (c .before .before .before .before .before .pre) (sym (c .before .wrong-set .ensures) ∙ c .if1 .taken)
+returns c = set-byte _ _ _ _ _ _ _ _ (c .before .before .before .before .before .pre) (sym (c .before .wrong-set .ensures) ∙ c .if1 .taken)
 
 set-work-requires : tie.Need-set-work-requires
 set-work-requires c κs = search needs
@@ -21,7 +21,7 @@ same-length c = search needs
 returns-2 : tie.Need-returns-2
 returns-2 c =
     c .before .before .set-work .ensures ∙
-    sym (set-works _ _ _ _ _ _ _ (c .before .before .before .before .before .before .before .before .before .pre) (sym (c .before .before .before .before .before .wrong-set .ensures) ∙ c .before .before .before .before .if1 .left))
+    sym (set-works _ _ _ _ _ _ _ _ (c .before .before .before .before .before .before .before .before .before .pre) (sym (c .before .before .before .before .before .wrong-set .ensures) ∙ c .before .before .before .before .if1 .left))
 
 pub set-free-spec : {M : Type 1} → statement M
 set-free-spec =

@@ -8,7 +8,7 @@ use Rattle.sets.proofs.set_work.Statement.{statement}
 use Rattle.sets.proofs.set_work.Tie as tie
 
 set-pass-requires : tie.Need-set-pass-requires
-set-pass-requires c κs = pass-ready _ _ _ _ _ _ _ (c .before .before .before .before .pre)
+set-pass-requires c κs = pass-ready _ _ _ _ _ _ _ _ (c .before .before .before .before .pre)
 
 add-clear : tie.Need-add-clear
 add-clear c = omega (arith, accepted _ _ _ (c .before .before .before .before .before .before .before .before .before .pre .accepted) .slots)
@@ -27,12 +27,12 @@ same-length c = search needs
 
 returns : tie.Need-returns
 returns c =
-    counted-refused _ _ _ _ _ _ _ (c .before .before .before .before .before .before .before .before .before .before .before .before .pre) _ _ (c .before .before .before .before .before .before .before .set-pass .ensures)
+    counted-refused _ _ _ _ _ _ _ _ (c .before .before .before .before .before .before .before .before .before .before .before .before .pre) _ _ (c .before .before .before .before .before .before .before .set-pass .ensures)
     (c .before .before .before .before .if1 .taken) _ (c .before .before .clear .ensures)
 
 touched-at-requires : tie.Need-touched-at-requires
 touched-at-requires c κs =
-    readable _ _ _ _ _ _ _ (c .before .before .before .before .before .before .before .before .before .pre) _ _ (c .before .before .before .before .set-pass .ensures) (c .before .if1 .left)
+    readable _ _ _ _ _ _ _ _ (c .before .before .before .before .before .before .before .before .before .pre) _ _ (c .before .before .before .before .set-pass .ensures) (c .before .if1 .left)
 
 add-clear-2 : tie.Need-add-clear-2
 add-clear-2 c = omega (arith, accepted _ _ _ (c .before .before .before .before .before .before .before .before .before .before .before .pre .accepted) .slots)
@@ -51,7 +51,7 @@ same-length-2 c = search needs
 
 returns-2 : tie.Need-returns-2
 returns-2 c =
-    counted-found _ _ _ _ _ _ _ (c .before .before .before .before .before .before .before .before .before .before .before .before .before .before .pre) _ _ (c .before .before .before .before .before .before .before .before .before .set-pass .ensures)
+    counted-found _ _ _ _ _ _ _ _ (c .before .before .before .before .before .before .before .before .before .before .before .before .before .before .pre) _ _ (c .before .before .before .before .before .before .before .before .before .set-pass .ensures)
     (c .before .before .before .before .before .before .if1 .left) _ _ (c .before .before .before .before .touched-at .ensures) (c .before .before .clear2 .ensures)
 
 pub set-work-spec : {M : Type 1} → statement M

@@ -1,50 +1,56 @@
--- `tallies::base_of` meets its contract: the entries of a pass over the block.
+-- `tallies::base_of` meets its contract.
 -- Assumes nothing.
 use native.Mathlib.Omega.{arith}
-use mathlib.Core.Path.{ap}
-use Prim.Native.Nat.{_+_, _*_}
-use Rattle.tallies.specs.Tally.{tallyBase, blockOf}
-use Rattle.tallies.proofs.SourceLaws.{rows-few}
+use Rattle.tallies.proofs.SourceLaws.{base-small, base-there}
 use borrow.Author.Needs.{needs}
 use Rattle.tallies.proofs.base_of.Statement.{statement}
 use Rattle.tallies.proofs.base_of.Tie as tie
 
-mul-smaller : tie.Need-mul-smaller
-mul-smaller c = search needs
-
-sub-smaller : tie.Need-sub-smaller
-sub-smaller c = search needs
-
 smaller-requires : tie.Need-smaller-requires
 smaller-requires c κs = search needs
+
+add-most-columns : tie.Need-add-most-columns
+add-most-columns c = search needs
+
+mul-most-columns : tie.Need-mul-most-columns
+mul-most-columns c = search needs
+
+sub-most-columns : tie.Need-sub-most-columns
+sub-most-columns c = search needs
+
+most-columns-requires : tie.Need-most-columns-requires
+most-columns-requires c κs = search needs
+
+add-result : tie.Need-add-result
+add-result c = search needs
 
 mul-result : tie.Need-mul-result
 mul-result c = search needs
 
 mul-result-2 : tie.Need-mul-result-2
-mul-result-2 c = search needs
+mul-result-2 c = let small = base-small _ _ _ _ _ _ (c .before .before .pre .0) (c .before .before .pre .2) (c .before .smaller .ensures) (c .most-columns .ensures) in omega (arith, small .0, small .1)
+
+add-result-2 : tie.Need-add-result-2
+add-result-2 c = let small = base-small _ _ _ _ _ _ (c .before .before .pre .0) (c .before .before .pre .2) (c .before .smaller .ensures) (c .most-columns .ensures) in omega (arith, small .0, small .1)
 
 mul-result-3 : tie.Need-mul-result-3
-mul-result-3 c =
-    omega (arith, rows-few _ _ _ (c .before .pre .0) (c .smaller .ensures))
-
-add-result : tie.Need-add-result
-add-result c =
-    omega (arith, rows-few _ _ _ (c .before .pre .0) (c .smaller .ensures))
+mul-result-3 c = let small = base-small _ _ _ _ _ _ (c .before .before .pre .0) (c .before .before .pre .2) (c .before .smaller .ensures) (c .most-columns .ensures) in omega (arith, small .0, small .1)
 
 returns : tie.Need-returns
-unfolding tallyBase blockOf
-returns c = ap (λ b. 4 * c .before .args .n + 2 * c .before .args .n * b) (c .smaller .ensures)
+returns c = base-there _ _ _ _ _ (c .before .smaller .ensures) (c .most-columns .ensures)
 
 pub base-of-spec : {M : Type 1} → statement M
 base-of-spec =
     tie.close
     (tie.spec
-    mul-smaller
-    sub-smaller
     smaller-requires
+    add-most-columns
+    mul-most-columns
+    sub-most-columns
+    most-columns-requires
+    add-result
     mul-result
     mul-result-2
+    add-result-2
     mul-result-3
-    add-result
     returns)

@@ -1,4 +1,4 @@
--- `ways::fold_back` meets its contract: one entry is lowered by an entry of the next column.
+-- `ways::fold_back` meets its contract: one entry is lowered by an entry of the record's slot.
 -- Assumes nothing.
 use native.Mathlib.Omega.{arith}
 use Rattle.ways.proofs.ColumnLaws.{read-room, folded-by}
@@ -10,30 +10,25 @@ contact-at-requires : tie.Need-contact-at-requires
 contact-at-requires c κs = search needs
 
 mul-at : tie.Need-mul-at
-mul-at c = omega (arith, read-room _ _ _ _ _ _ (c .before .before .before .before .pre) (c .before .contact-at .ensures) .0, c .before .before .before .before .good .0 .0)
+mul-at c = omega (arith, read-room _ _ _ _ _ _ _ (c .before .before .before .before .pre) (c .before .contact-at .ensures) .0, c .before .before .before .before .good .0 .0)
 
 add-at : tie.Need-add-at
-add-at c = omega (arith, read-room _ _ _ _ _ _ (c .before .before .before .before .pre) (c .before .contact-at .ensures) .0, c .before .before .before .before .good .0 .0)
+add-at c = omega (arith, read-room _ _ _ _ _ _ _ (c .before .before .before .before .pre) (c .before .contact-at .ensures) .0, c .before .before .before .before .good .0 .0)
 
 mul-from : tie.Need-mul-from
-mul-from c = omega (arith, read-room _ _ _ _ _ _ (c .before .before .before .before .before .pre) (c .before .before .contact-at .ensures) .1, c .before .before .before .before .before .good .0 .0)
+mul-from c = omega (arith, read-room _ _ _ _ _ _ _ (c .before .before .before .before .before .pre) (c .before .before .contact-at .ensures) .1, c .before .before .before .before .before .good .0 .0)
 
 add-from : tie.Need-add-from
-add-from c = omega (arith, read-room _ _ _ _ _ _ (c .before .before .before .before .before .pre) (c .before .before .contact-at .ensures) .1, c .before .before .before .before .before .good .0 .0)
-
-add-from-2 : tie.Need-add-from-2
-add-from-2 c = omega (arith, read-room _ _ _ _ _ _ (c .before .before .before .before .before .pre) (c .before .before .contact-at .ensures) .1, c .before .before .before .before .before .good .0 .0)
+add-from c = omega (arith, read-room _ _ _ _ _ _ _ (c .before .before .before .before .before .pre) (c .before .before .contact-at .ensures) .1, c .before .before .before .before .before .good .0 .0)
 
 lower-requires : tie.Need-lower-requires
-lower-requires c κs =
-    let (a, b) = read-room _ _ _ _ _ _ (c .before .before .before .before .before .before .pre) (c .before .before .before .contact-at .ensures) in
-    (omega arith, omega arith)
+lower-requires c κs = read-room _ _ _ _ _ _ _ (c .before .before .before .before .before .before .pre) (c .before .before .before .contact-at .ensures)
 
 same-length : tie.Need-same-length
 same-length c = search needs
 
 returns : tie.Need-returns
-returns c = folded-by _ _ _ _ _ _ _ (c .before .before .before .before .before .before .contact-at .ensures) (c .before .before .lower .ensures)
+returns c = folded-by _ _ _ _ _ _ _ _ (c .before .before .before .before .before .before .before .before .before .pre) (c .before .before .before .before .before .before .contact-at .ensures) (c .before .before .lower .ensures)
 
 pub fold-back-spec : {M : Type 1} → statement M
 fold-back-spec =
@@ -44,7 +39,6 @@ fold-back-spec =
     add-at
     mul-from
     add-from
-    add-from-2
     lower-requires
     same-length
     returns)

@@ -1,7 +1,7 @@
 -- `ways::last_in_slot` meets its contract: the slot of the record before j is compared, where there is one.
 -- Assumes nothing.
 use native.Mathlib.Omega.{arith}
-use Rattle.ways.proofs.PassLaws.{last-read, last-before-first}
+use Rattle.ways.proofs.ColumnLaws.{last-read, last-before-first}
 use borrow.Author.Needs.{needs}
 use Rattle.ways.proofs.last_in_slot.Statement.{statement}
 use Rattle.ways.proofs.last_in_slot.Tie as tie

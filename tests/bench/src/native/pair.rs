@@ -3,11 +3,11 @@
 use lister::answer::{Answer, CallFault};
 use lister::plan::{Ends, PlanInput};
 
-use super::pass::{blocks, pass, Area, Task, NO_WALK};
+use super::pass::{blocks, most_columns, pass, Part, Task, NO_WALK};
 use super::plan::{check, check_pair, work_length};
 
 /// Stores the through counts of a block of stations to a destination.
-fn store(through: &mut [u64], area: &Area, task: Task, destination: usize) {
+fn store(through: &mut [u64], area: &Part, task: Task, destination: usize) {
     let through = &mut through[task.low..][..task.block];
     if area.hops[destination] == NO_WALK {
         through.fill(0);
@@ -31,7 +31,7 @@ fn throughs(
 ) -> Option<(u64, u64)> {
     let n = input.stations;
     let mut answer = (NO_WALK, 0);
-    for (low, block) in blocks(n, n.min(2 * input.slots)) {
+    for (low, block) in blocks(n, most_columns(input, 4 * (input.slots + 1))) {
         let task = Task { source, low, block };
         let area = pass(work, input, task)?;
         store(through, &area, task, destination);

@@ -17,94 +17,88 @@ pub struct Task {
     pub block: usize,
 }
 
-/// The pass's part of the work area: 4n + 2nB entries.
-pub struct Area<'a> {
+/// Hops, counts and rows of every station: 2n + nB entries.
+pub struct Part<'a> {
     pub hops: &'a mut [u64],
     pub counts: &'a mut [u64],
-    pending_hops: &'a mut [u64],
-    pending_counts: &'a mut [u64],
     /// A row of a block's entries for each station.
     rows: &'a mut [u64],
-    pending_rows: &'a mut [u64],
-    task: Task,
+    block: usize,
 }
 
-impl<'a> Area<'a> {
-    /// The parts of a work area for n stations.
-    fn new(work: &'a mut [u64], n: usize, task: Task) -> Area<'a> {
+/// The entries of a part.
+fn part_size(n: usize, block: usize) -> usize {
+    2 * n + n * block
+}
+
+impl<'a> Part<'a> {
+    /// The part for n stations that takes a beginning of a work area.
+    #[inline]
+    fn new(work: &'a mut [u64], n: usize, block: usize) -> Part<'a> {
         let (hops, rest) = work.split_at_mut(n);
         let (counts, rest) = rest.split_at_mut(n);
-        let (pending_hops, rest) = rest.split_at_mut(n);
-        let (pending_counts, rest) = rest.split_at_mut(n);
-        let (rows, rest) = rest.split_at_mut(n * task.block);
-        Area {
+        Part {
             hops,
             counts,
-            pending_hops,
-            pending_counts,
-            rows,
-            pending_rows: &mut rest[..n * task.block],
-            task,
+            rows: &mut rest[..n * block],
+            block,
         }
     }
 
     /// The row of a station: how many shortest paths avoid each station of the block.
     pub fn row(&self, station: usize) -> &[u64] {
-        &self.rows[station * self.task.block..][..self.task.block]
+        &self.rows[station * self.block..][..self.block]
     }
 
-    /// The empty walk of the source, and nothing pending.
-    fn begin(&mut self) {
-        let Task { source, block, .. } = self.task;
+    /// The same, to be written.
+    fn row_mut(&mut self, station: usize) -> &mut [u64] {
+        &mut self.rows[station * self.block..][..self.block]
+    }
+
+    /// No walk anywhere.
+    fn clear(&mut self) {
         self.hops.fill(NO_WALK);
         self.counts.fill(0);
-        self.pending_hops.fill(NO_WALK);
-        self.pending_counts.fill(0);
-        self.hops[source] = 0;
-        self.counts[source] = 1;
-        self.rows[source * block..][..block].fill(1);
     }
 
-    /// Sends what is settled for a sender on over one hop more, to what is pending for its hearer.
+    /// Sends what is settled for a sender on over one hop more, to what waits for its hearer.
     #[inline]
-    fn send(&mut self, sender: usize, hearer: usize) {
+    fn send(&self, waiting: &mut Part, sender: usize, hearer: usize) {
         let hops = self.hops[sender];
         if hops == NO_WALK {
             return;
         }
         if hops < self.hops[hearer] {
-            let block = self.task.block;
-            let row = &mut self.pending_rows[hearer * block..][..block];
-            let sent = &self.rows[sender * block..][..block];
-            merge_row(row, sent, self.pending_hops[hearer], hops + 1);
+            let before = waiting.hops[hearer];
+            merge_row(waiting.row_mut(hearer), self.row(sender), before, hops + 1);
         }
         merge(
-            &mut self.pending_hops[hearer],
-            &mut self.pending_counts[hearer],
+            &mut waiting.hops[hearer],
+            &mut waiting.counts[hearer],
             hops + 1,
             self.counts[sender],
         );
     }
 
-    /// Settles a slot for every station. True where a count is over 2^64 - 1.
-    fn settle(&mut self) -> bool {
+    /// Settles what waits in a part, for every station. True where a count is over 2^64 - 1.
+    fn settle(&mut self, waiting: &mut Part, task: Task) -> bool {
         let mut over = false;
-        for station in 0..self.pending_hops.len() {
-            if self.pending_hops[station] < NO_WALK {
-                over |= self.settle_one(station);
+        for station in 0..self.hops.len() {
+            if waiting.hops[station] < NO_WALK {
+                over |= self.settle_one(waiting, task, station);
             }
         }
         over
     }
 
-    /// Settles what is pending for a station. True where its count is over 2^64 - 1.
-    fn settle_one(&mut self, station: usize) -> bool {
-        let Task { source, low, block } = self.task;
-        let hops = self.pending_hops[station];
-        let count = self.pending_counts[station];
-        let row = &mut self.rows[station * block..][..block];
-        let pending = &self.pending_rows[station * block..][..block];
-        merge_row(row, pending, self.hops[station], hops);
+    /// Settles what waits for a station. True where its count is over 2^64 - 1.
+    fn settle_one(&mut self, waiting: &mut Part, task: Task, station: usize) -> bool {
+        let Task { source, low, block } = task;
+        let hops = waiting.hops[station];
+        let count = waiting.counts[station];
+        let before = self.hops[station];
+        let row = self.row_mut(station);
+        merge_row(row, waiting.row(station), before, hops);
         if station != source && (low..low + block).contains(&station) {
             row[station - low] = 0;
         }
@@ -114,8 +108,8 @@ impl<'a> Area<'a> {
             hops,
             count,
         );
-        self.pending_hops[station] = NO_WALK;
-        self.pending_counts[station] = 0;
+        waiting.hops[station] = NO_WALK;
+        waiting.counts[station] = 0;
         count == 0
     }
 
@@ -157,21 +151,48 @@ fn merge(hops: &mut u64, count: &mut u64, new: u64, walks: u64) {
     }
 }
 
-/// The pass: the records slot by slot, a slot's records sent on and then settled. None where an
-/// appearance or a station has a count over 2^64 - 1.
-pub fn pass<'a>(work: &'a mut [u64], input: PlanInput, task: Task) -> Option<Area<'a>> {
-    let mut area = Area::new(work, input.stations, task);
-    area.begin();
+/// The slots for which a pass keeps what waits: min(g, T).
+pub fn waiting_slots(input: PlanInput) -> usize {
+    input.turnaround.min(input.slots)
+}
+
+/// The largest block for which a pass takes at most `entries` entries a station.
+pub fn most_columns(input: PlanInput, entries: usize) -> usize {
+    let parts = 1 + waiting_slots(input);
+    input.stations.min(entries / parts - 2)
+}
+
+/// The entries of a pass: what may be sent on, and a part for each slot that waits.
+pub fn pass_entries(input: PlanInput, block: usize) -> usize {
+    (1 + waiting_slots(input)) * part_size(input.stations, block)
+}
+
+/// The pass: what is heard in a slot waits in that slot's part, and is settled g slots later, before the
+/// part is used again; past the last slot the parts are settled one by one. None where an appearance or
+/// a station has a count over 2^64 - 1.
+pub fn pass<'a>(work: &'a mut [u64], input: PlanInput, task: Task) -> Option<Part<'a>> {
+    let (n, q, block) = (input.stations, waiting_slots(input), task.block);
+    let size = part_size(n, block);
+    let (first, waiting) = work.split_at_mut(size);
+    let mut settled = Part::new(first, n, block);
+    settled.clear();
+    for part in waiting.chunks_exact_mut(size).take(q) {
+        Part::new(part, n, block).clear();
+    }
+    settled.hops[task.source] = 0;
+    settled.counts[task.source] = 1;
+    settled.row_mut(task.source).fill(1);
     let mut records = contacts(input.bytes).peekable();
-    for slot in 1..=input.slots {
-        while let Some(contact) = records.next_if(|contact| contact.slot == slot) {
-            area.send(contact.sender, contact.hearer);
-        }
-        if area.settle() {
+    for slot in 1..=input.slots + q {
+        let mut part = Part::new(&mut waiting[slot % q * size..][..size], n, block);
+        if slot > q && settled.settle(&mut part, task) {
             return None;
         }
+        while let Some(contact) = records.next_if(|contact| contact.slot == slot) {
+            settled.send(&mut part, contact.sender, contact.hearer);
+        }
     }
-    (!area.any_overflows()).then_some(area)
+    (!settled.any_overflows()).then_some(settled)
 }
 
 /// The blocks of at most `most` of n stations: where each begins, and its size.

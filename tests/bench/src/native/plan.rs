@@ -1,10 +1,10 @@
-//! Records, operation 1 (check), and the causes 6 to 8 of a call.
+//! Records, operation 1 (check), and the causes 12 and 6 to 8 of a call.
 //!
 //! Reading and checking records is a part of what is timed, so it is written here and not taken from the
 //! lister.
 
 use lister::answer::{Answer, PlanFault};
-use lister::causes::{known_pair, long_enough};
+use lister::causes::{known_pair, known_turnaround, long_enough};
 use lister::lent::scratch_length;
 use lister::plan::{within_limits, Contact, Ends, PlanInput, MOST_CONTACTS, RECORD_BYTES};
 
@@ -54,13 +54,14 @@ pub fn check(input: PlanInput) -> Answer<()> {
     Ok(())
 }
 
-/// Causes 6 to 8 of a call that names a pair and lends a buffer and a work area.
+/// Causes 12 and 6 to 8 of a call that names a pair and lends a buffer and a work area.
 pub fn check_pair(
     input: PlanInput,
     ends: Ends,
     (lent, named): (usize, usize),
     work: usize,
 ) -> Answer<()> {
+    known_turnaround(input.turnaround)?;
     known_pair(input.stations, ends)?;
     long_enough(lent, named)?;
     long_enough(work, work_length(input))

@@ -1,10 +1,10 @@
 //! Operation 5, loads: every station's pairs and load, added up over all sources.
 
 use lister::answer::{Answer, CallFault};
-use lister::causes::long_enough;
+use lister::causes::{known_turnaround, long_enough};
 use lister::plan::PlanInput;
 
-use super::pass::{blocks, pass, Area, Task, NO_WALK};
+use super::pass::{blocks, most_columns, pass, pass_entries, Part, Task, NO_WALK};
 use super::plan::{check, work_length};
 use super::share::share;
 
@@ -22,7 +22,7 @@ fn add_row(pairs: &mut [u64], loads: &mut [u64], avoiding: &[u64], own: Option<u
 }
 
 /// Adds every destination to every station of a block.
-fn add_rows(area: &Area, task: Task, pairs: &mut [u64], loads: &mut [u64]) {
+fn add_rows(area: &Part, task: Task, pairs: &mut [u64], loads: &mut [u64]) {
     let block = task.low..task.low + task.block;
     for (destination, (hops, count)) in area.hops.iter().zip(area.counts.iter()).enumerate() {
         if destination == task.source || *hops == NO_WALK {
@@ -38,8 +38,8 @@ fn add_rows(area: &Area, task: Task, pairs: &mut [u64], loads: &mut [u64]) {
 /// 2^64 - 1.
 fn tally<'a>(work: &'a mut [u64], input: PlanInput) -> Option<(&'a [u64], &'a [u64])> {
     let n = input.stations;
-    let most = n.min(2 * input.slots - 1);
-    let (work, tallies) = work.split_at_mut(4 * n + 2 * n * most);
+    let most = most_columns(input, 4 * (input.slots + 1) - 2);
+    let (work, tallies) = work.split_at_mut(pass_entries(input, most));
     let (pairs, rest) = tallies.split_at_mut(n);
     let loads = &mut rest[..n];
     pairs.fill(0);
@@ -62,6 +62,7 @@ pub fn loads(
     work: &mut [u64],
 ) -> Answer<()> {
     check(input)?;
+    known_turnaround(input.turnaround)?;
     let n = input.stations;
     long_enough(pairs.len(), n)?;
     long_enough(loads.len(), n)?;

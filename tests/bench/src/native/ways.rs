@@ -2,7 +2,7 @@
 
 use lister::plan::{Appearance, Contact, PlanInput, RECORD_BYTES};
 
-use super::pass::NO_WALK;
+use super::pass::{waiting_slots, NO_WALK};
 use super::plan::{contact, contacts};
 
 /// A pair of stations of an accepted plan, and its hops.
@@ -21,21 +21,25 @@ fn lower(table: &mut [u64], at: usize, from: usize) {
     }
 }
 
-/// Fills the completion table of a destination: one pass back over the slots and the records.
+/// Fills the completion table of a destination: one pass back over the slots and the records. What is
+/// heard in a slot is sent on from the columns of the slots g before it and earlier, and from the start.
 pub fn complete(table: &mut [u64], input: PlanInput, destination: usize) {
     let width = input.slots + 1;
     let table = &mut table[..input.stations * width];
     table.fill(NO_WALK);
     table[destination * width + input.slots] = 0;
     let mut records = contacts(input.bytes).rev().peekable();
-    for slot in (0..input.slots).rev() {
-        for row in table.chunks_exact_mut(width) {
-            row[slot] = row[slot + 1];
-        }
-        while let Some(contact) = records.next_if(|contact| contact.slot == slot + 1) {
+    let wait = waiting_slots(input);
+    for heard in (1..=input.slots + wait).rev() {
+        let slot = heard.saturating_sub(wait);
+        while let Some(contact) = records.next_if(|contact| contact.slot == heard) {
             let sender = contact.sender * width + slot;
-            let hearer = contact.hearer * width + slot;
-            lower(table, sender, hearer + 1);
+            lower(table, sender, contact.hearer * width + heard);
+        }
+        if slot > 0 {
+            for row in table.chunks_exact_mut(width) {
+                row[slot - 1] = row[slot];
+            }
         }
     }
 }
@@ -46,7 +50,7 @@ fn end_of(way: &[u16], pair: Pair) -> Option<Appearance> {
     way.iter().try_fold(start, |spot, position| {
         let at = usize::from(*position) * RECORD_BYTES;
         let record = pair.input.bytes.get(at..at + RECORD_BYTES)?;
-        spot.step(contact(record))
+        spot.step(pair.input.turnaround, contact(record))
     })
 }
 
@@ -54,7 +58,7 @@ fn end_of(way: &[u16], pair: Pair) -> Option<Appearance> {
 fn find(table: &[u64], pair: Pair, spot: Appearance, need: u64, from: usize) -> Option<usize> {
     let width = pair.input.slots + 1;
     let serves = |contact: Contact| {
-        let next = spot.step(contact);
+        let next = spot.step(pair.input.turnaround, contact);
         next.is_some_and(|next| table[next.station * width + next.slot] == need)
     };
     let later = contacts(pair.input.bytes.get(from * RECORD_BYTES..)?);

@@ -28,7 +28,7 @@ pub fn cases() -> Vec<Case> {
 }
 
 /// The pairs whose shortest foremost paths have more hops than the shortest ones.
-fn more_hops_earlier(plan: &LabelledPlan) -> impl Iterator<Item = Case> + '_ {
+pub fn more_hops_earlier(plan: &LabelledPlan) -> impl Iterator<Item = Case> + '_ {
     let hops = |case: &Case, place: usize| {
         let counted = Case {
             counting: Counting::Fast,

@@ -2,6 +2,7 @@
 //! reach-cases, and plans in which the earliest slot and later ones differ.
 
 use crate::pair_cases::{Case, LabelledPlan};
+use crate::plan::LEAST_TURNAROUND;
 use crate::reach_cases::{exact_plans, ladder, sent_ladder, Builder};
 
 pub fn cases() -> Vec<Case> {
@@ -12,14 +13,14 @@ pub fn cases() -> Vec<Case> {
 }
 
 /// From the source of a plan to its last station, and to station 1, which is reached in slot 1.
-fn to_two(label: &str, builder: &Builder, number: u8) -> [Case; 2] {
+pub fn to_two(label: &str, builder: &Builder, number: u8) -> [Case; 2] {
     let plan = LabelledPlan::built(label, builder);
     let end = builder.sizes().0 - 1;
     [end, 1].map(|end| plan.foremost(0, end).stating(number))
 }
 
 fn known_plans() -> Vec<Case> {
-    let plans = exact_plans(64).into_iter();
+    let plans = exact_plans(64, LEAST_TURNAROUND).into_iter();
     let two = plans.flat_map(|plan| to_two(&plan.label, &plan.builder, plan.of_appearances));
     two.collect()
 }

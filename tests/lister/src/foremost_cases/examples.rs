@@ -7,7 +7,7 @@ use crate::plans::pairs;
 
 impl LabelledPlan {
     /// Foremost of every pair of two different stations.
-    fn every_foremost(&self) -> Vec<Case> {
+    pub fn every_foremost(&self) -> Vec<Case> {
         let foremost = |(source, destination): (usize, usize)| {
             self.foremost(source as u16, destination as u16)
         };

@@ -2,11 +2,12 @@
 //! of the largest count.
 
 use super::{Case, LabelledPlan};
+use crate::plan::LEAST_TURNAROUND;
 use crate::reach_cases::exact_plans;
 
 pub fn cases() -> Vec<Case> {
     let mut cases = Vec::new();
-    for exact in exact_plans(64) {
+    for exact in exact_plans(64, LEAST_TURNAROUND) {
         let plan = LabelledPlan::built(&exact.label, &exact.builder);
         let end = exact.builder.sizes().0 - 1;
         let pair = plan.pair(0, end).stating(exact.number);

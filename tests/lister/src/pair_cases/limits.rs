@@ -139,7 +139,7 @@ fn blocks() -> Vec<Case> {
 }
 
 /// The plan, with its walks counted where listing them takes long.
-fn counted_where_large(plan: LabelledPlan) -> LabelledPlan {
+pub fn counted_where_large(plan: LabelledPlan) -> LabelledPlan {
     let (stations, slots) = plan.sizes;
     if stations == 256 && slots > 2 {
         return plan.counted();

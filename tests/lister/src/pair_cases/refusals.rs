@@ -21,7 +21,8 @@ pub fn cases() -> Vec<Case> {
 }
 
 /// A call of each operation.
-const OPERATIONS: [Operation; 3] = [Operation::Pair(0, 4), Operation::Loads, Operation::Busiest];
+pub const OPERATIONS: [Operation; 3] =
+    [Operation::Pair(0, 4), Operation::Loads, Operation::Busiest];
 
 fn plan_a(label: &str) -> LabelledPlan {
     LabelledPlan::of_records(label, (5, 4), &PLAN_A)

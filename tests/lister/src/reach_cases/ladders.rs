@@ -2,7 +2,7 @@
 
 use super::{Case, Counting, Operation};
 use crate::cases::{plan_bytes, Record};
-use crate::plan::{read, PlanInput};
+use crate::plan::{read, PlanInput, LEAST_TURNAROUND};
 use crate::reach::Entries;
 
 /// Joins two stations in a slot: `Builder::meet` or `Builder::send`.
@@ -13,15 +13,22 @@ type Join = fn(&mut Builder, usize, usize, usize);
 pub struct Builder {
     stations: usize,
     slots: usize,
+    turnaround: usize,
     records: Vec<Record>,
 }
 
 impl Builder {
-    /// The source alone.
+    /// The source alone, with the smallest turnaround.
     pub fn start() -> Builder {
+        Builder::turning(LEAST_TURNAROUND)
+    }
+
+    /// The source alone, with a turnaround.
+    pub fn turning(turnaround: usize) -> Builder {
         Builder {
             stations: 1,
             slots: 1,
+            turnaround,
             records: Vec::new(),
         }
     }
@@ -75,6 +82,16 @@ impl Builder {
         (self.stations as u16, self.slots as u16)
     }
 
+    /// g.
+    pub fn turnaround(&self) -> usize {
+        self.turnaround
+    }
+
+    /// The slot of a hop, counted from 1, where a turnaround lies between two: 1, 1 + g, 1 + 2g and so on.
+    pub fn slot_of(&self, hop: usize) -> usize {
+        1 + self.turnaround * (hop - 1)
+    }
+
     /// The plan.
     pub fn bytes(&self) -> Vec<u8> {
         let mut records = self.records.clone();
@@ -93,6 +110,7 @@ impl Builder {
             bytes: &self.bytes(),
             stations: self.stations,
             slots: self.slots,
+            turnaround: self.turnaround,
         };
         let plan = read(input).expect("an accepted plan");
         Counting::Fast.entries(&plan, 0)
@@ -101,17 +119,19 @@ impl Builder {
     /// Reach from the source, on tables of exactly the named lengths.
     pub fn case(&self, label: &str) -> Case {
         let case = Case::on_bytes(label, self.sizes(), self.bytes(), 0);
+        let case = case.turning(self.turnaround as u16);
         Case {
             counting: Counting::Fast,
             ..case
         }
     }
 
-    /// Layers of equal width in the first slots, every station joined to all of the next layer.
-    /// Answers the last layer.
+    /// Layers of equal width, a turnaround between two from slot 1 on, every station joined to all of the
+    /// next layer. Answers the last layer.
     fn layers(&mut self, layers: usize, width: usize, join: Join) -> Vec<usize> {
         let mut last = vec![0];
-        for slot in 1..=layers {
+        for layer in 1..=layers {
+            let slot = self.slot_of(layer);
             let next = self.layer(width);
             for station in last {
                 for other in &next {
@@ -133,13 +153,15 @@ impl Builder {
         self.layers(layers, width, Builder::send)
     }
 
-    /// A row of stations, each meeting the next in `width` slots. Answers the last station.
+    /// A row of stations, each meeting the next in `width` slots, and a turnaround before the slots of the
+    /// next two. Answers the last station.
     pub fn slot_ladder(&mut self, stages: usize, width: usize) -> usize {
         let mut last = 0;
         for stage in 0..stages {
             let next = self.station();
-            for slot in 1..=width {
-                self.meet(width * stage + slot, last, next);
+            let first = 1 + stage * (width - 1 + self.turnaround);
+            for slot in first..first + width {
+                self.meet(slot, last, next);
             }
             last = next;
         }
@@ -149,17 +171,39 @@ impl Builder {
 
 /// A ladder alone, whose stations meet.
 pub fn ladder(layers: usize, width: usize) -> Builder {
-    let mut builder = Builder::start();
-    builder.ladder(layers, width);
-    builder
+    spaced_ladder(LEAST_TURNAROUND, layers, width)
 }
 
 /// A ladder alone, whose stations send to the next layer.
 pub fn sent_ladder(layers: usize, width: usize) -> Builder {
-    let mut builder = Builder::start();
+    spaced_sent_ladder(LEAST_TURNAROUND, layers, width)
+}
+
+/// A ladder whose layers are a turnaround apart, and whose stations meet.
+pub fn spaced_ladder(turnaround: usize, layers: usize, width: usize) -> Builder {
+    let mut builder = Builder::turning(turnaround);
+    builder.ladder(layers, width);
+    builder
+}
+
+/// A ladder whose layers are a turnaround apart, and whose stations send to the next layer.
+pub fn spaced_sent_ladder(turnaround: usize, layers: usize, width: usize) -> Builder {
+    let mut builder = Builder::turning(turnaround);
     builder.sent_ladder(layers, width);
     builder
 }
+
+/// Ladders whose layers are a turnaround apart: the turnaround, the layers, their width, and the number
+/// from the source. 64 layers fit 255 slots up to turnaround 4, 65 up to 3.
+pub const SPACED_LADDERS: [(usize, usize, usize, u8); 7] = [
+    (2, 64, 2, 0),
+    (2, 65, 2, 9),
+    (3, 65, 2, 9),
+    (4, 64, 2, 0),
+    (6, 41, 3, 0),
+    (6, 42, 3, 9),
+    (16, 16, 4, 0),
+];
 
 /// A ladder of two stations a layer that send to the next layer. Behind the source the numbers fall:
 /// the first layer has the two largest, the last one 2 and 1.

@@ -2,6 +2,7 @@
 
 use super::Case;
 use crate::pair_cases::{mixed_ladders, LabelledPlan};
+use crate::plan::LEAST_TURNAROUND;
 use crate::random::Random;
 use crate::reach_cases::{exact_plans, falling_ladder, ladder, sent_ladder};
 
@@ -121,7 +122,7 @@ fn other_widths() -> Vec<Case> {
 /// The plans around 2^64 of reach-cases, with all stations and with one.
 fn exact() -> Vec<Case> {
     let mut cases = Vec::new();
-    for exact in exact_plans(64) {
+    for exact in exact_plans(64, LEAST_TURNAROUND) {
         let plan = LabelledPlan::built(&exact.label, &exact.builder);
         let stations = usize::from(exact.builder.sizes().0);
         let ends = (0, stations as u16 - 1);

@@ -5,7 +5,7 @@
 use super::{all_sets, Case};
 use crate::means::{COUNTED, COUNT_LIMIT};
 use crate::pair_cases::{checked_plans, small_plans, LabelledPlan};
-use crate::plan::{read, PlanInput};
+use crate::plan::read;
 use crate::plans::pairs;
 use crate::random::Random;
 use crate::reach_cases::{other_length, outer_stations};
@@ -50,12 +50,7 @@ type Pair = (u16, u16);
 
 /// The pairs with interior stations, and one without.
 fn chosen_pairs(plan: &LabelledPlan) -> (Vec<Pair>, Option<Pair>) {
-    let input = PlanInput {
-        bytes: &plan.bytes,
-        stations: plan.sizes.0.into(),
-        slots: plan.sizes.1.into(),
-    };
-    let accepted = read(input).expect("a valid plan");
+    let accepted = read(plan.owned().input()).expect("a valid plan");
     let mut pairs_from = COUNTED.within(COUNT_LIMIT).pairs_from(&accepted);
     let has_interior = |&(source, destination): &(usize, usize)| {
         let found = pairs_from(source, &[destination]).expect("few walks");
@@ -70,7 +65,7 @@ fn chosen_pairs(plan: &LabelledPlan) -> (Vec<Pair>, Option<Pair>) {
 }
 
 /// The cases of a small plan.
-fn of_plan(random: &mut Random, plan: &LabelledPlan) -> Vec<Case> {
+pub fn of_plan(random: &mut Random, plan: &LabelledPlan) -> Vec<Case> {
     let stations = usize::from(plan.sizes.0);
     let (with, without) = chosen_pairs(plan);
     let mut cases = Vec::new();

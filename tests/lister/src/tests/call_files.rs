@@ -49,13 +49,13 @@ pub fn assert_lines(made: &Made, lines: &[(&str, &str)]) {
 /// Asserts that standard input, read back, has the cases; `lengths` are those in the head of a case.
 pub fn assert_stdin(made: &Made, lengths: fn(&Case) -> Vec<usize>) {
     let stdin = stdin_bytes(&all(made));
-    assert!(stdin.len() < 1_300_000, "{}", stdin.len());
+    assert!(stdin.len() < 1_650_000, "{}", stdin.len());
     let mut rest = stdin.as_slice();
     for (case, _) in made {
         let kind = case.operation.kind().map(usize::from);
         let stations = case.operation.stations().into_iter().map(usize::from);
         let mut head = Vec::from_iter(kind);
-        head.extend([case.stations, case.slots].map(usize::from));
+        head.extend([case.stations, case.slots, case.turnaround].map(usize::from));
         head.extend(stations);
         head.extend([case.bytes.len(), case.label.len(), case.mark.into()]);
         let lengths = lengths(case);

@@ -2,7 +2,7 @@
 
 use crate::answer::{number, PlanFault, Refusal};
 use crate::cases::{plan_bytes, Record};
-use crate::plan::{check, PlanInput};
+use crate::plan::{check, PlanInput, NO_TURNAROUND};
 
 /// All faults of the records as (record, number); the smallest one decides.
 fn smallest_fault(stations: u16, slots: u16, records: &[Record]) -> u8 {
@@ -26,6 +26,7 @@ fn check_number(stations: u16, slots: u16, records: &[Record]) -> u8 {
         bytes: &plan_bytes(records),
         stations: usize::from(stations),
         slots: usize::from(slots),
+        turnaround: NO_TURNAROUND,
     }))
 }
 
@@ -91,6 +92,7 @@ fn all_sizes_near_the_limits() {
                 bytes: &[],
                 stations,
                 slots,
+                turnaround: NO_TURNAROUND,
             });
             let expected = if accepted {
                 Ok(())

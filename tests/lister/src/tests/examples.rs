@@ -192,6 +192,22 @@ fn one_way_plans_have_the_paths_stated() {
     }
 }
 
+/// Document 02: doubled plan A with turnaround 2 has no path from 0 to 4, and the loads of C-20.
+#[test]
+fn plan_a_with_turnaround_2() {
+    let owned = Owned::plan_a().turning(2);
+    assert!(listed(&owned, 0, 4).is_empty());
+    assert_eq!(listed(&owned, 0, 3), [[1, 8]]);
+    let printed = "stations 5 slots 4 contacts 12\n\
+                   0 0 0\n\
+                   1 0 0\n\
+                   2 1 4294967296\n\
+                   3 2 8589934592\n\
+                   4 0 0\n";
+    assert_eq!(text_of(loads_text(LISTED, owned.input())), printed);
+    assert_eq!(owned.busiest(COUNT_LIMIT), Ok(3));
+}
+
 #[test]
 fn shown_pair() {
     let owned = Owned::plan_a();
@@ -200,6 +216,10 @@ fn shown_pair() {
     assert_eq!(text_of(pair_text(owned.input(), (0, 5))), "refused 6\n");
     let none = "hops 65535\ncount 0\nthrough 0 0 0 0 0\n";
     assert_eq!(text_of(pair_text(owned.input(), (2, 1))), none);
+    let turned = owned.clone().turning(2);
+    assert_eq!(text_of(pair_text(turned.input(), (0, 4))), none);
+    let wrong = owned.turning(17);
+    assert_eq!(text_of(pair_text(wrong.input(), (0, 5))), "refused 12\n");
 }
 
 #[test]

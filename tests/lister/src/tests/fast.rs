@@ -1,6 +1,6 @@
 //! The numbers of walks, compared with the plain lister.
 
-use super::support::{random_plan, tiny_plans, Owned};
+use super::support::{random_plan, random_turned_plan, tiny_plans, turned_plans, Owned};
 use crate::answer::number;
 use crate::fast::entries;
 use crate::means::{Means, COUNTED, COUNT_LIMIT, LISTED};
@@ -38,16 +38,32 @@ fn tiny_plans_are_counted_as_listed() {
 }
 
 #[test]
+fn plans_with_turnarounds_are_counted_as_listed() {
+    let mut refused = 0;
+    for owned in turned_plans() {
+        for source in 0..owned.stations {
+            for limit in [1, 2, COUNT_LIMIT] {
+                refused += usize::from(assert_alike(limit, &owned, source) == 9);
+            }
+        }
+    }
+    assert!(refused > 1000, "{refused}");
+}
+
+#[test]
 fn random_plans_are_counted_as_listed() {
     let mut random = Random::new(9);
     let mut refused = 0;
-    for _ in 0..4000 {
-        let owned = random_plan(&mut random);
+    for round in 0..4000 {
+        let owned = match round % 2 {
+            0 => random_plan(&mut random),
+            _ => random_turned_plan(&mut random),
+        };
         let source = random.below(owned.stations);
         let limit = [1, 2, 3, 5, 9, COUNT_LIMIT][random.below(6)];
         refused += usize::from(assert_alike(limit, &owned, source) == 9);
     }
-    assert!((500..3500).contains(&refused), "{refused}");
+    assert!((300..3500).contains(&refused), "{refused}");
 }
 
 #[test]
@@ -59,8 +75,12 @@ fn refused_calls_are_answered_alike() {
         ..owned.clone()
     };
     assert_eq!(assert_alike(COUNT_LIMIT, &few_stations, 0), 4);
-    let few_slots = Owned { slots: 3, ..owned };
+    let few_slots = Owned {
+        slots: 3,
+        ..owned.clone()
+    };
     assert_eq!(assert_alike(COUNT_LIMIT, &few_slots, 9), 3);
+    assert_eq!(assert_alike(COUNT_LIMIT, &owned.turning(17), 5), 12);
 }
 
 #[test]
@@ -102,9 +122,18 @@ fn numbers_over_128_bits_are_held() {
 
 #[test]
 fn exact_plans_of_few_bits_are_counted_as_listed() {
-    for bits in 2..=5 {
+    for (bits, turnaround) in [
+        (2, 1),
+        (3, 1),
+        (4, 1),
+        (5, 1),
+        (2, 2),
+        (5, 2),
+        (3, 3),
+        (4, 16),
+    ] {
         let limit = (1 << bits) - 1;
-        for exact in exact_plans(bits) {
+        for exact in exact_plans(bits, turnaround) {
             let owned = Owned::built(&exact.builder);
             let number = assert_alike(limit, &owned, 0);
             assert_eq!(number, exact.number, "{}", exact.label);

@@ -4,7 +4,8 @@
 use std::fmt::Debug;
 
 use super::support::{
-    lowest_of_the_largest, pairs, random_plan, small_exact_plans, tiny_plans, Owned,
+    lowest_of_the_largest, pairs, random_plan, random_turned_plan, small_exact_plans, tiny_plans,
+    turned_plans, Owned,
 };
 use crate::answer::{number, Answer};
 use crate::cases::plan_bytes;
@@ -109,11 +110,24 @@ fn tiny_plans_are_counted_as_listed() {
 }
 
 #[test]
+fn plans_with_turnarounds_are_counted_as_listed() {
+    let mut refused = [0; 3];
+    for (index, owned) in turned_plans().iter().enumerate() {
+        let limit = [1, 2, COUNT_LIMIT][index % 3];
+        assert_alike(limit, owned, &mut refused);
+    }
+    assert!(refused.iter().all(|count| *count > 500), "{refused:?}");
+}
+
+#[test]
 fn random_plans_are_counted_as_listed() {
     let mut random = Random::new(10);
     let mut refused = [0; 3];
-    for _ in 0..1000 {
-        let owned = random_plan(&mut random);
+    for round in 0..1000 {
+        let owned = match round % 3 {
+            0 => random_turned_plan(&mut random),
+            _ => random_plan(&mut random),
+        };
         let limit = [1, 2, 3, 5, 9, COUNT_LIMIT][random.below(6)];
         assert_alike(limit, &owned, &mut refused);
     }
@@ -123,9 +137,9 @@ fn random_plans_are_counted_as_listed() {
 
 #[test]
 fn exact_plans_of_few_bits_are_counted_as_listed() {
-    for bits in 2..=4 {
+    for (bits, turnaround) in [(2, 1), (3, 1), (4, 1), (2, 2), (3, 2), (3, 5)] {
         let limit = (1 << bits) - 1;
-        for (exact, owned) in small_exact_plans(bits) {
+        for (exact, owned) in small_exact_plans(bits, turnaround) {
             for destination in 1..owned.stations {
                 let ends = (0, destination);
                 let number = assert_same(paired, limit, &owned, ends, LONGER);
@@ -177,6 +191,7 @@ fn refused_calls_are_answered_alike() {
         bytes: owned.bytes[1..].to_vec(),
         ..owned.clone()
     };
+    let turned = owned.clone().turning(0);
     let no_stations = Owned {
         stations: 0,
         ..owned
@@ -187,6 +202,7 @@ fn refused_calls_are_answered_alike() {
         (few_slots, 3),
         (few_stations, 4),
         (repeated, 5),
+        (turned, 12),
     ] {
         assert_eq!(pair(&owned, (9, 9), [-1; 3]), number);
         assert_eq!(loads(&owned, [-1; 3]), number);

@@ -1,6 +1,8 @@
 //! Through set by numbers of walks, compared with the plain lister and closed forms.
 
-use super::support::{pairs, random_plan, small_exact_plans, tiny_plans, Owned};
+use super::support::{
+    pairs, random_plan, random_turned_plan, small_exact_plans, tiny_plans, turned_plans, Owned,
+};
 use crate::answer::{number, Answer};
 use crate::means::{Means, COUNTED, COUNT_LIMIT, LISTED};
 use crate::plan::Ends;
@@ -53,12 +55,31 @@ fn tiny_plans_are_counted_as_listed() {
 }
 
 #[test]
+fn plans_with_turnarounds_are_counted_as_listed() {
+    let mut touched = 0;
+    for (index, owned) in turned_plans().iter().step_by(2).enumerate() {
+        let limit = [1, COUNT_LIMIT, COUNT_LIMIT][index % 3];
+        for ends in pairs(owned.stations) {
+            for members in all_sets(owned.stations) {
+                let set = set_of(owned.stations, &members);
+                let answer = alike(limit, owned, ends, &set, 2);
+                touched += usize::from(answer.is_ok_and(|count| count > 0));
+            }
+        }
+    }
+    assert!(touched > 4000, "{touched}");
+}
+
+#[test]
 fn random_plans_are_counted_as_listed() {
     let mut random = Random::new(11);
     let mut refused = 0;
     let mut several = 0;
-    for _ in 0..600 {
-        let owned = random_plan(&mut random);
+    for round in 0..900 {
+        let owned = match round % 3 {
+            0 => random_turned_plan(&mut random),
+            _ => random_plan(&mut random),
+        };
         let limit = [1, 3, 9, COUNT_LIMIT, COUNT_LIMIT][random.below(5)];
         for ends in pairs(owned.stations) {
             let odds = random.between(1, 5);
@@ -74,10 +95,10 @@ fn random_plans_are_counted_as_listed() {
 
 #[test]
 fn exact_plans_of_few_bits_are_counted_as_listed() {
-    for bits in 2..=4 {
+    for (bits, turnaround) in [(2, 1), (3, 1), (4, 1), (2, 2), (3, 2), (3, 5)] {
         let limit = (1 << bits) - 1;
         let mut random = Random::new(12);
-        for (exact, owned) in small_exact_plans(bits) {
+        for (exact, owned) in small_exact_plans(bits, turnaround) {
             for destination in 1..owned.stations {
                 let set = (0..owned.stations).map(|_| random.below(2) as u8);
                 let set: Vec<u8> = set.collect();

@@ -1,6 +1,8 @@
 //! First way and next way by numbers of walks, compared with the plain lister and ladders.
 
-use super::support::{pairs, random_plan, small_exact_plans, tiny_plans, Owned};
+use super::support::{
+    pairs, random_plan, random_turned_plan, small_exact_plans, tiny_plans, turned_plans, Owned,
+};
 use crate::answer::{number, Answer};
 use crate::means::{Means, COUNTED, COUNT_LIMIT, LISTED};
 use crate::plan::Ends;
@@ -37,8 +39,14 @@ fn assert_alike(limit: u64, owned: &Owned, ends: Ends, offered: &[u16]) -> u8 {
 
 #[test]
 fn every_path_of_tiny_plans_is_followed_alike() {
+    let offered = [tiny_plans(), turned_plans()].map(paths_followed_alike);
+    assert!(offered[0] > 50_000 && offered[1] > 10_000, "{offered:?}");
+}
+
+/// Asserts that both means give the same path after each path of each pair; gives how many paths there are.
+fn paths_followed_alike(plans: Vec<Owned>) -> usize {
     let mut offered = 0;
-    for owned in tiny_plans() {
+    for owned in plans {
         for ends in pairs(owned.stations) {
             for path in owned.list(ends.0, ends.1) {
                 let mut buffer = vec![60000; owned.slots + 1];
@@ -50,15 +58,18 @@ fn every_path_of_tiny_plans_is_followed_alike() {
             assert_alike(COUNT_LIMIT, &owned, ends, &buffer);
         }
     }
-    assert!(offered > 50_000, "{offered}");
+    offered
 }
 
 #[test]
 fn random_contents_are_answered_alike() {
     let mut random = Random::new(11);
     let mut seen = [0; 11];
-    for _ in 0..500 {
-        let owned = random_plan(&mut random);
+    for round in 0..600 {
+        let owned = match round % 3 {
+            0 => random_turned_plan(&mut random),
+            _ => random_plan(&mut random),
+        };
         let limit = [1, 3, 9, COUNT_LIMIT, COUNT_LIMIT][random.below(5)];
         for ends in pairs(owned.stations) {
             let list = owned.list(ends.0, ends.1);
@@ -72,7 +83,8 @@ fn random_contents_are_answered_alike() {
 
 #[test]
 fn exact_plans_of_few_bits_are_answered_alike() {
-    for (exact, owned) in small_exact_plans(3) {
+    let plans = [1, 2, 3].map(|turnaround| small_exact_plans(3, turnaround));
+    for (exact, owned) in plans.concat() {
         for destination in 1..owned.stations {
             let offered = vec![1; owned.slots];
             let next = assert_alike(7, &owned, (0, destination), &offered);
@@ -92,6 +104,8 @@ fn refused_calls_are_answered_alike() {
     assert_eq!(next(&owned, (4, 4), 3), 7);
     assert_eq!(next(&owned, (0, 4), 3), 8);
     assert_eq!(next(&owned, (0, 4), 4), 10);
+    let turned = owned.clone().turning(17);
+    assert_eq!(next(&turned, (5, 5), 3), 12);
     let few_slots = Owned { slots: 3, ..owned };
     assert_eq!(next(&few_slots, (5, 5), 3), 3);
 }

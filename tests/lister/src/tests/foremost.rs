@@ -1,6 +1,6 @@
 //! Foremost by the plain lister: plan A, the definition on tiny plans, and cause 9 of appearances alone.
 
-use super::support::{pairs, random_plan, tiny_plans, Owned};
+use super::support::{pairs, random_plan, random_turned_plan, tiny_plans, turned_plans, Owned};
 use crate::answer::number;
 use crate::foremost::ForemostValues;
 use crate::means::{COUNT_LIMIT, LISTED};
@@ -52,10 +52,11 @@ fn fewest_hops_in_the_earliest_slot() {
     );
 }
 
-/// The tiny plans, and drawn ones with more slots.
+/// The tiny plans, those with turnarounds, and drawn ones with more slots.
 fn plans() -> Vec<Owned> {
     let mut random = Random::new(15);
     let mut plans = tiny_plans();
+    plans.extend(turned_plans());
     plans.extend((0..300).map(|_| random_plan(&mut random)));
     plans
 }
@@ -158,8 +159,11 @@ fn appearances_after_the_arrival_are_a_cause() {
 fn nine_is_a_count_of_some_appearance_over_the_limit() {
     let mut random = Random::new(14);
     let mut seen = [0; 3];
-    for _ in 0..300 {
-        let owned = random_plan(&mut random);
+    for round in 0..400 {
+        let owned = match round % 4 {
+            0 => random_turned_plan(&mut random),
+            _ => random_plan(&mut random),
+        };
         let limit = random.between(1, 4) as u64;
         for source in 0..owned.stations {
             let reached = owned.reach(COUNT_LIMIT, source).unwrap();
@@ -190,6 +194,10 @@ fn shown_foremost() {
     assert_eq!(shown((2, 1)), none);
     assert_eq!(shown((5, 5)), "refused 6\n");
     assert_eq!(shown((3, 3)), "refused 7\n");
+    let turned = owned.clone().turning(2);
+    let shown = text_of(foremost_text(turned.input(), (0, 3)));
+    let text = "slot 3\nhops 2\ncount 1\nthrough 0 0 1 0 0\npath 1 8\n";
+    assert_eq!(shown, text);
 }
 
 #[test]

@@ -23,6 +23,7 @@ mod sets;
 mod support;
 mod tiny;
 mod traces;
+mod turnarounds;
 mod two_way;
 mod walks;
 mod way_cases;

@@ -9,7 +9,7 @@ use crate::call_cases::Called;
 use crate::means::Counting;
 use crate::pair_cases::{
     all_cases, mixed_ladders, Case, Operation, Outcome, BLOCKS, LONGEST_LABEL, LONGEST_TABLES,
-    TIED_PLANS,
+    TIED_PLANS, TURNED_BLOCKS,
 };
 use crate::reach_cases::LONGEST_PLAN;
 
@@ -31,18 +31,18 @@ fn kind(operation: Operation) -> usize {
 
 #[test]
 fn stated_numbers_are_those_of_the_lister() {
-    let mut seen = [[0; 10]; 3];
+    let mut seen = [[0; 13]; 3];
     for (case, outcome) in cases() {
         if let Some(stated) = case.stated {
             assert_eq!(outcome.number, stated, "{}", case.label);
             seen[kind(case.operation)][usize::from(stated)] += 1;
         }
     }
-    for number in 0..10 {
+    for number in (0..10).chain([12]) {
         assert!(seen[0][number] > 4, "{number}: {seen:?}");
     }
     for seen in &seen[1..] {
-        for number in [0, 1, 2, 3, 4, 5, 8] {
+        for number in [0, 1, 2, 3, 4, 5, 8, 12] {
             assert!(seen[number] > 4, "{number}: {seen:?}");
         }
         assert!(seen[9] > 1 && seen[6] == 0 && seen[7] == 0, "{seen:?}");
@@ -119,6 +119,26 @@ fn lines_by_hand() {
             "ladder of 65 layers, 1 to 130",
             "0 64 9223372036854775808 | 3 .. 128: 4611686018427387904 |",
         ),
+        ("plan A, g 2, 0 to 4", "0 65535 0 | |"),
+        ("plan A, g 2, 0 to 3", "0 2 1 | 2: 1 |"),
+        (
+            "plan A, g 2, loads",
+            "0 | 2: 1 3: 2 | 2: 4294967296 3: 8589934592 |",
+        ),
+        (
+            "12 for plan A, g 17, 0 to 4",
+            "12 0 0 | 0 .. 6: 999 | 0 .. 102: 999",
+        ),
+        ("12 for plan A, g 0, busiest", "12 0 | 0 .. 102: 999"),
+        (
+            "12 for plan A, g 65535, loads",
+            "12 | 0 .. 6: 999 | 0 .. 5: 999 | 0 .. 102: 999",
+        ),
+        ("heard again while it waits, g 2, 0 to 2", "0 2 1 | 1: 1 |"),
+        (
+            "spaced ladder of 64 layers, 2 wide, g 4, 0 to 128",
+            "0 64 9223372036854775808 | 1 .. 126: 4611686018427387904 |",
+        ),
     ];
     call_files::assert_lines(cases(), &lines);
 }
@@ -185,6 +205,7 @@ fn walks_are_listed_but_for_large_plans() {
         "n 64, T 127",
         "row",
         "corners, longer",
+        "8192 records in every slot, g 16",
     ];
     let mut listed = 0;
     for (case, _) in cases() {
@@ -338,6 +359,31 @@ fn blocks_are_uneven_and_used() {
         }
     }
     assert!(uneven.iter().all(|count| *count > 5), "{uneven:?}");
+}
+
+/// Blocks that leave room for what waits in as many slots as the turnaround says.
+#[test]
+fn blocks_beside_what_waits_are_uneven_and_used() {
+    let mut uneven = [0; 2];
+    for (stations, slots, turnaround) in TURNED_BLOCKS {
+        let n = usize::from(stations);
+        let (entries, parts) = (4 * (usize::from(slots) + 1), 1 + turnaround.min(slots));
+        let most = |entries: usize| (entries / usize::from(parts) - 2).min(n);
+        let label = format!("blocks n {stations}, T {slots}, g {turnaround}");
+        let pair = format!("{label}, {} to {}", n / 2, n / 2 + 1);
+        let tables = [
+            (pair, 0, most(entries)),
+            (format!("{label}, loads"), 1, most(entries - 2)),
+        ];
+        for (at, (label, table, block)) in tables.into_iter().enumerate() {
+            uneven[at] += usize::from(n % block != 0);
+            let used = used_blocks(&label, table, n, block);
+            let count = used.iter().filter(|used| **used).count();
+            assert!(used[0] && used[used.len() - 1], "{label}");
+            assert!(2 * count > used.len(), "{label}");
+        }
+    }
+    assert!(uneven.iter().all(|count| *count > 4), "{uneven:?}");
 }
 
 #[test]

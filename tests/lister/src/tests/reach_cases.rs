@@ -22,8 +22,8 @@ fn cases() -> &'static [Case] {
 
 #[test]
 fn stated_numbers_are_those_of_the_lister() {
-    let mut reached = [0; 10];
-    let mut rows = [0; 10];
+    let mut reached = [0; 13];
+    let mut rows = [0; 13];
     for case in cases().iter().filter(|case| case.stated.is_some()) {
         let number = case.outcome().number();
         assert_eq!(Some(number), case.stated, "{}", case.label);
@@ -32,7 +32,7 @@ fn stated_numbers_are_those_of_the_lister() {
             Operation::Row(_) => rows[usize::from(number)] += 1,
         }
     }
-    for number in [0, 1, 2, 3, 4, 5, 6, 8, 9] {
+    for number in [0, 1, 2, 3, 4, 5, 6, 8, 9, 12] {
         assert!(reached[number] > 4, "{number}: {reached:?}");
     }
     for number in [0, 1, 6, 8] {
@@ -66,6 +66,11 @@ fn lines_by_hand() {
         "ladder of 65 layers, longer tables: 9 | 0 .. 8645: 0 8646 .. 8654: 4321 \
          | 8646 .. 8653: 4321 | 0 .. 130: 0 131 .. 137: 4321 | 131 .. 136: 4321",
         "row 2 of n 5, T 4, 26 entries: 0 5 | 0: 31 1: 34 2: 37 3: 40 4: 43",
+        "plan A, g 2, from 0: 0 | 0: 0 6: 1 11: 1 18: 2 | 0: 1 6: 1 11: 1 18: 1 \
+         | 0: 0 1 .. 2: 1 3: 2 | 0 .. 3: 1",
+        "12 for plan A, g 17: 12 | 0 .. 26: 999 | 0 .. 25: 999 | 0 .. 7: 999 | 0 .. 6: 999",
+        "back at the source and on, g 2, from 0: 0 | 0: 0 3: 2 7: 1 16 .. 17: 1 \
+         | 0: 1 3: 1 7: 1 16 .. 17: 1 | 0: 0 1 .. 2: 1 | 0 .. 1: 1 2: 2",
         "row 5 of n 5, T 4, 24 entries: 6 0 |",
     ] {
         let (label, _) = line.split_once(" | ").or(line.split_once(" |")).unwrap();
@@ -80,7 +85,8 @@ fn lines_by_hand() {
 
 /// Calls what a case of standard input names; the tables as the line gives them.
 fn assert_line(stdin: &mut &[u8], line: &str, counting: Counting) {
-    let [kind, stations, slots, station] = [2; 4].map(|length| take_number(stdin, length));
+    let [kind, stations, slots, turnaround, station] =
+        [2; 5].map(|length| take_number(stdin, length));
     let [plan, label, mark] = [2; 3].map(|length| take_number(stdin, length));
     let lengths = [4; 4].map(|length| take_number(stdin, length));
     assert!((0..4).all(|table| lengths[table] <= LONGEST_TABLES[table]));
@@ -90,6 +96,7 @@ fn assert_line(stdin: &mut &[u8], line: &str, counting: Counting) {
         bytes,
         stations,
         slots,
+        turnaround,
     };
     let rest = line
         .strip_prefix(label)
@@ -125,7 +132,7 @@ fn assert_line(stdin: &mut &[u8], line: &str, counting: Counting) {
 fn stdin_read_back_gives_stdout() {
     let cases = cases();
     let (stdin, stdout) = (stdin_bytes(cases), stdout_text(cases));
-    assert!(stdin.len() < 600_000 && stdout.len() < 400_000);
+    assert!(stdin.len() < 690_000 && stdout.len() < 420_000);
     let mut rest = stdin.as_slice();
     for (case, line) in cases.iter().zip(stdout.lines()) {
         assert_line(&mut rest, line, case.counting);
@@ -156,7 +163,14 @@ fn cases_fit_the_program() {
 
 #[test]
 fn walks_are_counted_for_ladders_alone() {
-    let words = ["ladder of", "before 9", "2^6", "3^4", "15^16"];
+    let words = [
+        "ladder of",
+        "before 9",
+        "2^6",
+        "3^4",
+        "15^16",
+        "every slot, g 16",
+    ];
     let mut listed = 0;
     for case in cases() {
         let is_ladder = words.iter().any(|word| case.label.contains(word));

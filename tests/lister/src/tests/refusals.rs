@@ -50,6 +50,7 @@ fn named_lengths_of_plan_a() {
 struct Arguments {
     stations: usize,
     slots: usize,
+    turnaround: usize,
     bytes: Vec<u8>,
     source: usize,
     destination: usize,
@@ -87,6 +88,7 @@ impl Arguments {
         Arguments {
             stations: if has(1) { 257 } else { 5 },
             slots: 4,
+            turnaround: if has(12) { 17 } else { 1 },
             bytes,
             source,
             destination,
@@ -100,6 +102,7 @@ impl Arguments {
             bytes: &self.bytes,
             stations: self.stations,
             slots: self.slots,
+            turnaround: self.turnaround,
         }
     }
 
@@ -170,14 +173,14 @@ fn memory_after(operation: Operation, refusal: u32, before: &Lent) -> Lent {
     after
 }
 
-/// All sets of the numbers 1 to 11.
+/// All sets of the numbers 1 to 12.
 fn sets_of_causes() -> Vec<Vec<u8>> {
     let set = |bits: u16| {
-        (1..=11)
+        (1..=12)
             .filter(|cause| bits >> (cause - 1) & 1 == 1)
             .collect()
     };
-    (0..1 << 11).map(set).collect()
+    (0..1 << 12).map(set).collect()
 }
 
 /// The tables that may be short: each in turn with cause 8, none without.
@@ -192,7 +195,7 @@ fn short_tables(operation: Operation, causes: &[u8]) -> Vec<Option<usize>> {
 
 #[test]
 fn every_set_of_causes_gives_its_first() {
-    let mut calls = [0; 12];
+    let mut calls = [0; 13];
     for causes in sets_of_causes() {
         let arguments = Arguments::with(&causes);
         let offered = if causes.contains(&10) {
@@ -293,6 +296,57 @@ fn none_and_last_leave_the_way_buffer() {
     assert!(next(&owned, (0, 4), &mut buffer, &mut scratch).is_ok());
     assert_eq!(buffer, [1, 8, 10, 9, 9, 9]);
     assert!(scratch[..100].iter().all(|entry| *entry == 0));
+}
+
+/// Every operation on plan A with a turnaround: 12 outside of its limits, and nothing is written then. Check
+/// and row do not look at it.
+#[test]
+fn turnarounds_outside_of_their_limits_are_12() {
+    let edges = [
+        0,
+        1,
+        2,
+        15,
+        16,
+        17,
+        255,
+        256,
+        257,
+        65535,
+        65536,
+        65537,
+        1 << 32,
+        usize::MAX,
+    ];
+    for turnaround in edges {
+        let arguments = Arguments {
+            turnaround,
+            ..Arguments::with(&[])
+        };
+        for operation in OPERATIONS {
+            let before = lend(operation, None, &[0, 4, 10], 1);
+            let mut after = before.clone();
+            let (number, _) = run(operation, &arguments, &mut after);
+            let takes = operation.causes().contains(&12);
+            let refused = takes && !(1..=16).contains(&turnaround);
+            assert_eq!(number == 12, refused, "{operation:?} {turnaround}");
+            assert!(!refused || before == after, "{operation:?} {turnaround}");
+        }
+    }
+}
+
+#[test]
+fn operations_that_take_a_turnaround() {
+    use Operation::*;
+    for operation in OPERATIONS {
+        let takes = !matches!(operation, Check | Row | RowNumber);
+        let causes = operation.causes();
+        assert_eq!(causes.contains(&12), takes, "{operation:?}");
+        let place = |cause: u32| causes.iter().position(|other| *other == cause);
+        if takes {
+            assert_eq!(place(12), place(5).map(|place| place + 1), "{operation:?}");
+        }
+    }
 }
 
 #[test]

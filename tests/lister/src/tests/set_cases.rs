@@ -22,7 +22,7 @@ fn cases() -> &'static [(Case, Outcome)] {
 
 #[test]
 fn stated_numbers_are_those_of_the_lister() {
-    let mut seen = [0; 12];
+    let mut seen = [0; 13];
     for (case, outcome) in cases() {
         if let Some(stated) = case.stated {
             assert_eq!(outcome.number, stated, "{}", case.label);
@@ -36,7 +36,7 @@ fn stated_numbers_are_those_of_the_lister() {
 
 #[test]
 fn hand_made_cases_state_their_numbers() {
-    let generated = ["small ", "generated ", "mixed ladder"];
+    let generated = ["small ", "generated ", "mixed ladder", "drawn "];
     for (case, _) in cases() {
         let is_generated = generated.iter().any(|word| case.label.starts_with(word));
         assert_eq!(case.stated.is_none(), is_generated, "{}", case.label);
@@ -86,6 +86,12 @@ fn lines_by_hand() {
         ),
         ("n 256, T 255, row, 0 to 255, set 254", "0 1 |"),
         ("n 256, T 2, 0 to 255, set of 128", "0 127 |"),
+        (
+            "12 for plan A, g 17, 0 to 3, set 1 2",
+            "12 0 | 0 .. 102: 917",
+        ),
+        ("longer, g 2, 0 to 3, set 1 2", "0 1 | 100 .. 102: 902"),
+        ("every slot, g 2, 0 to 2, set 1", "0 3 |"),
     ] {
         let found = cases().iter().find(|(case, _)| case.label == label);
         let (case, outcome) = found.unwrap_or_else(|| panic!("no case {label}"));
@@ -95,11 +101,12 @@ fn lines_by_hand() {
 
 /// Asserts that the next case of standard input is a given one.
 fn assert_read(stdin: &mut &[u8], case: &Case) {
-    let head = [2; 8].map(|length| take_number(stdin, length));
+    let head = [2; 9].map(|length| take_number(stdin, length));
     let scratch = take_number(stdin, 4);
     let call = [
         case.stations.into(),
         case.slots.into(),
+        case.turnaround.into(),
         case.source.into(),
         case.destination.into(),
         case.bytes.len(),
@@ -117,7 +124,7 @@ fn assert_read(stdin: &mut &[u8], case: &Case) {
 fn stdin_read_back_gives_the_cases() {
     let all: Vec<Case> = cases().iter().map(|(case, _)| case.clone()).collect();
     let stdin = stdin_bytes(&all);
-    assert!(stdin.len() < 1_000_000, "{}", stdin.len());
+    assert!(stdin.len() < 1_090_000, "{}", stdin.len());
     let mut rest = stdin.as_slice();
     for case in &all {
         assert_read(&mut rest, case);

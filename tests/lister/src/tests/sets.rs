@@ -1,6 +1,6 @@
 //! Through set by the plain lister: plan A, sets of every kind, and cause 11.
 
-use super::support::{pairs, tiny_plans, Owned};
+use super::support::{pairs, tiny_plans, turned_plans, Owned};
 use crate::answer::number;
 use crate::means::{COUNT_LIMIT, LISTED};
 use crate::plan::Ends;
@@ -34,7 +34,7 @@ fn a_path_through_two_members_counts_once() {
 
 #[test]
 fn set_of_one_is_the_through_count() {
-    for owned in tiny_plans() {
+    for owned in [tiny_plans(), turned_plans()].concat() {
         for (source, destination) in pairs(owned.stations) {
             let paired = owned.pair(COUNT_LIMIT, source, destination).unwrap();
             for (station, through) in paired.through.iter().enumerate() {
@@ -60,7 +60,8 @@ fn avoiding(owned: &Owned, ends: Ends, members: &[usize]) -> u64 {
 #[test]
 fn touched_and_avoiding_paths_are_all_paths() {
     let mut some = 0;
-    for owned in tiny_plans().into_iter().step_by(4) {
+    let plans = [tiny_plans(), turned_plans()].concat();
+    for owned in plans.into_iter().step_by(4) {
         for ends in pairs(owned.stations) {
             let count = owned.list(ends.0, ends.1).len() as u64;
             for members in all_sets(owned.stations) {

@@ -7,13 +7,15 @@ use crate::loads::Load;
 use crate::means::{COUNT_LIMIT, LISTED};
 use crate::pair::Paired;
 use crate::plan::{read, Ends, Plan};
-use crate::plans::possible_records;
+use crate::plans::{possible_records, subsets};
 use crate::random::Random;
 use crate::reach::{reach_named, Tables};
 use crate::reach_cases::{exact_plans, Exact};
 use crate::sets::set_of;
+use crate::turned::TURNED_PLANS;
 
 pub use crate::plans::{all_doubled_plans, all_plans, pairs, random_plan, Owned};
+pub use crate::turned::random_turned_plan;
 
 impl Owned {
     pub fn plan_a() -> Owned {
@@ -162,9 +164,35 @@ pub fn tiny_plans() -> Vec<Owned> {
     plans
 }
 
+/// The turnarounds of `turned_plans`.
+pub const TURNED: [usize; 3] = [2, 3, 5];
+
+/// Plans with turnarounds: some of the tiny ones with 2 and 3; from 0 to 1 and from 1 to 2 in up to six slots,
+/// and two stations in up to five, with 2, 3 and 5; drawn ones with up to 9 slots; and those by hand.
+pub fn turned_plans() -> Vec<Owned> {
+    let tiny = tiny_plans().into_iter().filter(|plan| plan.slots == 3);
+    let mut plans: Vec<Owned> = tiny
+        .enumerate()
+        .map(|(index, plan)| plan.turning(2 + index % 2))
+        .collect();
+    let links: Vec<Record> = (1..=6).flat_map(|t| [(t, 0, 1), (t, 1, 2)]).collect();
+    let links = subsets(&links).step_by(5);
+    plans.extend(links.map(|records| Owned::new(3, 6, &records)));
+    plans.extend(all_plans(2, 5).into_iter().step_by(2));
+    for (index, plan) in plans.iter_mut().enumerate() {
+        if plan.slots > 3 {
+            plan.turnaround = TURNED[index % TURNED.len()];
+        }
+    }
+    let mut random = Random::new(SEED);
+    plans.extend((0..DRAWN).map(|_| random_turned_plan(&mut random)));
+    plans.extend(TURNED_PLANS.iter().map(|plan| plan.owned()));
+    plans
+}
+
 /// The plans around a largest count of 2^bits−1 that are small enough to be listed often.
-pub fn small_exact_plans(bits: usize) -> Vec<(Exact, Owned)> {
-    let plans = exact_plans(bits).into_iter();
+pub fn small_exact_plans(bits: usize, turnaround: usize) -> Vec<(Exact, Owned)> {
+    let plans = exact_plans(bits, turnaround).into_iter();
     let built = plans.map(|exact| {
         let owned = Owned::built(&exact.builder);
         (exact, owned)

@@ -1,6 +1,6 @@
-//! Properties of all tiny plans.
+//! Properties of all tiny plans, and of plans with turnarounds.
 
-use super::support::{lowest_of_the_largest, pairs, tiny_plans, Owned, DRAWN};
+use super::support::{lowest_of_the_largest, pairs, tiny_plans, turned_plans, Owned, DRAWN};
 use crate::answer::number;
 use crate::means::{COUNT_LIMIT, LISTED};
 use crate::plans::all_lists;
@@ -8,9 +8,16 @@ use crate::shortest::{shortest_paths, walks_to_station};
 use crate::walk::{walks_from, Walk};
 use crate::ways::{Found, Way};
 
-/// Runs a property on every ordered pair of two stations of every tiny plan.
+/// The tiny plans and those with turnarounds.
+fn plans() -> Vec<Owned> {
+    let mut plans = tiny_plans();
+    plans.extend(turned_plans());
+    plans
+}
+
+/// Runs a property on every ordered pair of two stations of every plan.
 fn for_all_pairs(property: impl Fn(&Owned, usize, usize)) {
-    for owned in tiny_plans() {
+    for owned in plans() {
         for (source, destination) in pairs(owned.stations) {
             property(&owned, source, destination);
         }
@@ -27,7 +34,7 @@ fn number_of_tiny_plans() {
 #[test]
 fn shortest_walks_are_the_shortest_paths() {
     let mut longer_walks = 0;
-    for owned in tiny_plans() {
+    for owned in plans() {
         let plan = owned.plan();
         for source in 0..plan.stations {
             let walks = walks_from(&plan, source);
@@ -82,7 +89,7 @@ fn shortest_paths_rise_strictly() {
 
 #[test]
 fn station_is_its_appearances_of_fewest_hops() {
-    for owned in tiny_plans() {
+    for owned in plans() {
         for source in 0..owned.stations {
             let reached = owned.reach(COUNT_LIMIT, source).unwrap();
             for station in 0..owned.stations {
@@ -129,7 +136,7 @@ fn shares_of(owned: &Owned) -> Vec<Vec<(u64, u64)>> {
 #[test]
 fn loads_within_share_bounds() {
     let mut inexact = 0;
-    let mut plans = tiny_plans();
+    let mut plans = plans();
     plans.push(Owned::plan_a());
     for owned in plans {
         let loads = owned.loads(COUNT_LIMIT).unwrap();
@@ -152,7 +159,7 @@ fn loads_within_share_bounds() {
 #[test]
 fn busiest_is_the_lowest_of_the_largest_loads() {
     let mut tied = 0;
-    for owned in tiny_plans() {
+    for owned in plans() {
         let loads = owned.loads(COUNT_LIMIT).unwrap();
         let lowest = lowest_of_the_largest(&loads);
         assert_eq!(owned.busiest(COUNT_LIMIT), Ok(lowest), "{owned:?}");

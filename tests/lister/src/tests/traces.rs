@@ -1,13 +1,13 @@
 //! Random traces against the cursor.
 
-use super::support::{random_plan, Owned};
+use super::support::{random_plan, random_turned_plan, Owned};
 use crate::answer::number;
 use crate::cases::PLAN_A;
 use crate::cursor::{first_difference, Cursor, Step};
 use crate::means::COUNT_LIMIT;
 use crate::random::Random;
 use crate::traces::random_trace;
-use crate::ways::{Found, Way};
+use crate::ways::{Found, PathCall, Way};
 
 /// The seed of the random traces.
 const SEED: u64 = 2;
@@ -16,17 +16,25 @@ const SEED: u64 = 2;
 fn answers_and_buffers_are_the_cursors() {
     let mut random = Random::new(SEED);
     let mut lengths = [0; 4];
+    let mut others = 0;
     for round in 0..1500 {
-        let owned = random_plan(&mut random);
+        let owned = match round % 2 {
+            0 => random_plan(&mut random),
+            _ => random_turned_plan(&mut random),
+        };
         let source = random.below(owned.stations);
         let destination = (source + random.between(1, owned.stations - 1)) % owned.stations;
         let case = random_trace(&mut random, &owned, (source, destination));
         lengths[case.list.len().min(3)] += 1;
+        let other = |call: &PathCall| call.input.turnaround != owned.turnaround;
+        let other = |step: &Step| matches!(step, Step::Call(_, call) if other(call));
+        others += case.trace().into_iter().filter(other).count();
         let list = owned.list(source, destination);
         let difference = first_difference(COUNT_LIMIT, list, &case.contents, &case.trace());
         assert_eq!(difference, None, "seed {SEED} round {round} {owned:?}");
     }
     assert!(lengths.iter().all(|rounds| *rounds > 100), "{lengths:?}");
+    assert!(others > 1000, "{others}");
 }
 
 #[test]
@@ -44,7 +52,8 @@ fn count_limit_refuses_every_call_of_a_trace() {
         for step in &trace {
             match step {
                 Step::Call(way, call) => {
-                    assert!((1..=9).contains(&number(&cursor.call(*way, call))));
+                    let number = number(&cursor.call(*way, call));
+                    assert!((1..=9).contains(&number) || number == 12, "{number}");
                 }
                 Step::Write(entry, value) => {
                     cursor.write(*entry, *value);

@@ -2,7 +2,7 @@
 //!
 //! An old plan has records (t, a, b) with a below b, and by the two-way rule each leads from a to b and
 //! from b to a. What the old plan has by it, the doubled plan has by the rule of `plan`: hops, counts,
-//! through counts, loads, busiest, foremost, and the lists.
+//! through counts, loads, busiest, foremost, and the lists. Slots rise strictly: the turnaround is 1.
 //!
 //! The lists are compared as they stand, each record's position replaced by its contact's. They have the
 //! same order: where two paths part they are at one station, and of its contacts in one slot both plans
@@ -15,7 +15,7 @@ use crate::loads::{share, Load};
 use crate::means::{Counting, COUNTED, COUNT_LIMIT};
 use crate::one_way::ONE_WAY_PLANS;
 use crate::pair::{paired, Paired};
-use crate::plan::{contacts, Contact, Ends, Plan};
+use crate::plan::{contacts, Contact, Ends, Plan, LEAST_TURNAROUND};
 use crate::plans::{possible_meetings, subsets};
 use crate::random::Random;
 use crate::shortest::{entries_of, foremost_walks, positions_of, shortest_paths, NO_WALK};
@@ -66,6 +66,7 @@ impl Compared {
         let old = Plan {
             stations,
             slots,
+            turnaround: LEAST_TURNAROUND,
             contacts: contacts(&plan_bytes(records)).collect(),
         };
         let new = doubled(records);

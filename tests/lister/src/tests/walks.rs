@@ -1,8 +1,9 @@
-//! The list of walks against a filter of all position sequences.
+//! The list of walks against a filter of all position sequences, for several turnarounds.
 
 use super::support::{all_doubled_plans, all_plans, Owned};
 use crate::one_way::{OneWayPlan, ONE_WAY_PLANS};
 use crate::plan::Plan;
+use crate::turned::TURNED_PLANS;
 use crate::walk::walks_from;
 
 /// Whether the positions are a walk from the source, checked hop by hop.
@@ -11,7 +12,11 @@ fn is_walk(plan: &Plan, source: usize, positions: &[u16]) -> bool {
     let mut slot = 0;
     for position in positions {
         let contact = plan.contacts[usize::from(*position)];
-        if contact.sender != station || contact.slot <= slot {
+        let earliest = match slot {
+            0 => 1,
+            heard => heard + plan.turnaround,
+        };
+        if contact.sender != station || contact.slot < earliest {
             return false;
         }
         station = contact.hearer;
@@ -54,6 +59,36 @@ fn walks_are_the_filtered_sequences() {
         for source in 0..plan.stations {
             let expected = filtered(&plan, source);
             assert_eq!(listed(&plan, source), expected, "{owned:?} {source}");
+        }
+    }
+}
+
+#[test]
+fn walks_with_turnarounds_are_the_filtered_sequences() {
+    let mut plans = all_plans(2, 4);
+    plans.extend(all_plans(3, 2).into_iter().step_by(7));
+    plans.extend(all_doubled_plans(3, 3).into_iter().step_by(11));
+    let two_hops = |slots: u16| (1..=slots).flat_map(|slot| [(slot, 0, 1), (slot, 1, 2)]);
+    let row: Vec<_> = two_hops(7).collect();
+    plans.push(Owned::new(3, 7, &row));
+    plans.push(Owned::plan_a());
+    let mut kept = [0; 4];
+    for owned in plans {
+        for (at, turnaround) in [1, 2, 3, 5].into_iter().enumerate() {
+            let plan = owned.clone().turning(turnaround).plan();
+            for source in 0..plan.stations {
+                let expected = filtered(&plan, source);
+                assert_eq!(listed(&plan, source), expected, "{owned:?} {source}");
+                kept[at] += expected.iter().filter(|walk| walk.len() > 1).count();
+            }
+        }
+    }
+    assert!(kept[0] > kept[1] && kept[1] > kept[2] && kept[2] > kept[3] && kept[3] > 0);
+    for turned in TURNED_PLANS {
+        let plan = turned.owned().plan();
+        for source in (0..plan.stations).filter(|_| plan.contacts.len() < 14) {
+            let expected = filtered(&plan, source);
+            assert_eq!(listed(&plan, source), expected, "{}", turned.label);
         }
     }
 }

@@ -51,7 +51,8 @@ fn stated_replies_are_those_of_the_cursor() {
     assert!(stated.clone().count() > 80);
     let replies = replies(stated.flat_map(|(_, outcomes)| outcomes));
     let words = ["path", "none", "last"].map(str::to_string).into_iter();
-    for reply in words.chain((1..=10).map(|number| format!("refused {number}"))) {
+    let numbers = (1..=10).chain([12]);
+    for reply in words.chain(numbers.map(|number| format!("refused {number}"))) {
         assert!(replies[&reply] > 4, "{reply}: {replies:?}");
     }
 }
@@ -61,7 +62,7 @@ fn generated_traces_meet_every_reply() {
     let generated = |label: &str| label.contains("mixed") || label.contains("all ways");
     let generated = cases().iter().filter(|(case, _)| generated(&case.label));
     let replies = replies(generated.clone().flat_map(|(_, outcomes)| outcomes));
-    assert_eq!(replies.len(), 12, "{replies:?}");
+    assert_eq!(replies.len(), 13, "{replies:?}");
     assert!(replies.values().all(|count| *count > 80), "{replies:?}");
     assert!(replies["path"] > 1000, "{replies:?}");
     let ways = |least: usize| {
@@ -193,6 +194,7 @@ fn names_pair(case: &Case, call: &Arguments) -> bool {
 #[test]
 fn traces_keep_the_rules() {
     let mut others = 0;
+    let mut other_turnarounds = [0; 13];
     for (case, outcomes) in cases() {
         let hops = case.list.first().map_or(0, Vec::len);
         let mut outcomes = outcomes.iter();
@@ -201,25 +203,37 @@ fn traces_keep_the_rules() {
                 Step::Write(entry, _) => assert!(usize::from(*entry) >= hops, "{}", case.label),
                 Step::Call(_, call) => {
                     let number = number(&outcomes.next().unwrap().answer);
-                    let may_differ = (1..=9).contains(&number);
+                    let may_differ = (1..=9).contains(&number) || number == 12;
                     assert!(may_differ || names_pair(case, call), "{}", case.label);
                     others += usize::from(!names_pair(case, call));
+                    let turned = call.turnaround != case.pair.turnaround;
+                    other_turnarounds[usize::from(number)] += usize::from(turned);
                 }
             }
         }
     }
     assert!(others > 500, "{others}");
+    for number in (1..=9).chain([12]) {
+        let seen = other_turnarounds[number];
+        assert!(seen > 1, "{number}: {other_turnarounds:?}");
+    }
 }
 
 #[test]
 fn lists_are_complete_but_for_long_ladders() {
     let long = ["ladder of 64", "ladder of 65"];
-    let beside = ["9 between", "before 10", "two causes"];
+    let beside = [
+        "9 between",
+        "1 to 9 before 10",
+        "two causes",
+        "12 and another cause",
+        "refused calls with another g",
+    ];
     let has = |case: &Case, words: &[&str]| words.iter().any(|word| case.label.contains(word));
     for (case, _) in cases() {
         let counted = has(case, &long) || has(case, &beside);
         assert_eq!(case.counting == Counting::Fast, counted, "{}", case.label);
-        if !case.label.starts_with("ladder") || !counted {
+        if !has(case, &long) {
             let call = case.pair.call(&case.bytes);
             assert_eq!(paths_of_call(COUNT_LIMIT, &call).as_ref(), Ok(&case.list));
         }
@@ -257,13 +271,14 @@ fn assert_paths(layers: usize, ladder: &Builder, path: fn(usize, usize, u64) -> 
 #[test]
 fn parts_of_lists_are_not_left() {
     for (case, outcomes) in cases() {
-        let part = case.counting == Counting::Fast && case.label.starts_with("ladder");
+        let part = case.counting == Counting::Fast && case.label.contains("ladder of");
+        let part = part && !case.label.starts_with("9 between");
         let (Some(first), true) = (case.list.first(), part) else {
             continue;
         };
-        let layers = usize::from(case.pair.slots);
+        let layers = usize::from(case.pair.stations) / 2;
         let end = usize::from(case.pair.destination) - (2 * layers - 1);
-        let path_of = match case.label.contains("sent") {
+        let path_of = match case.label.contains("sent") || case.label.contains("spaced") {
             true => sent_ladder_path,
             false => ladder_path,
         };
@@ -289,7 +304,7 @@ fn take_word(bytes: &mut &[u8]) -> u16 {
 
 /// Takes a step off the front.
 fn take_step(bytes: &mut &[u8]) -> Step {
-    let numbers = [(); 8].map(|_| take_word(bytes));
+    let numbers = [(); 9].map(|_| take_word(bytes));
     let scratch_length = take_number(bytes, 4);
     let way = match numbers[0] {
         0 => Way::First,
@@ -299,11 +314,12 @@ fn take_step(bytes: &mut &[u8]) -> Step {
     let arguments = Arguments {
         stations: numbers[1],
         slots: numbers[2],
-        source: numbers[3],
-        destination: numbers[4],
-        plan_from: numbers[5],
-        plan_length: numbers[6],
-        buffer_length: numbers[7],
+        turnaround: numbers[3],
+        source: numbers[4],
+        destination: numbers[5],
+        plan_from: numbers[6],
+        plan_length: numbers[7],
+        buffer_length: numbers[8],
         scratch_length,
     };
     Step::Call(way, arguments)
@@ -326,7 +342,7 @@ fn stdin_read_back_gives_the_cases() {
     }
     assert!(rest.is_empty());
     let stdout = stdout_text(&cases);
-    assert!(stdin.len() < 1_300_000 && stdout.len() < 1_200_000);
+    assert!(stdin.len() < 1_640_000 && stdout.len() < 1_400_000);
     let calls = |case: &Case| case.outcomes().len() + 1;
     assert_eq!(stdout.lines().count(), cases.iter().map(calls).sum());
 }

@@ -54,11 +54,22 @@ fn named_examples() -> Vec<Case> {
 }
 
 /// The whole list, "last" twice, and the first way again.
-fn whole_list(case: Case) -> Case {
+pub fn whole_list(case: Case) -> Case {
     let times = case.list.len() + 1;
     let length = usize::from(case.pair.slots) + 2;
     let case = case.beginning(&[], length).longer_scratch(3);
     case.first().next(times).first()
+}
+
+/// The replies of a whole list.
+pub fn replies(list: PathList) -> Vec<String> {
+    let Some(path) = list.first() else {
+        return ["none", "refused 10", "none"].map(str::to_string).to_vec();
+    };
+    let path = format!("path {}", path.len());
+    let mut replies = vec![path.clone(); list.len()];
+    replies.extend(["last".to_string(), "last".to_string(), path]);
+    replies
 }
 
 /// Plan A between any two stations.
@@ -70,15 +81,6 @@ fn every_pair() -> Vec<Case> {
 /// A plan with one direction alone between any two stations, with the replies for its first and its
 /// last one.
 fn one_way(plan: &OneWayPlan) -> Vec<Case> {
-    let replies = |list: PathList| {
-        let Some(path) = list.first() else {
-            return ["none", "refused 10", "none"].map(str::to_string).to_vec();
-        };
-        let path = format!("path {}", path.len());
-        let mut replies = vec![path.clone(); list.len()];
-        replies.extend(["last".to_string(), "last".to_string(), path]);
-        replies
-    };
     let stated = |case: Case| {
         let list = match (case.pair.source, case.pair.destination) {
             (0, end) if end == plan.last() => plan.there,

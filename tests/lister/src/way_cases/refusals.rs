@@ -24,7 +24,7 @@ fn listed(label: &str) -> Case {
 }
 
 /// The same with a buffer that is long enough for the ladder of 65 layers.
-fn beside_ladder(label: &str) -> Case {
+pub fn beside_ladder(label: &str) -> Case {
     Case {
         counting: Counting::Fast,
         ..listed(label).holding(marks(66))
@@ -32,12 +32,12 @@ fn beside_ladder(label: &str) -> Case {
 }
 
 /// The pair's call with records as its plan.
-fn with_records(case: &mut Case, records: &[Record]) -> Arguments {
+pub fn with_records(case: &mut Case, records: &[Record]) -> Arguments {
     case.with_plan(&plan_bytes(records))
 }
 
 /// First way or next way of the ladder of 65 layers.
-fn too_many(case: &mut Case) -> Arguments {
+pub fn too_many(case: &mut Case) -> Arguments {
     let ladder = ladder(65, 1);
     Arguments {
         plan_from: case.with_plan(&ladder.bytes).plan_from,
@@ -47,7 +47,7 @@ fn too_many(case: &mut Case) -> Arguments {
 }
 
 /// Calls with the number; the case gets their plans.
-fn refused_calls(case: &mut Case, number: u8) -> Vec<Refused> {
+pub fn refused_calls(case: &mut Case, number: u8) -> Vec<Refused> {
     let pair = case.pair;
     let with = |change: fn(&mut Arguments)| {
         let mut call = pair;
@@ -109,12 +109,18 @@ fn refused_calls(case: &mut Case, number: u8) -> Vec<Refused> {
             ("scratch one short", with(|call| call.scratch_length = 99)),
             ("no scratch", with(|call| call.scratch_length = 0)),
         ],
-        _ => vec![("ladder of 65 layers", too_many(case))],
+        9 => vec![("ladder of 65 layers", too_many(case))],
+        _ => vec![
+            ("g 0", with(|call| call.turnaround = 0)),
+            ("g 17", with(|call| call.turnaround = 17)),
+            ("g 256", with(|call| call.turnaround = 256)),
+            ("g 65535", with(|call| call.turnaround = 65535)),
+        ],
     }
 }
 
 /// For each two calls with the number a trace: they stand between the ways, as first way and as next way.
-fn interrupted(number: u8) -> Vec<Case> {
+pub fn interrupted(number: u8) -> Vec<Case> {
     let mut start = match number {
         9 => beside_ladder(""),
         _ => listed(""),
