@@ -1,8 +1,8 @@
 /*
  * Plan A of document 01, doubled, through the C interface: check, reach from 0, the row of station 3, the pairs 0 to 4 and 0
  * to 3 with their ways one by one, 0 to 3 again where stations need two slots between hearing and sending on, how many ways
- * of 0 to 4 stations 2 and 3 touch together, the earliest ways of 0 to 3, the loads and the busiest station. The callers lend
- * all memory; the example stops at a refusal.
+ * of 0 to 4 stations 2 and 3 touch together, the earliest ways of 0 to 3, the loads source by source and as a whole, and the
+ * busiest station. The callers lend all memory; the example stops at a refusal.
  */
 #include <inttypes.h>
 #include <stdio.h>
@@ -142,6 +142,24 @@ static void print_foremost(size_t destination, uint64_t *work)
     print_counts("through", through, STATIONS);
 }
 
+/* Partial loads: the figures after each source. The span is by how much a load can still exceed the one printed; with the
+ * last source it is 0. Each call works anew from source 0. */
+static void print_partial_loads(uint64_t *work)
+{
+    uint64_t pairs[STATIONS];
+    uint64_t loads[STATIONS];
+    size_t sources;
+
+    for (sources = 1; sources <= STATIONS; sources++) {
+        uint64_t span = (uint64_t)(STATIONS - sources) * (STATIONS - 1) << 32;
+        accept_or_stop(joftaki_partial_loads(plan, sizeof plan, STATIONS, SLOTS, USUAL, sources, pairs, STATIONS,
+                                             loads, STATIONS, work, JOFTAKI_WORK_LENGTH(STATIONS, SLOTS)));
+        printf("sources %zu span %" PRIu64 "\n", sources, span);
+        print_counts("pairs", pairs, STATIONS);
+        print_counts("loads", loads, STATIONS);
+    }
+}
+
 /* Operation 5: each station's pairs and load. */
 static void print_loads(uint64_t *work)
 {
@@ -182,6 +200,7 @@ int main(void)
     print_pair(SLOW, 3, work);
     print_ways(SLOW, 3, work);
     print_foremost(3, work);
+    print_partial_loads(work);
     print_loads(work);
     print_busiest(work);
     return 0;

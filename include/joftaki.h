@@ -13,15 +13,15 @@
  * its position, at most 8,191. n: the number of stations, 1 to 256; they are numbered from 0. t: the number of slots, 1 to
  * 255; they are numbered from 1. g: the turnaround, 1 to 16 slots (document 02, C-17); what a station hears in slot u goes
  * out in slot u + g or later, so with 1 the slots of a chain rise strictly, and that is all. g may be above t. The calls of
- * one listing have one g. s, z, v: stations. Every function but row and row_number reads the plan anew and trusts no earlier
- * table.
+ * one listing have one g. s, z, v: stations. k: how many stations partial_loads takes as sources, 0 to n: those below k. Every
+ * function but row and row_number reads the plan anew and trusts no earlier table.
  *
  * Answers. Every function gives a number: 0 where the call is accepted, else the number of the papers' first cause that
- * holds, in their order: 1, 2, then 3, 4, 5 record by record, then 12, 6, 7, 8, 11, 9, 10. First way and next way have two more
- * numbers, JOFTAKI_NONE and JOFTAKI_LAST, which are acceptances. A slot (arrival, hops, count, station, offset, length) is
- * always written: its value on acceptance; 0 on every refusal, and 0 beside JOFTAKI_NONE and JOFTAKI_LAST.
+ * holds, in their order: 1, 2, then 3, 4, 5 record by record, then 12, 13, 6, 7, 8, 11, 9, 10. First way and next way have two
+ * more numbers, JOFTAKI_NONE and JOFTAKI_LAST, which are acceptances. A slot (arrival, hops, count, station, offset, length)
+ * is always written: its value on acceptance; 0 on every refusal, and 0 beside JOFTAKI_NONE and JOFTAKI_LAST.
  *
- * Lent memory. Tables, buffers, sets and work areas may hold anything at entry. Numbers 1 to 8, 11 and 12 leave all of them
+ * Lent memory. Tables, buffers, sets and work areas may hold anything at entry. Numbers 1 to 8 and 11 to 13 leave all of them
  * as they were. 9 sets the named parts of the tables and of the work area to 0 and leaves the way buffer. 10 sets the named
  * part of the work area to 0 and leaves the way buffer. Every acceptance leaves the named part of the work area 0. The named
  * part is the length said at each prototype, whatever g is; entries past it are never touched, and longer is always fine.
@@ -58,7 +58,7 @@
 extern "C" {
 #endif
 
-/* The numbers. 13 to 17 are kept for later causes; no function gives one of them. */
+/* The numbers. 14 to 17 are kept for later causes; no function gives one of them. */
 #define JOFTAKI_ACCEPTED 0u
 /* A fault of the plan. */
 #define JOFTAKI_LIMITS 1u /* n or t outside its limits */
@@ -75,6 +75,7 @@ extern "C" {
 #define JOFTAKI_NOT_SHORTEST_PATH 10u /* next way: the offered positions are no least way of the pair, or it has none */
 #define JOFTAKI_SET_BYTE 11u          /* through_set: one of the first n bytes of the set is neither 0 nor 1 */
 #define JOFTAKI_TURNAROUND 12u        /* g outside 1 to 16 */
+#define JOFTAKI_SOURCES 13u           /* partial_loads: k is above n */
 /* First way and next way: acceptances that give no way. */
 #define JOFTAKI_NONE 100u /* the pair has no way */
 #define JOFTAKI_LAST 101u /* there is no way after the one in the buffer */
@@ -216,6 +217,41 @@ uint32_t joftaki_loads(const uint8_t *plan, size_t plan_length, size_t n, size_t
                        uint64_t *pairs, size_t pairs_length,
                        uint64_t *loads, size_t loads_length,
                        uint64_t *work, size_t work_length);
+
+/*
+ * Partial loads (document 02, C-18): pairs and loads as loads gives them, over the ordered pairs whose source is below k. Only
+ * the sources 0 to k - 1 are worked on. k = 0 gives zeros, and k = n the loads themselves.
+ *
+ * Where loads is accepted, each load is at least the partial one and exceeds it by at most (n - k) * (n - 1) * 2^32, and each
+ * number of pairs is at least the partial one and exceeds it by at most (n - k) * (n - 1). A larger k, if accepted too, never
+ * lowers a partial figure and never raises the upper end of its span. So a caller who goes through k = 1, 2, .. n has a first
+ * figure of every load with its span after the first call:
+ *
+ *     for (k = 1; k <= n; k++) {
+ *         number = joftaki_partial_loads(plan, plan_length, n, t, g, k, pairs, n, loads, n, work, work_length);
+ *         if (number != JOFTAKI_ACCEPTED)
+ *             break;
+ *         more = (uint64_t)(n - k) * (n - 1) << 32;
+ *         for (v = 0; v < n; v++)
+ *             show(v, loads[v], loads[v] + more);   the load of v lies between, both included
+ *     }
+ *
+ * Each call works anew from source 0 on, so that all n calls together cost as much as about (n + 1) / 2 calls of loads; going
+ * through fewer k, as n / 4, n / 2 and n, costs less. A caller may stop after any call: the tables then hold the figures of
+ * its k.
+ *
+ * Lend: as for loads: pairs and loads n entries each, work JOFTAKI_WORK_LENGTH(n, t) entries.
+ * Gives 0, or the first of 1, 2, 3, 4, 5, 12, 13, 8, 9. 9 looks at the sources below k alone: with k = 0 it never comes, and
+ * where it comes for one k, it comes for every larger k up to n and for loads. 9 sets the named parts of all three to 0.
+ * Proved: the number and every entry of pairs, loads and work at exit. The spans, and that k = n gives the loads, are theorems
+ * (crates/demands/specs/Partial.antt).
+ * Not covered: as for loads: each pointer is valid for its length, aligned and not null, also where its length is 0; pairs,
+ * loads, work and the plan do not overlap.
+ */
+uint32_t joftaki_partial_loads(const uint8_t *plan, size_t plan_length, size_t n, size_t t, size_t g, size_t k,
+                               uint64_t *pairs, size_t pairs_length,
+                               uint64_t *loads, size_t loads_length,
+                               uint64_t *work, size_t work_length);
 
 /*
  * Operation 6, busiest: in *station the station with the largest load, the lowest-numbered of them where several have it.

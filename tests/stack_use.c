@@ -43,6 +43,10 @@ static uint32_t run_through_set(void)
     return joftaki_through_set(plan, sizeof plan, N, T, 1, 0, 255, &count, set, N, work, WORK);
 }
 static uint32_t run_loads(void) { return joftaki_loads(plan, sizeof plan, N, T, 1, pairs, N, loads, N, work, WORK); }
+static uint32_t run_partial_loads(void)
+{
+    return joftaki_partial_loads(plan, sizeof plan, N, T, 1, N, pairs, N, loads, N, work, WORK);
+}
 static uint32_t run_busiest(void) { return joftaki_busiest(plan, sizeof plan, N, T, 1, &station, work, WORK); }
 static uint32_t run_first_way(void)
 {
@@ -63,7 +67,7 @@ static const struct {
     {"joftaki_pair", run_pair, 0},           {"joftaki_loads", run_loads, 0},
     {"joftaki_busiest", run_busiest, 0},     {"joftaki_first_way", run_first_way, 0},
     {"joftaki_next_way", run_next_way, JOFTAKI_LAST}, {"joftaki_through_set", run_through_set, 0},
-    {"joftaki_foremost", run_foremost, 0},
+    {"joftaki_foremost", run_foremost, 0},   {"joftaki_partial_loads", run_partial_loads, 0},
 };
 
 static unsigned char stack[STACK];

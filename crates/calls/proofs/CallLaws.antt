@@ -6,7 +6,7 @@ use mathlib.Core.Bool.{Bool, true, false, _||_}
 use mathlib.Core.Logic.{_≢_}
 use mathlib.Core.List.{List, [], _∷_}
 use borrow.Author.Tests.{lt-ltb, le-ltb, le-leb, lt-leb, eq-eqb, ne-eqb, ltb-false, leb-false, eqb-false}
-use lib.Dec.{ltb, leb, eqb, lit<}
+use lib.Dec.{ltb, leb, eqb}
 use Rattle.temporal.specs.Plan.{Terms}
 use Rattle.temporal.specs.Cause.{cause, first, wrongTurnaround, pairCauses}
 use Rattle.temporal.specs.Outcome.{workSize}
@@ -20,8 +20,6 @@ use Rattle.temporal.proofs.CauseLaws.{
   or-false-right,
 }
 use Rattle.plan.specs.Fault.{callNumber}
-use Rattle.plan.specs.declared.CallFault.{CallFault}
-use Rattle.plan.specs.declared.CallFault.the-variants as call-fault
 
 first-nothing : first [] ≡ 0
 unfolding first
@@ -122,13 +120,3 @@ free-call n t terms s z lent named area e =
       lent-room = ltb-false lent named (or-false-left (ltb lent named) (ltb area (workSize n t)) short);
       area-room = ltb-false area (workSize n t) (or-false-right (ltb lent named) (ltb area (workSize n t)) short);
     }
-
--- no fault of a call has the number 0
-pub call-number-positive : (f : CallFault) → 0 < callNumber f
-call-number-positive call-fault.Station = lit< tt
-call-number-positive call-fault.SameStation = lit< tt
-call-number-positive call-fault.Short = lit< tt
-call-number-positive call-fault.TooMany = lit< tt
-call-number-positive call-fault.NotShortestPath = lit< tt
-call-number-positive call-fault.SetByte = lit< tt
-call-number-positive call-fault.Turnaround = lit< tt

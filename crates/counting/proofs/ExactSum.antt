@@ -16,7 +16,7 @@ use Rattle.temporal.specs.Lists.{below, sum, product, select}
 use Rattle.temporal.specs.Plan.{Plan}
 use Rattle.temporal.specs.Shortest.{shortestPaths, through}
 use Rattle.temporal.specs.Walk.{isInterior}
-use Rattle.temporal.specs.Load.{Ends, allEnds, countOf, throughOf, isPairOf, pairsOf, pairs, share, load}
+use Rattle.temporal.specs.Load.{Ends, endsBelow, countOf, throughOf, isPairOf, pairsBelow, pairsOf, partialPairs, pairs, share, partialLoad, load}
 use Rattle.temporal.specs.Load.{commonCount, exactSum, WithinExactSum}
 use Rattle.temporal.proofs.ListLaws.{length-zero, length-below, mem-select}
 
@@ -136,47 +136,47 @@ unfolding share
 share-at-most p v e =
     div-le-of-le-mul (countOf p e) (omega (arith, through-less p v e))
 
--- all ordered pairs of n stations are n × n
-pub length-allEnds : (n : ℕ) → length (allEnds n) ≡ n * n
-unfolding allEnds
-length-allEnds n =
-    length-flatMap _ n (λ s. length-map (below n) _ ∙ length-below n) (below n) ∙ ap (λ k. k * n) (length-below n)
+-- the ordered pairs of n stations whose source is below k are k × n
+pub length-endsBelow : (k n : ℕ) → length (endsBelow k n) ≡ k * n
+unfolding endsBelow
+length-endsBelow k n =
+    length-flatMap _ n (λ s. length-map (below n) _ ∙ length-below n) (below k) ∙ ap (λ j. j * n) (length-below k)
 
-module _ (p : Plan) (v : ℕ) where
+module _ (p : Plan) (k v : ℕ) where
   -- a pair of v has paths through v
-  pub pair-through : (e : Ends) → List·Memᴰ e (pairsOf p v) → 0 < throughOf p v e
-  unfolding pairsOf
+  pub pair-through : (e : Ends) → List·Memᴰ e (pairsBelow p k v) → 0 < throughOf p v e
+  unfolding pairsBelow
   pair-through e m =
       ltb-true 0 (throughOf p v e)
       (and-eq-true-iff (not (eqb (e .source) (e .destination))) (ltb 0 (throughOf p v e)) .0
-      (mem-select (isPairOf p v) (allEnds (p .stations)) .0 m .1) .1)
+      (mem-select (isPairOf p v) (endsBelow k (p .stations)) .0 m .1) .1)
 
   -- a pair of v has paths
-  pub pair-count : (e : Ends) → List·Memᴰ e (pairsOf p v) → 0 < countOf p e
+  pub pair-count : (e : Ends) → List·Memᴰ e (pairsBelow p k v) → 0 < countOf p e
   pair-count e m = omega (arith, pair-through e m, through-less p v e)
 
   -- a station has at most as many pairs as there are ordered pairs
-  pub pairs-at-most : pairs p v ≤ p .stations * p .stations
-  unfolding pairs pairsOf
+  pub pairs-at-most : partialPairs p k v ≤ k * p .stations
+  unfolding partialPairs pairsBelow
   pairs-at-most =
-      omega (arith, length-select-less (isPairOf p v) (allEnds (p .stations)), length-allEnds (p .stations))
+      omega (arith, length-select-less (isPairOf p v) (endsBelow k (p .stations)), length-endsBelow k (p .stations))
 
   -- a load is at most one whole for each pair
-  pub load-at-most : load p v ≤ pairs p v * 2 ^ 32
-  unfolding load pairs
-  load-at-most = sum-at-most (share p v) (2 ^ 32) (share-at-most p v) (pairsOf p v)
+  pub load-at-most : partialLoad p k v ≤ partialPairs p k v * 2 ^ 32
+  unfolding partialLoad partialPairs
+  load-at-most = sum-at-most (share p v) (2 ^ 32) (share-at-most p v) (pairsBelow p k v)
 
   -- with 256 stations or fewer a load is below 2^49
-  pub load-below : p .stations ≤ 256 → load p v < 2 ^ 49
-  load-below h = omega (arith, load-at-most, pairs-at-most, mul-le-mul h h)
+  pub load-below : k ≤ 256 → p .stations ≤ 256 → partialLoad p k v < 2 ^ 49
+  load-below some h = omega (arith, load-at-most, pairs-at-most, mul-le-mul some h)
 
 -- The load of a station against the exact sum of shares, for every plan: load × D is at most 2^32 × S, and 2^32 × S
 -- is below (load + pairs) × D where there are pairs; load and S are 0 where there are none.
 pub within-exact-sum : (p : Plan) (v : ℕ) → WithinExactSum p v
-unfolding load exactSum commonCount pairs share sum
+unfolding partialLoad exactSum commonCount partialPairs share sum
 within-exact-sum p v =
     record {
-      at-most = rounded-sum-at-most (2 ^ 32) (throughOf p v) (countOf p) (pairsOf p v) (pair-count p v);
-      less = rounded-sum-below (2 ^ 32) (throughOf p v) (countOf p) (pairsOf p v) (pair-count p v);
+      at-most = rounded-sum-at-most (2 ^ 32) (throughOf p v) (countOf p) (pairsOf p v) (pair-count p (p .stations) v);
+      less = rounded-sum-below (2 ^ 32) (throughOf p v) (countOf p) (pairsOf p v) (pair-count p (p .stations) v);
       none = λ z. let e = length-zero (pairsOf p v) .0 z in (rw e, rw e);
     }

@@ -6,5 +6,7 @@ pub mod Recurrence
 pub mod Through
 -- loads and exact sums of shares
 pub mod ExactSum
+-- pairs and loads over the sources below k
+pub mod PartialLaws
 -- sums over lists
 pub mod SumLaws

@@ -2,9 +2,10 @@
 -- Assumes nothing.
 use Prim.Native.Nat.{ℕ, zero, suc, _+_, _≤_}
 use mathlib.Core.Path.{_≡_, refl, ap, _∙_}
+use mathlib.Core.Bool.{Bool, true, false, cond}
 use mathlib.Core.List.{List, [], _∷_, map, flatMap, map-append}
 use native.Mathlib.Omega.{arith}
-use Rattle.temporal.specs.Lists.{from, below, sum}
+use Rattle.temporal.specs.Lists.{from, below, sum, select}
 use Rattle.temporal.proofs.ListLaws.{sum-append}
 
 -- a sum over joined lists is the sum of their sums
@@ -14,6 +15,17 @@ unfolding flatMap sum
 sum-flatMap h f [] = refl
 sum-flatMap h f (x ∷ l) =
     rw map-append (sum-append (map h (f x)) (map h (flatMap f l)) ∙ ap (_+_ (sum (map h (f x)))) (sum-flatMap h f l))
+
+-- the sum over a selection is the sum over the whole list, with 0 for what is not selected
+pub sum-select : {A : Type 0} (f : A → ℕ) (t : A → Bool) (l : List A)
+    → sum (map f (select t l)) ≡ sum (map (λ x. cond (t x) (f x) 0) l)
+unfolding select sum
+sum-select f t [] = refl
+sum-select f t (x ∷ l) = rw (← sum-select f t l) (step (t x))
+  where
+    step : (c : Bool) → sum (map f (cond c (x ∷ select t l) (select t l))) ≡ cond c (f x) 0 + sum (map f (select t l))
+    step true = refl
+    step false = omega arith
 
 -- a sum of numbers that are each at most another is at most the sum of the others
 pub sum-less : {A : Type 0} (f g : A → ℕ) (l : List A) → ((x : A) → f x ≤ g x) → sum (map f l) ≤ sum (map g l)

@@ -6,12 +6,13 @@ use mathlib.Core.Path.{_≡_, refl, sym, ap, subst, _∙_}
 use mathlib.Core.Bool.{Bool, true, false}
 use mathlib.Core.List.{List, [], _∷_, append-assoc}
 use mathlib.Core.Logic.{_↔_, _≢_}
+use borrow.Author.Tests.{le-ltb}
 use lib.ListN.{length, take, drop, length-take, length-drop}
 use Rattle.temporal.specs.Plan.{Terms}
 use Rattle.temporal.specs.Bytes.{planOf}
-use Rattle.temporal.specs.Cause.{cause, first, planFault, planCauses, appearanceTooMany, tooMany, tooManyAnywhere}
+use Rattle.temporal.specs.Cause.{cause, first, planFault, planCauses, wrongSources, appearanceTooMany, tooMany, tooManyBelow, tooManyAnywhere}
 use Rattle.temporal.specs.Outcome.{cleared, workSize, ReachTables, reached, reach, rowNumber, row}
-use Rattle.temporal.specs.OutcomePair.{PairBuffers, paired, pair, LoadBuffers, loaded, loads, compared, busiest}
+use Rattle.temporal.specs.OutcomePair.{PairBuffers, paired, pair, LoadBuffers, partlyLoaded, partialLoads, loads, compared, busiest}
 use Rattle.temporal.specs.OutcomeSet.{setCounted, throughSet}
 use Rattle.temporal.specs.OutcomeForemost.{foremostPaired, foremost}
 use Rattle.plan.specs.Fault.{checkNumber}
@@ -28,6 +29,7 @@ use Rattle.demands.specs.Causes.{
   pairEmptied,
   loadsCauses,
   loadsEmptied,
+  partialLoadsCauses,
   busiestCauses,
   throughSetCauses,
   foremostCauses,
@@ -41,9 +43,11 @@ use Rattle.demands.proofs.JudgedLaws.{
   numbered,
   plain-station,
   plain-pair,
+  plain-sources,
   plain-short,
   plain-set,
   judged-entered,
+  judged-without,
   judged-accepted,
   judged-too-many,
   judged-work,
@@ -109,14 +113,22 @@ pair-judged bs n t terms s z old =
     judged-entered (record { hops = 0; count = 0 }) old (pairEmptied n t old) _ _ _ (plain-pair bs n t terms _ s z)
     (judged-work (record { hops = 0; count = 0 }) old (pairEmptied n t old) (tooMany (planOf bs n t terms) s) _ refl)
 
+partial-loads-judged : (bs : List ℕ) (n t : ℕ) (terms : Terms) (k : ℕ) (old : LoadBuffers)
+    → Judged (partialLoadsCauses bs n t terms k old) tt old (loadsEmptied n t old) (partialLoads bs n t terms k old)
+unfolding partialLoads partlyLoaded partialLoadsCauses loadsEmptied planOf
+partial-loads-judged bs n t terms k old =
+    subst (λ l. Judged l tt old (loadsEmptied n t old) (partialLoads bs n t terms k old))
+    (append-assoc (planCauses bs n t) (_ ∷ _ ∷ _ ∷ []) (_ ∷ []))
+    (judged-entered tt old (loadsEmptied n t old) _ _ _ (plain-sources bs n t terms _ k)
+    (judged-work tt old (loadsEmptied n t old) (tooManyBelow (planOf bs n t terms) k) _ refl))
+
+-- 13 never holds of loads
 loads-judged : (bs : List ℕ) (n t : ℕ) (terms : Terms) (old : LoadBuffers)
     → Judged (loadsCauses bs n t terms old) tt old (loadsEmptied n t old) (loads bs n t terms old)
-unfolding loads loaded loadsCauses loadsEmptied planOf
+unfolding loadsCauses partialLoadsCauses planOf
 loads-judged bs n t terms old =
-    subst (λ l. Judged l tt old (loadsEmptied n t old) (loads bs n t terms old))
-    (append-assoc (planCauses bs n t) (_ ∷ _ ∷ []) (_ ∷ []))
-    (judged-entered tt old (loadsEmptied n t old) _ _ _ (plain-short bs n t terms _)
-    (judged-work tt old (loadsEmptied n t old) (tooManyAnywhere (planOf bs n t terms)) _ refl))
+    judged-without tt old (loadsEmptied n t old) (planCauses bs n t) _ _ 13 (wrongSources n n) _ (le-ltb n n (omega arith))
+    (partial-loads-judged bs n t terms n old)
 
 busiest-judged : (bs : List ℕ) (n t : ℕ) (terms : Terms) (old : List ℕ)
     → Judged (busiestCauses bs n t terms old) 0 old (cleared (workSize n t) old) (busiest bs n t terms old)
@@ -157,6 +169,9 @@ demand1 =
           (pair-judged bs n t terms s z old);
       of-loads = λ bs n t terms old x r e.
           subst (Judged (loadsCauses bs n t terms old) tt old (loadsEmptied n t old)) (sym e) (loads-judged bs n t terms old);
+      of-partial-loads = λ bs n t terms k old x r e.
+          subst (Judged (partialLoadsCauses bs n t terms k old) tt old (loadsEmptied n t old)) (sym e)
+          (partial-loads-judged bs n t terms k old);
       of-busiest = λ bs n t terms old x r e.
           subst (Judged (busiestCauses bs n t terms old) 0 old (cleared (workSize n t) old)) (sym e) (busiest-judged bs n t terms old);
       of-set = λ bs n t terms s z set old x r e.

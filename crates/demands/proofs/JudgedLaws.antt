@@ -8,10 +8,10 @@ use mathlib.Core.Logic.{_↔_, _≢_}
 use Rattle.temporal.specs.Lists.{below}
 use Rattle.temporal.specs.Plan.{Terms}
 use Rattle.temporal.specs.Bytes.{records}
-use Rattle.temporal.specs.Cause.{cause, first, unless, wrongTurnaround, recordCauses, planCauses, stationCauses, pairCauses}
+use Rattle.temporal.specs.Cause.{cause, first, unless, wrongTurnaround, wrongSources, recordCauses, planCauses, stationCauses, pairCauses}
 use Rattle.temporal.specs.Outcome.{Outcome, entered}
 use Rattle.temporal.specs.OutcomeSet.{setCauses}
-use Rattle.temporal.proofs.CauseLaws.{first-append-none, first-append-some}
+use Rattle.temporal.proofs.CauseLaws.{first-append-none, first-append-some, first-false}
 use Rattle.temporal.proofs.EnteredLaws.{unless-some, unless-none, refusedWith}
 use Rattle.demands.specs.Demand1.{NoneHolds, Numbered, Judged}
 
@@ -43,6 +43,12 @@ unfolding first cause
 plain-cause k false l p q rest = record { not-too-many = rest .not-too-many; not-unoffered = rest .not-unoffered }
 plain-cause zero true l p q rest = record { not-too-many = rest .not-too-many; not-unoffered = rest .not-unoffered }
 plain-cause (suc k) true l p q rest = record { not-too-many = p; not-unoffered = q }
+
+-- a cause that does not hold
+plain-false : (k : ℕ) (b : Bool) (l : List ℕ) → b ≡ false → Plain l → Plain (cause k b ∷ l)
+unfolding first cause
+plain-false k true l e rest = absurd (let z : _≡_ {A = ℕ} 0 1 = cc in omega arith)
+plain-false k false l e rest = record { not-too-many = rest .not-too-many; not-unoffered = rest .not-unoffered }
 
 plain-append : (l m : List ℕ) → Plain l → Plain m → Plain (l ++ m)
 plain-append l m a b = decide (first l) refl
@@ -86,6 +92,22 @@ module _ (bs : List ℕ) (n t : ℕ) (terms : Terms) (lacking : Bool) where
       (plain-cause 6 _ _ (omega arith) (omega arith)
       (plain-cause 7 _ _ (omega arith) (omega arith) (plain-cause 8 _ [] (omega arith) (omega arith) plain-none))))
 
+  module _ (k : ℕ) where
+    sources-and : (rest : List ℕ) → Plain rest
+        → Plain (planCauses bs n t ++ cause 12 (wrongTurnaround terms) ∷ cause 13 (wrongSources n k) ∷ cause 8 lacking ∷ rest)
+    sources-and rest plain =
+        plain-append _ _ (plain-plan bs n t)
+        (plain-cause 12 _ _ (omega arith) (omega arith)
+        (plain-cause 13 _ _ (omega arith) (omega arith) (plain-cause 8 _ _ (omega arith) (omega arith) plain)))
+
+    pub plain-sources : Plain (planCauses bs n t ++ cause 12 (wrongTurnaround terms) ∷ cause 13 (wrongSources n k) ∷ cause 8 lacking ∷ [])
+    plain-sources = sources-and [] plain-none
+
+    -- with 9, where no source has too many
+    pub plain-few : (many : Bool) → many ≡ false
+        → Plain (planCauses bs n t ++ cause 12 (wrongTurnaround terms) ∷ cause 13 (wrongSources n k) ∷ cause 8 lacking ∷ cause 9 many ∷ [])
+    plain-few many e = sources-and _ (plain-false 9 many [] e plain-none)
+
   pub plain-short : Plain (planCauses bs n t ++ cause 12 (wrongTurnaround terms) ∷ cause 8 lacking ∷ [])
   plain-short =
       plain-append _ _ (plain-plan bs n t)
@@ -100,6 +122,14 @@ plain-set bs n t terms s z set old =
     (plain-append _ _ (plain-pair bs n t terms _ s z) (plain-cause 11 _ [] (omega arith) (omega arith) plain-none))
 
 -- ---- the call
+
+-- lists whose first causes are the same, behind one list
+first-append-same : (l a b : List ℕ) → first a ≡ first b → first (l ++ a) ≡ first (l ++ b)
+first-append-same l a b e = decide (first l) refl
+  where
+    decide : (k : ℕ) → first l ≡ k → first (l ++ a) ≡ first (l ++ b)
+    decide zero q = first-append-none l a q ∙ e ∙ sym (first-append-none l b q)
+    decide (suc k) q = first-append-some l a (omega arith) ∙ sym (first-append-some l b (omega arith))
 
 module _ {Values Buffers : Type 0} (zeros : Values) (old emptied : Buffers) where
   -- where the first causes are without 9 and 10, the whole is judged as the work is by the causes after them
@@ -129,6 +159,18 @@ module _ {Values Buffers : Type 0} (zeros : Values) (old emptied : Buffers) wher
             too-many = λ e. absurd (plain .not-too-many e);
             unoffered = λ e. absurd (plain .not-unoffered e);
           })
+
+  -- a cause that does not hold may be left out of the list
+  pub judged-without : (l m : List ℕ) (c k : ℕ) (b : Bool) (o : Outcome Values Buffers) → b ≡ false
+      → Judged (l ++ c ∷ cause k b ∷ m) zeros old emptied o → Judged (l ++ c ∷ m) zeros old emptied o
+  judged-without l m c k b o e j =
+      record {
+        numbered = numbered _ _ (j .numbered .the-first ∙ first-append-same l _ _ (first-append-same (c ∷ []) (cause k b ∷ m) m (first-false k b m e)));
+        beside = j .beside;
+        untouched = j .untouched;
+        too-many = j .too-many;
+        unoffered = j .unoffered;
+      }
 
   -- an outcome whose number is 0, where no cause holds
   pub judged-accepted : (causes : List ℕ) (o : Outcome Values Buffers) → o .number ≡ 0 → first causes ≡ 0

@@ -23,3 +23,5 @@ pub mod Sets
 pub mod Foremost
 -- C-15: every leg accounted
 pub mod Account
+-- C-18: partial loads
+pub mod Partial

@@ -11,7 +11,7 @@ use Rattle.temporal.specs.Lists.{from, below, sum, select, any, member, distinc
 use Rattle.temporal.specs.Plan.{Plan, leadsTo, mayFollow}
 use Rattle.temporal.specs.Walk.{along, step, run, lastOr, holds, isPath, isInterior}
 use Rattle.temporal.specs.Shortest.{orElse, firstNonempty}
-use Rattle.temporal.specs.Load.{allEnds}
+use Rattle.temporal.specs.Load.{endsBelow}
 use Rattle.temporal.specs.Bytes.{wordAt, contactAt, records, planOf}
 use Rattle.temporal.specs.Cause.{cause, first, outside, wrongLength, wrongSlot, wrongEnds, isAbove, wrongOrder}
 use Rattle.temporal.specs.Cause.{recordCauses, planCauses}
@@ -49,7 +49,7 @@ accepted =
     (few-anywhere (inputPlan (planA .bytes)) few)
 
 computed : grownText (inputPlan (planA .bytes)) ≡ asText planALines
-unfolding grownText from below sum select any member distinct leadsTo mayFollow along step run lastOr holds isPath isInterior orElse firstNonempty allEnds wordAt contactAt records planOf code codes powersUpTo digitCount decimal largest topStation inputStations inputSlots field heading line asText grown grownShortest onward grownPaths pairsBy loadBy flatMap bind
+unfolding grownText from below sum select any member distinct leadsTo mayFollow along step run lastOr holds isPath isInterior orElse firstNonempty endsBelow wordAt contactAt records planOf code codes powersUpTo digitCount decimal largest topStation inputStations inputSlots field heading line asText grown grownShortest onward grownPaths pairsBy loadBy flatMap bind
 computed = refl
 
 pub plan-a-text : PlanAText

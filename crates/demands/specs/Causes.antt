@@ -1,5 +1,5 @@
--- For each operation the one list of all its causes of refusal, in document 01's order with document 02's 11 and 12; a cause that does not hold stands in
--- it as 0. (Check's list is planCauses.) Beside it, what 9 and 10 leave in the lent buffers. Definitions only.
+-- For each operation the one list of all its causes of refusal, in document 01's order with document 02's 11 to 13; a cause that does not
+-- hold stands in it as 0. (Check's list is planCauses.) Beside it, what 9 and 10 leave in the lent buffers. Definitions only.
 -- Assumes nothing.
 use Prim.Native.Nat.{ℕ}
 use mathlib.Core.Bool.{Bool, not, _||_}
@@ -8,8 +8,8 @@ use lib.ListN.{length, take}
 use Rattle.temporal.specs.Plan.{Terms}
 use Rattle.temporal.specs.Lists.{any}
 use Rattle.temporal.specs.Bytes.{planOf}
-use Rattle.temporal.specs.Cause.{cause, outside, wrongTurnaround, planCauses, pairCauses, stationCauses}
-use Rattle.temporal.specs.Cause.{appearanceTooMany, tooMany, tooManyAnywhere}
+use Rattle.temporal.specs.Cause.{cause, outside, wrongTurnaround, wrongSources, planCauses, pairCauses, stationCauses}
+use Rattle.temporal.specs.Cause.{appearanceTooMany, tooMany, tooManyBelow, tooManyAnywhere}
 use Rattle.temporal.specs.Outcome.{cleared, short, places, workSize, ReachTables}
 use Rattle.temporal.specs.OutcomePair.{PairBuffers, LoadBuffers}
 use Rattle.temporal.specs.OutcomeSet.{setCauses}
@@ -76,6 +76,15 @@ busiestCauses bs n t terms work =
     planCauses bs n t ++
     cause 12 (wrongTurnaround terms) ∷ cause 8 (short (workSize n t) work) ∷
     cause 9 (tooManyAnywhere (planOf bs n t terms)) ∷ []
+
+-- ---- Partial loads (document 02, C-18): 1 to 5, 12, 13, 8, 9, where 9 looks at the sources below k; the buffers are left as loads leaves them
+
+unfoldable pub partialLoadsCauses : List ℕ → ℕ → ℕ → Terms → ℕ → LoadBuffers → List ℕ
+partialLoadsCauses bs n t terms k old =
+    planCauses bs n t ++
+    cause 12 (wrongTurnaround terms) ∷ cause 13 (wrongSources n k) ∷
+    cause 8 (short n (old .pairsTable) || (short n (old .loadTable) || short (workSize n t) (old .work))) ∷
+    cause 9 (tooManyBelow (planOf bs n t terms) k) ∷ []
 
 -- ---- The operation on a pair and a set (document 02, C-12): 1 to 5, 12, 6 to 8, 11, 9; of what is lent it writes the work area alone
 

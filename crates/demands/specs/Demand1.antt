@@ -10,7 +10,7 @@ use denote.Ref.{RefT}
 use Rattle.temporal.specs.Plan.{Terms}
 use Rattle.temporal.specs.Cause.{first, planCauses, planFault}
 use Rattle.temporal.specs.Outcome.{Outcome, cleared, workSize, ReachTables, reach, rowNumber}
-use Rattle.temporal.specs.OutcomePair.{PairBuffers, pair, LoadBuffers, loads, busiest}
+use Rattle.temporal.specs.OutcomePair.{PairBuffers, pair, LoadBuffers, partialLoads, loads, busiest}
 use Rattle.temporal.specs.OutcomeSet.{throughSet}
 use Rattle.temporal.specs.OutcomeForemost.{foremost}
 use Rattle.temporal.specs.Cursor.{Reply, path, no-path, last-path, refused, first-way, next-way}
@@ -41,6 +41,7 @@ use Rattle.demands.specs.Causes.{
   pairEmptied,
   loadsCauses,
   loadsEmptied,
+  partialLoadsCauses,
   busiestCauses,
   throughSetCauses,
   foremostCauses,
@@ -113,6 +114,9 @@ pub record Demand1 : Type 0 where
       → Judged (pairAllCauses bs n t terms s z old) (record { hops = 0; count = 0 }) old (pairEmptied n t old) (pairOutcome r x)
   pub of-loads : (bs : List ℕ) (n t : ℕ) (terms : Terms) (old x : LoadBuffers) (r : LoadsAnswer) → loadsOutcome r x ≡ loads bs n t terms old
       → Judged (loadsCauses bs n t terms old) tt old (loadsEmptied n t old) (loadsOutcome r x)
+  pub of-partial-loads : (bs : List ℕ) (n t : ℕ) (terms : Terms) (k : ℕ) (old x : LoadBuffers) (r : LoadsAnswer)
+      → loadsOutcome r x ≡ partialLoads bs n t terms k old
+      → Judged (partialLoadsCauses bs n t terms k old) tt old (loadsEmptied n t old) (loadsOutcome r x)
   pub of-busiest : (bs : List ℕ) (n t : ℕ) (terms : Terms) (old x : List ℕ) (r : BusiestAnswer) → busiestOutcome r x ≡ busiest bs n t terms old
       → Judged (busiestCauses bs n t terms old) 0 old (cleared (workSize n t) old) (busiestOutcome r x)
   pub of-set : (bs : List ℕ) (n t : ℕ) (terms : Terms) (s z : ℕ) (set old x : List ℕ) (r : SetAnswer) → setOutcome r x ≡ throughSet bs n t terms s z set old

@@ -12,9 +12,9 @@ use Rattle.temporal.specs.Walk.{isPath}
 use Rattle.temporal.specs.Shortest.{hops, count, throughIn, through}
 use Rattle.temporal.specs.Load.{load}
 use Rattle.temporal.specs.Bytes.{planOf}
-use Rattle.temporal.specs.Cause.{cause, first, wrongTurnaround, planCauses, pairCauses, stationCauses}
+use Rattle.temporal.specs.Cause.{cause, first, wrongTurnaround, wrongSources, planCauses, pairCauses, stationCauses}
 use Rattle.temporal.specs.Outcome.{ReachTables, entered, over, short, places, workSize, appearanceTable, stationTable, reached, reach}
-use Rattle.temporal.specs.OutcomePair.{paired, pair, loaded, loads}
+use Rattle.temporal.specs.OutcomePair.{paired, pair, partlyLoaded, partialLoads}
 use Rattle.temporal.specs.Cursor.{Reply, sameNumbers, Operation, indexIn, move}
 use Rattle.temporal.specs.FirstNext.{listOf, wayCauses, overflow, wayWork, wayAnswer}
 use Rattle.temporal.proofs.EnteredLaws.{unless-none}
@@ -126,14 +126,15 @@ module _ (g : PlanBytes) where
 
     pub loads-right :
         (ps ls : List ℕ) →
-        first (planCauses (g .bytes) (g .stations) (g .slots) ++ cause 12 (wrongTurnaround (termsOf g)) ∷ cause 8
+        first (planCauses (g .bytes) (g .stations) (g .slots) ++ cause 12 (wrongTurnaround (termsOf g)) ∷
+        cause 13 (wrongSources (g .stations) (g .stations)) ∷ cause 8
         (short (g .stations) (sevens (g .stations)) || (short (g .stations) (sevens (g .stations)) ||
         short (workSize (g .stations) (g .slots)) (sevens (workSize (g .stations) (g .slots))))) ∷ []) ≡ 0 →
         (sameNumbers
         (over (map (λ v. length (pairsBy p (grownPaths p) v)) (below (g .stations))) (sevens (g .stations))) ps &&
         sameNumbers (over (map (loadBy p (grownPaths p)) (below (g .stations))) (sevens (g .stations))) ls) ≡ true →
         right (loadsOf g ps ls) ≡ true
-    unfolding right loads entered loaded planOf
+    unfolding right partialLoads entered partlyLoaded planOf
     loads-right ps ls free e =
         rw (unless-none _ _ _ free, few-anywhere p few)
         (ap (λ f. sameNumbers (over (map f (below (g .stations))) (sevens (g .stations))) ps &&

@@ -35,14 +35,14 @@ pub record Told (r : Reply) : Type 0 where
   pub way : replyCode r ≡ 0 → r ≡ path (replyHops r)
   pub none : replyCode r ≡ 100 → r ≡ no-path
   pub last : replyCode r ≡ 101 → r ≡ last-path
-  pub refusal : 0 < replyCode r → replyCode r ≤ 10 → r ≡ refused (replyCode r)
+  pub refusal : 0 < replyCode r → replyCode r < 100 → r ≡ refused (replyCode r)
 
--- a refusal has one of the numbers 1 to 10
+-- a refusal has one of the papers' numbers, 1 to 17
 abbrev Numbered : Reply → Type 0
 Numbered (path h) = Unit {0}
 Numbered no-path = Unit {0}
 Numbered last-path = Unit {0}
-Numbered (refused k) = (0 < k) × (k ≤ 12)
+Numbered (refused k) = (0 < k) × (k ≤ 17)
 
 numbered-told : (r : Reply) → Numbered r → Told r
 numbered-told (path h) s =
@@ -103,7 +103,7 @@ go-numbered first-way l at b = first-numbered l at b
 go-numbered next-way l at b = next-numbered l at b
 
 move-numbered :
-    (o : Operation) (k : ℕ) (l : List (List ℕ)) (at : Option ℕ) (b : List ℕ) → k ≤ 12 → Numbered (move o k l at b .reply)
+    (o : Operation) (k : ℕ) (l : List (List ℕ)) (at : Option ℕ) (b : List ℕ) → k ≤ 17 → Numbered (move o k l at b .reply)
 unfolding move stay
 move-numbered o k l at b h =
     unless-either (λ m. Numbered (m .reply)) k (λ j. stay (refused j) at b) (go o l at b) (λ some. (some, h))

@@ -4,7 +4,7 @@ ghost use mathlib.Core.Path.{_≡_};
 ghost use Rattle.temporal.specs.Plan.{turning};
 ghost use Rattle.temporal.specs.Cause.{planFault};
 ghost use Rattle.temporal.specs.Outcome.{reach, rowNumber};
-ghost use Rattle.temporal.specs.OutcomePair.{pair, loads, busiest};
+ghost use Rattle.temporal.specs.OutcomePair.{pair, partialLoads, loads, busiest};
 ghost use Rattle.temporal.specs.OutcomeSet.{throughSet};
 ghost use Rattle.temporal.specs.OutcomeForemost.{foremost};
 ghost use Rattle.temporal.specs.Cursor.{first-way, next-way};
@@ -12,7 +12,7 @@ ghost use Rattle.temporal.specs.FirstNext.{wayAnswer};
 ghost use Rattle.plan.specs.Fault.{faultNumber};
 ghost use Rattle.reach.specs.Pass.{lentTables};
 ghost use Rattle.pair.specs.Answer.{pairBuffers};
-ghost use Rattle.loads.specs.Answer.{loadBuffers};
+ghost use Rattle.loads.specs.Answer.{loadsNumber, loadBuffers};
 ghost use Rattle.listing.specs.Answer.{replyOf, question};
 ghost use Rattle.joftaki_c.specs.Slots.{
   answered,
@@ -129,6 +129,33 @@ pub extern "C" fn joftaki_pair(
     }
 }
 
+// The number of what loads and partial loads answer.
+fn loads_code(answer: LoadsAnswer) -> u32
+    ensures { λ r. ⌜ r ≡ loadsNumber answer ⌝ }
+{
+    match answer {
+        LoadsAnswer::Loaded => 0,
+        LoadsAnswer::Refused(fault) => fault_code(fault),
+    }
+}
+
+// Partial loads (document 02, C-18): the number, and the lent tables and work area as partial loads leaves them.
+#[no_mangle]
+pub extern "C" fn joftaki_partial_loads(
+    plan: &[u8],
+    n: usize,
+    t: usize,
+    g: usize,
+    k: usize,
+    pairs: &mut [u64],
+    sums: &mut [u64],
+    work: &mut [u64],
+) -> u32
+    ensures { λ r. ⌜ answered r (loadBuffers (now (pairs .exit)) (now (sums .exit)) (now (work .exit))) ≡ partialLoads (now (plan .entry)) n t (turning g) k (loadBuffers (now (pairs .entry)) (now (sums .entry)) (now (work .entry))) ⌝ }
+{
+    loads_code(loads::partial_loads(plan, n, t, g, k, pairs, sums, work))
+}
+
 // Operation 5, loads: its number, and the lent tables and work area as loads leaves them.
 #[no_mangle]
 pub extern "C" fn joftaki_loads(
@@ -142,10 +169,7 @@ pub extern "C" fn joftaki_loads(
 ) -> u32
     ensures { λ r. ⌜ answered r (loadBuffers (now (pairs .exit)) (now (sums .exit)) (now (work .exit))) ≡ loads (now (plan .entry)) n t (turning g) (loadBuffers (now (pairs .entry)) (now (sums .entry)) (now (work .entry))) ⌝ }
 {
-    match loads::loads(plan, n, t, g, pairs, sums, work) {
-        LoadsAnswer::Loaded => 0,
-        LoadsAnswer::Refused(fault) => fault_code(fault),
-    }
+    loads_code(loads::loads(plan, n, t, g, pairs, sums, work))
 }
 
 // Operation 6, busiest: its number, and the station in a slot; 0 on refusal.

@@ -14,9 +14,9 @@ use Rattle.plan.specs.declared.PlanFault.{PlanFault}
 use Rattle.plan.specs.declared.CallFault.{CallFault}
 use Rattle.plan.specs.declared.CheckAnswer.{CheckAnswer}
 use Rattle.plan.specs.declared.CheckAnswer.the-variants as check-answer
-use Rattle.plan.proofs.Answers.{number-positive}
+use Rattle.plan.proofs.Answers.{number-positive, call-number-within}
 use Rattle.calls.specs.Call.{pairCallFault, callCheckNumber}
-use Rattle.calls.proofs.CallLaws.{free-call, call-number-positive}
+use Rattle.calls.proofs.CallLaws.{free-call}
 use Rattle.calls.specs.declared.CallCheck.{CallCheck}
 use Rattle.calls.specs.declared.CallCheck.the-variants as call-check
 use Rattle.listing.specs.Work.{WayReady, wayOutcome}
@@ -65,7 +65,7 @@ module _ (o : Operation) (q : Question) (way work : List ℕ) where
     unfolding wayAnswer
     way-call r f answer e =
         let number : callNumber f ≡ callFaultOf = ap callCheckNumber (sym e) ∙ answer in
-        let some = call-number-positive f in
+        let some = call-number-within f in
         ap refusal number ∙
         sym (rw (call-decides ok) (unless-some callFaultOf refusal (wayWork o q way work) (omega arith)))
 

@@ -1,4 +1,4 @@
--- Loads and busiest as document 01 has them, from what the tally leaves. Assumes nothing.
+-- Partial loads and busiest as they are defined, from what the tally leaves. Assumes nothing.
 use Prim.Native.Nat.{ℕ, _+_, _<_, _≤_}
 use native.Mathlib.Omega.{arith}
 use mathlib.Core.Path.{_≡_, sym, ap, ap₂, _∙_}
@@ -8,11 +8,11 @@ use borrow.Author.Tests.{lt-ltb, le-ltb}
 use lib.ListN.{length, getD, drop, replicate}
 use Rattle.temporal.specs.Plan.{Terms}
 use Rattle.temporal.specs.Lists.{below}
-use Rattle.temporal.specs.Load.{pairs, load, Busiest}
+use Rattle.temporal.specs.Load.{partialPairs, partialLoad, load, Busiest}
 use Rattle.temporal.specs.Bytes.{planOf}
-use Rattle.temporal.specs.Cause.{planFault, tooManyAnywhere, wrongTurnaround}
+use Rattle.temporal.specs.Cause.{planFault, wrongTurnaround, wrongSources}
 use Rattle.temporal.specs.Outcome.{Outcome, over, cleared, short, workSize}
-use Rattle.temporal.specs.OutcomePair.{LoadBuffers, loaded, loads, compared, busiest}
+use Rattle.temporal.specs.OutcomePair.{LoadBuffers, partlyLoaded, partialLoads, compared, busiest}
 use Rattle.temporal.proofs.Accepted.{accepted}
 use Rattle.temporal.proofs.BusiestLaws.{busiest-unique}
 use Rattle.temporal.proofs.BufferLaws.{over-by, fill-beyond, getD-made, length-made}
@@ -36,17 +36,17 @@ use Rattle.loads.specs.Answer.{loadBuffers}
 use Rattle.memory.specs.Copy.{Copied}
 use Rattle.loads.specs.Largest.{Largest, LoadsReady, BusiestReady}
 
--- ---- loads
+-- ---- partial loads
 
-module _ (bs : List ℕ) (n t : ℕ) (terms : Terms) (ps ls area : List ℕ) (ready : LoadsReady bs n t terms ps ls area) (area′ : List ℕ) (r : Bool)
-    (f : Tallied bs n t terms area area′ r) where
+module _ (bs : List ℕ) (n t : ℕ) (terms : Terms) (k : ℕ) (ps ls area : List ℕ) (ready : LoadsReady bs n t terms k ps ls area) (area′ : List ℕ) (r : Bool)
+    (f : Tallied bs n t terms k area area′ r) where
   -- too many: all three are cleared
   pub loaded-refused :
       r ≡ true → (ps′ ls′ area″ : List ℕ) → ps′ ≡ over (replicate n 0) ps → ls′ ≡ over (replicate n 0) ls →
       area″ ≡ over (replicate (workSize n t) 0) area′ →
       _≡_ {A = Outcome (Unit {0}) LoadBuffers} (record { number = 9; values = tt; buffers = loadBuffers ps′ ls′ area″ })
-      (loaded (planOf bs n t terms) (loadBuffers ps ls area))
-  unfolding loaded cleared planOf
+      (partlyLoaded (planOf bs n t terms) k (loadBuffers ps ls area))
+  unfolding partlyLoaded cleared planOf
   loaded-refused e ps′ ls′ area″ a b c =
       let many = sym (f .too-many) ∙ e in
       let d = fill-beyond (workSize n t) 0 area′ area (f .beyond) in
@@ -57,89 +57,99 @@ module _ (bs : List ℕ) (n t : ℕ) (terms : Terms) (ps ls area : List ℕ) (re
       r ≡ false → (base : ℕ) (ps′ ls′ area″ : List ℕ) → base ≡ tallyBase n t terms → Copied area′ base n ps ps′ →
       Copied area′ (base + n) n ls ls′ → area″ ≡ over (replicate (workSize n t) 0) area′ →
       _≡_ {A = Outcome (Unit {0}) LoadBuffers} (record { number = 0; values = tt; buffers = loadBuffers ps′ ls′ area″ })
-      (loaded (planOf bs n t terms) (loadBuffers ps ls area))
-  unfolding loaded cleared planOf
+      (partlyLoaded (planOf bs n t terms) k (loadBuffers ps ls area))
+  unfolding partlyLoaded cleared planOf
   loaded-filled e base ps′ ls′ area″ same a b c =
       let few = sym (f .too-many) ∙ e in
       let d = fill-beyond (workSize n t) 0 area′ area (f .beyond) in
-      let p : ps′ ≡ over (map (pairs (planOf bs n t terms)) (below n)) ps =
-      over-by n ps′ (map (pairs (planOf bs n t terms)) (below n)) ps (length-made _ n)
+      let p : ps′ ≡ over (map (partialPairs (planOf bs n t terms) k) (below n)) ps =
+      over-by n ps′ (map (partialPairs (planOf bs n t terms) k) (below n)) ps (length-made _ n)
       (let size = a .same-length in let room = ready .pairs-room in omega arith)
       (λ v h. a .here v h ∙ ap (λ i. getD area′ (i + v) 0) same ∙ f .station-pairs e v h ∙ sym (getD-made _ n v h)) (a .beyond) in
-      let l : ls′ ≡ over (map (load (planOf bs n t terms)) (below n)) ls =
-      over-by n ls′ (map (load (planOf bs n t terms)) (below n)) ls (length-made _ n)
+      let l : ls′ ≡ over (map (partialLoad (planOf bs n t terms) k) (below n)) ls =
+      over-by n ls′ (map (partialLoad (planOf bs n t terms) k) (below n)) ls (length-made _ n)
       (let size = b .same-length in let room = ready .loads-room in omega arith)
       (λ v h. b .here v h ∙ ap (λ i. getD area′ (i + n + v) 0) same ∙ f .station-loads e v h ∙ sym (getD-made _ n v h)) (b .beyond) in
       rw few (cc (c, d, p, l))
 
-module _ (bs : List ℕ) (n t : ℕ) (terms : Terms) (ps ls area : List ℕ) where
+module _ (bs : List ℕ) (n t : ℕ) (terms : Terms) (k : ℕ) (ps ls area : List ℕ) where
   pub loads-plan :
       (r : CheckAnswer) (f : PlanFault) → checkNumber r ≡ planFault bs n t → r ≡ check-answer.Refused f →
       _≡_ {A = Outcome (Unit {0}) LoadBuffers}
       (record { number = planNumber f; values = tt; buffers = loadBuffers ps ls area })
-      (loads bs n t terms (loadBuffers ps ls area))
-  unfolding loads
+      (partialLoads bs n t terms k (loadBuffers ps ls area))
+  unfolding partialLoads
   loads-plan r f answer e =
       let number : planNumber f ≡ planFault bs n t = ap checkNumber (sym e) ∙ answer in
       let some = number-positive f in
-      ap (refusedWith tt (loadBuffers ps ls area) (loaded (planOf bs n t terms) (loadBuffers ps ls area))) number ∙
-      sym (entered-plan tt (loadBuffers ps ls area) (loaded (planOf bs n t terms) (loadBuffers ps ls area)) bs n t _ (omega arith))
+      ap (refusedWith tt (loadBuffers ps ls area) (partlyLoaded (planOf bs n t terms) k (loadBuffers ps ls area))) number ∙
+      sym (entered-plan tt (loadBuffers ps ls area) (partlyLoaded (planOf bs n t terms) k (loadBuffers ps ls area)) bs n t _ (omega arith))
 
   module _ (ok : planFault bs n t ≡ 0) where
     pub loads-terms :
         wrongTurnaround terms ≡ true →
         _≡_ {A = Outcome (Unit {0}) LoadBuffers} (record { number = 12; values = tt; buffers = loadBuffers ps ls area })
-        (loads bs n t terms (loadBuffers ps ls area))
-    unfolding loads
+        (partialLoads bs n t terms k (loadBuffers ps ls area))
+    unfolding partialLoads
     loads-terms e = sym (entered-call tt _ _ bs n t _ ok ∙ entered-cause tt _ _ 11 _ _ e)
 
-    module _ (right : wrongTurnaround terms ≡ false) where
+    pub loads-sources :
+        wrongTurnaround terms ≡ false → n < k →
+        _≡_ {A = Outcome (Unit {0}) LoadBuffers} (record { number = 13; values = tt; buffers = loadBuffers ps ls area })
+        (partialLoads bs n t terms k (loadBuffers ps ls area))
+    unfolding partialLoads
+    loads-sources right h =
+        sym (entered-call tt _ _ bs n t _ ok ∙ entered-pass tt _ _ 12 _ _ right ∙ entered-cause tt _ _ 12 _ _ (lt-ltb n k h))
+
+    module _ (right : wrongTurnaround terms ≡ false) (few : k ≤ n) where
       abbrev lacking : Bool
       lacking = short n ps || (short n ls || short (workSize n t) area)
 
       lacks :
           lacking ≡ true →
           _≡_ {A = Outcome (Unit {0}) LoadBuffers} (record { number = 8; values = tt; buffers = loadBuffers ps ls area })
-          (loads bs n t terms (loadBuffers ps ls area))
-      unfolding loads
-      lacks e = sym (entered-call tt _ _ bs n t _ ok ∙ entered-pass tt _ _ 12 _ _ right ∙ entered-cause tt _ _ 7 _ [] e)
+          (partialLoads bs n t terms k (loadBuffers ps ls area))
+      unfolding partialLoads
+      lacks e = sym (entered-call tt _ _ bs n t _ ok ∙ entered-pass tt _ _ 12 _ _ right ∙
+          entered-pass tt _ _ 13 _ _ (le-ltb n k few) ∙ entered-cause tt _ _ 7 _ [] e)
 
       pub loads-short-pairs :
           length ps < n →
           _≡_ {A = Outcome (Unit {0}) LoadBuffers} (record { number = 8; values = tt; buffers = loadBuffers ps ls area })
-          (loads bs n t terms (loadBuffers ps ls area))
+          (partialLoads bs n t terms k (loadBuffers ps ls area))
       loads-short-pairs h = lacks (rw (lt-ltb (length ps) n h))
 
       module _ (a : n ≤ length ps) where
         pub loads-short-loads :
             length ls < n →
             _≡_ {A = Outcome (Unit {0}) LoadBuffers} (record { number = 8; values = tt; buffers = loadBuffers ps ls area })
-            (loads bs n t terms (loadBuffers ps ls area))
+            (partialLoads bs n t terms k (loadBuffers ps ls area))
         loads-short-loads h = lacks (rw (le-ltb (length ps) n a, lt-ltb (length ls) n h))
 
         module _ (b : n ≤ length ls) where
           pub loads-short-area :
               length area < workSize n t →
               _≡_ {A = Outcome (Unit {0}) LoadBuffers} (record { number = 8; values = tt; buffers = loadBuffers ps ls area })
-              (loads bs n t terms (loadBuffers ps ls area))
+              (partialLoads bs n t terms k (loadBuffers ps ls area))
           loads-short-area h =
               lacks (rw (le-ltb (length ps) n a, le-ltb (length ls) n b, lt-ltb (length area) (workSize n t) h))
 
           pub loads-works :
               workSize n t ≤ length area →
-              loads bs n t terms (loadBuffers ps ls area) ≡ loaded (planOf bs n t terms) (loadBuffers ps ls area)
-          unfolding loads
+              partialLoads bs n t terms k (loadBuffers ps ls area) ≡ partlyLoaded (planOf bs n t terms) k (loadBuffers ps ls area)
+          unfolding partialLoads
           loads-works h =
               entered-call tt _ _ bs n t _ ok ∙
               entered-pass tt _ _ 12 _ _ right ∙
+              entered-pass tt _ _ 13 _ _ (le-ltb n k few) ∙
               entered-pass tt _ _ 8 _ []
               (rw (le-ltb (length ps) n a, le-ltb (length ls) n b, le-ltb (length area) (workSize n t) h)) ∙
               entered-work tt _ _
 
           -- what the work asks
-          pub loads-ready : workSize n t ≤ length area → LoadsReady bs n t terms ps ls area
+          pub loads-ready : workSize n t ≤ length area → LoadsReady bs n t terms k ps ls area
           loads-ready h =
-              record { accepted = ok; turns = terms-inv terms right .0; pairs-room = a; loads-room = b; area = h }
+              record { accepted = ok; turns = terms-inv terms right .0; sources = few; pairs-room = a; loads-room = b; area = h }
 
 -- the tallies end within the work area
 pub tally-room :
@@ -188,7 +198,7 @@ module _ (bs : List ℕ) (n t : ℕ) (terms : Terms) (area : List ℕ) where
       pub busiest-ready : workSize n t ≤ length area → BusiestReady bs n t terms area
       busiest-ready h = record { accepted = ok; turns = terms-inv terms right .0; area = h }
 
-  module _ (area′ : List ℕ) (r : Bool) (f : Tallied bs n t terms area area′ r) (area″ : List ℕ)
+  module _ (area′ : List ℕ) (r : Bool) (f : Tallied bs n t terms n area area′ r) (area″ : List ℕ)
       (c : area″ ≡ over (replicate (workSize n t) 0) area′) where
     same : area″ ≡ cleared (workSize n t) area
     unfolding cleared

@@ -1,4 +1,5 @@
--- The place of the largest of some entries, and what loads and busiest ask once 1 to 8 and 12 are excluded. Definitions only.
+-- The place of the largest of some entries, and what partial loads and busiest ask once the numbers before 9 are excluded.
+-- Definitions only.
 -- Assumes nothing.
 use Prim.Native.Nat.{ℕ, _+_, _<_, _≤_}
 use mathlib.Core.Path.{_≡_}
@@ -20,10 +21,11 @@ pub record Largest (l : List ℕ) (from k r : ℕ) : Type 0 where
   pub largest : (u : ℕ) → u < k → getD l (from + u) 0 ≤ getD l (from + r) 0
   pub lowest : (u : ℕ) → u < r → getD l (from + u) 0 < getD l (from + r) 0
 
--- what loads asks once 1 to 8 and 12 are excluded
-pub record LoadsReady (bs : List ℕ) (n t : ℕ) (terms : Terms) (pairTable loadTable work : List ℕ) : Type 0 where
+-- what partial loads asks once 1 to 8, 12 and 13 are excluded
+pub record LoadsReady (bs : List ℕ) (n t : ℕ) (terms : Terms) (k : ℕ) (pairTable loadTable work : List ℕ) : Type 0 where
   pub accepted : planFault bs n t ≡ 0
   pub turns : 0 < terms .turnaround
+  pub sources : k ≤ n
   pub pairs-room : n ≤ length pairTable
   pub loads-room : n ≤ length loadTable
   pub area : workSize n t ≤ length work

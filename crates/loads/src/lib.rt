@@ -1,18 +1,18 @@
-// Operations 5 and 6, loads and busiest, over the tallies.
+// Operations 5 and 6, loads and busiest, and document 02's partial loads, over the tallies.
 ghost use mathlib.Core.Path.{_≡_};
 ghost use Prim.Native.Nat.{_+_, _<_, _≤_};
 ghost use lib.ListN.{length};
 ghost use Rattle.temporal.specs.Plan.{turning};
 ghost use Rattle.temporal.specs.Bytes.{planOf};
 ghost use Rattle.temporal.specs.Cause.{planFault};
-ghost use Rattle.temporal.specs.OutcomePair.{loaded, loads, compared, busiest};
+ghost use Rattle.temporal.specs.OutcomePair.{partlyLoaded, partialLoads, loads, compared, busiest};
 ghost use Rattle.loads.specs.Answer.{loadsOutcome, loadBuffers, busiestOutcome};
 ghost use Rattle.loads.specs.Largest.{betterOf, Largest, LoadsReady, BusiestReady};
 use plan::CallFault;
 use plan::CheckAnswer;
 use plan::Fault;
 
-// What loads answers.
+// What loads and partial loads answer.
 pub enum LoadsAnswer {
     Loaded,
     Refused(Fault),
@@ -51,8 +51,8 @@ fn largest(list: &[u64], from: usize, k: usize) -> usize
     best
 }
 
-// Loads once 1 to 8 and 12 are excluded.
-fn loads_work(
+// Partial loads once 1 to 8, 12 and 13 are excluded.
+fn partial_loads_work(
     pairs: &mut [u64],
     sums: &mut [u64],
     work: &mut [u64],
@@ -60,11 +60,12 @@ fn loads_work(
     n: usize,
     t: usize,
     g: usize,
+    k: usize,
 ) -> LoadsAnswer
-    requires { ⌜ LoadsReady (now plan) n t (turning g) (now pairs) (now sums) (now work) ⌝ }
-    ensures { λ r. ⌜ loadsOutcome r (loadBuffers (now (pairs .exit)) (now (sums .exit)) (now (work .exit))) ≡ loaded (planOf (now (plan .entry)) n t (turning g)) (loadBuffers (now (pairs .entry)) (now (sums .entry)) (now (work .entry))) ⌝ }
+    requires { ⌜ LoadsReady (now plan) n t (turning g) k (now pairs) (now sums) (now work) ⌝ }
+    ensures { λ r. ⌜ loadsOutcome r (loadBuffers (now (pairs .exit)) (now (sums .exit)) (now (work .exit))) ≡ partlyLoaded (planOf (now (plan .entry)) n t (turning g)) k (loadBuffers (now (pairs .entry)) (now (sums .entry)) (now (work .entry))) ⌝ }
 {
-    if tallies::tally(work, plan, n, t, g) {
+    if tallies::tally(work, plan, n, t, g, k) {
         memory::clear(pairs, n);
         memory::clear(sums, n);
         memory::clear(work, 4 * (n * (t + 1)));
@@ -77,8 +78,8 @@ fn loads_work(
     LoadsAnswer::Loaded
 }
 
-// Loads on an accepted plan: 12 and 8, then the work.
-fn loads_accepted(
+// Partial loads on an accepted plan: 12, 13 and 8, then the work.
+fn partial_loads_accepted(
     pairs: &mut [u64],
     sums: &mut [u64],
     work: &mut [u64],
@@ -86,12 +87,16 @@ fn loads_accepted(
     n: usize,
     t: usize,
     g: usize,
+    k: usize,
 ) -> LoadsAnswer
     requires { ⌜ planFault (now plan) n t ≡ 0 ⌝ }
-    ensures { λ r. ⌜ loadsOutcome r (loadBuffers (now (pairs .exit)) (now (sums .exit)) (now (work .exit))) ≡ loads (now (plan .entry)) n t (turning g) (loadBuffers (now (pairs .entry)) (now (sums .entry)) (now (work .entry))) ⌝ }
+    ensures { λ r. ⌜ loadsOutcome r (loadBuffers (now (pairs .exit)) (now (sums .exit)) (now (work .exit))) ≡ partialLoads (now (plan .entry)) n t (turning g) k (loadBuffers (now (pairs .entry)) (now (sums .entry)) (now (work .entry))) ⌝ }
 {
     if calls::wrong_turnaround(g) {
         return LoadsAnswer::Refused(Fault::Call(CallFault::Turnaround));
+    }
+    if n < k {
+        return LoadsAnswer::Refused(Fault::Call(CallFault::Sources));
     }
     if pairs.len() < n {
         return LoadsAnswer::Refused(Fault::Call(CallFault::Short));
@@ -102,10 +107,30 @@ fn loads_accepted(
     if work.len() < 4 * (n * (t + 1)) {
         return LoadsAnswer::Refused(Fault::Call(CallFault::Short));
     }
-    loads_work(pairs, sums, work, plan, n, t, g)
+    partial_loads_work(pairs, sums, work, plan, n, t, g, k)
 }
 
-// Operation 5, loads: for each station its pairs and its load, in units of 1 / 2^32.
+// Partial loads (document 02, C-18): for each station its pairs whose source is below k, and its load over these, in units of
+// 1 / 2^32.
+pub fn partial_loads(
+    plan: &[u8],
+    n: usize,
+    t: usize,
+    g: usize,
+    k: usize,
+    pairs: &mut [u64],
+    sums: &mut [u64],
+    work: &mut [u64],
+) -> LoadsAnswer
+    ensures { λ r. ⌜ loadsOutcome r (loadBuffers (now (pairs .exit)) (now (sums .exit)) (now (work .exit))) ≡ partialLoads (now (plan .entry)) n t (turning g) k (loadBuffers (now (pairs .entry)) (now (sums .entry)) (now (work .entry))) ⌝ }
+{
+    let CheckAnswer::Refused(fault) = plan::check(plan, n, t) else {
+        return partial_loads_accepted(pairs, sums, work, plan, n, t, g, k);
+    };
+    LoadsAnswer::Refused(Fault::Plan(fault))
+}
+
+// Operation 5, loads: for each station its pairs and its load, every source being worked on.
 pub fn loads(
     plan: &[u8],
     n: usize,
@@ -117,10 +142,7 @@ pub fn loads(
 ) -> LoadsAnswer
     ensures { λ r. ⌜ loadsOutcome r (loadBuffers (now (pairs .exit)) (now (sums .exit)) (now (work .exit))) ≡ loads (now (plan .entry)) n t (turning g) (loadBuffers (now (pairs .entry)) (now (sums .entry)) (now (work .entry))) ⌝ }
 {
-    let CheckAnswer::Refused(fault) = plan::check(plan, n, t) else {
-        return loads_accepted(pairs, sums, work, plan, n, t, g);
-    };
-    LoadsAnswer::Refused(Fault::Plan(fault))
+    partial_loads(plan, n, t, g, n, pairs, sums, work)
 }
 
 // Busiest once 1 to 8 and 12 are excluded.
@@ -128,7 +150,7 @@ fn busiest_work(work: &mut [u64], plan: &[u8], n: usize, t: usize, g: usize) -> 
     requires { ⌜ BusiestReady (now plan) n t (turning g) (now work) ⌝ }
     ensures { λ r. ⌜ busiestOutcome r (now (work .exit)) ≡ compared (planOf (now (plan .entry)) n t (turning g)) (now (work .entry)) ⌝ }
 {
-    if tallies::tally(work, plan, n, t, g) {
+    if tallies::tally(work, plan, n, t, g, n) {
         memory::clear(work, 4 * (n * (t + 1)));
         return BusiestAnswer::Refused(Fault::Call(CallFault::TooMany));
     }

@@ -15,11 +15,11 @@ use Rattle.plan.specs.declared.PlanFault.{PlanFault}
 use Rattle.plan.specs.declared.CallFault.{CallFault}
 use Rattle.plan.specs.declared.CheckAnswer.{CheckAnswer}
 use Rattle.plan.specs.declared.CheckAnswer.the-variants as check-answer
-use Rattle.plan.proofs.Answers.{number-positive}
+use Rattle.plan.proofs.Answers.{number-positive, call-number-within}
 use Rattle.calls.specs.Call.{pairCallFault, callCheckNumber}
 use Rattle.calls.specs.declared.CallCheck.{CallCheck}
 use Rattle.calls.specs.declared.CallCheck.the-variants as call-check
-use Rattle.calls.proofs.CallLaws.{free-call, call-number-positive}
+use Rattle.calls.proofs.CallLaws.{free-call}
 use Rattle.pair.specs.Answer.{pairBuffers}
 use Rattle.pair.specs.Throughs.{PairReady}
 
@@ -68,7 +68,7 @@ module _ (bs : List ℕ) (n t : ℕ) (terms : Terms) (s z : ℕ) (table area : L
     unfolding entered pairCallFault
     begins-call f e =
         let number : callNumber f ≡ pairCallFault n t terms s z (length table) n (length area) = ap callCheckNumber (sym e) ∙ answer in
-        let some = call-number-positive f in
+        let some = call-number-within f in
         ap (refusedWith zeros (pairBuffers table area) work) number ∙
         sym (entered-call zeros (pairBuffers table area) work bs n t _ ok ∙ unless-some _ _ _ (omega arith))
 

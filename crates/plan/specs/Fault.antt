@@ -18,7 +18,7 @@ planNumber plan-fault.Slot = 3
 planNumber plan-fault.Ends = 4
 planNumber plan-fault.Order = 5
 
--- causes 6 to 10, and 11 and 12 of document 02
+-- causes 6 to 10, and 11 to 13 of document 02
 abbrev pub callNumber : CallFault → ℕ
 callNumber call-fault.Station = 6
 callNumber call-fault.SameStation = 7
@@ -27,6 +27,7 @@ callNumber call-fault.TooMany = 9
 callNumber call-fault.NotShortestPath = 10
 callNumber call-fault.SetByte = 11
 callNumber call-fault.Turnaround = 12
+callNumber call-fault.Sources = 13
 
 abbrev pub faultNumber : Fault → ℕ
 faultNumber (fault.Plan f) = planNumber f

@@ -25,6 +25,7 @@ pub enum CallFault {
     NotShortestPath,
     SetByte,
     Turnaround,
+    Sources,
 }
 
 // Why an operation refuses.
@@ -64,6 +65,7 @@ pub fn call_number(fault: CallFault) -> usize
         CallFault::NotShortestPath => 10,
         CallFault::SetByte => 11,
         CallFault::Turnaround => 12,
+        CallFault::Sources => 13,
     }
 }
 

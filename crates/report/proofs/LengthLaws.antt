@@ -12,7 +12,7 @@ use lib.ListN.{length, length-append}
 use borrow.Author.Tests.{ltb-false}
 use Rattle.temporal.specs.Lists.{from, below, select, any, sum}
 use Rattle.temporal.specs.Plan.{Plan}
-use Rattle.temporal.specs.Load.{Ends, allEnds, throughOf, isPairOf, pairsOf, pairs, load}
+use Rattle.temporal.specs.Load.{Ends, endsBelow, throughOf, isPairOf, pairsBelow, partialPairs, pairs, load}
 use Rattle.temporal.proofs.ListLaws.{length-select, mem-below, any-false}
 use Rattle.counting.proofs.SumLaws.{sum-less}
 use Rattle.counting.proofs.ExactSum.{load-at-most}
@@ -27,20 +27,20 @@ unfoldable differs : Ends → Bool
 differs e = not (eqb (e .source) (e .destination))
 
 -- up to 32 stations have at most 992 ordered pairs of two different ones
-few-differ : any (λ n. ltb 992 (length (select differs (allEnds n)))) (below 33) ≡ false
-unfolding differs any below from select allEnds flatMap
+few-differ : any (λ n. ltb 992 (length (select differs (endsBelow n n)))) (below 33) ≡ false
+unfolding differs any below from select endsBelow flatMap
 few-differ = refl
 
 few-pairs : (p : Plan) (v : ℕ) → p .stations ≤ 32 → pairs p v ≤ 992
-unfolding pairs pairsOf differs
+unfolding partialPairs pairsBelow differs
 few-pairs p v h =
-    let less : length (select (isPairOf p v) (allEnds (p .stations))) ≤ length (select differs (allEnds (p .stations))) =
-    (rw (length-select (isPairOf p v) (allEnds (p .stations)), length-select differs (allEnds (p .stations)))
-    (sum-less _ _ (allEnds (p .stations)) (λ e. at-most (differs e) (ltb 0 (throughOf p v e))))) in
+    let less : length (select (isPairOf p v) (endsBelow (p .stations) (p .stations))) ≤ length (select differs (endsBelow (p .stations) (p .stations))) =
+    (rw (length-select (isPairOf p v) (endsBelow (p .stations) (p .stations)), length-select differs (endsBelow (p .stations) (p .stations)))
+    (sum-less _ _ (endsBelow (p .stations) (p .stations)) (λ e. at-most (differs e) (ltb 0 (throughOf p v e))))) in
     omega (
       arith,
       less,
-      ltb-false 992 (length (select differs (allEnds (p .stations))))
+      ltb-false 992 (length (select differs (endsBelow (p .stations) (p .stations))))
           (any-false _ (below 33) .0 few-differ (p .stations) (mem-below 33 .1 (omega arith))),
     )
   where
@@ -50,7 +50,7 @@ few-pairs p v h =
     at-most false b = omega arith
 
 small-load : (p : Plan) (v : ℕ) → p .stations ≤ 32 → load p v < 10 ^ 13
-small-load p v h = omega (arith, load-at-most p v, few-pairs p v h)
+small-load p v h = omega (arith, load-at-most p (p .stations) v, few-pairs p v h)
 
 -- ---- lines
 

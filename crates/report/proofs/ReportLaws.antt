@@ -5,7 +5,7 @@ use native.Mathlib.Nat.{zero-add, mul-le-mul}
 use mathlib.Core.Path.{_≡_, refl, sym, ap, ap₂, subst, _∙_}
 use mathlib.Core.Bool.{Bool, true, false, not, cond, _||_}
 use mathlib.Core.List.{List, [], _∷_, _++_, map, flatMap}
-use lib.Dec.{eqb, ltb, lit<}
+use lib.Dec.{eqb, ltb}
 use lib.ListN.{length, getD, drop, length-append}
 use borrow.Author.Tests.{ltb-false}
 use Rattle.temporal.specs.Lists.{from, below}
@@ -14,7 +14,7 @@ use Rattle.temporal.specs.Load.{pairs, load}
 use Rattle.temporal.specs.Bytes.{planOf, records}
 use Rattle.temporal.specs.Cause.{cause, first, unless, planCauses, planFault, tooManyAnywhere, wrongTurnaround}
 use Rattle.temporal.specs.Outcome.{Outcome, over, workSize}
-use Rattle.temporal.specs.OutcomePair.{LoadBuffers, loaded, loads}
+use Rattle.temporal.specs.OutcomePair.{LoadBuffers, partlyLoaded, partialLoads, loads}
 use Rattle.temporal.proofs.BufferLaws.{written, length-made}
 use Rattle.temporal.proofs.CauseLaws.{
   first-true,
@@ -30,11 +30,9 @@ use Rattle.temporal.proofs.CauseLaws.{
 use Rattle.temporal.proofs.EnteredLaws.{unless-some, unless-none, entered-plan}
 use Rattle.temporal.proofs.PlanLaws.{contacts-length}
 use Rattle.plan.specs.Fault.{planNumber, callNumber, faultNumber}
-use Rattle.plan.specs.declared.CallFault.{CallFault}
-use Rattle.plan.specs.declared.CallFault.the-variants as call-fault
 use Rattle.plan.specs.declared.Fault.{Fault}
 use Rattle.plan.specs.declared.Fault.the-variants as fault
-use Rattle.plan.proofs.Answers.{number-positive}
+use Rattle.plan.proofs.Answers.{fault-number-within}
 use Rattle.loads.specs.Answer.{loadBuffers, loadsNumber, loadsOutcome}
 use Rattle.loads.specs.declared.LoadsAnswer.{LoadsAnswer}
 use Rattle.loads.specs.declared.LoadsAnswer.the-variants as loads-answer
@@ -72,20 +70,6 @@ refusal-length k =
 -- it fits the output buffer
 pub refusal-room : (k size : ℕ) → size ≡ 697 → 0 + length (refusalText k) ≤ size
 refusal-room k size e = omega (arith, refusal-length k, decimal-most k)
-
--- no fault has the number 0
-call-positive : (f : CallFault) → 0 < callNumber f
-call-positive call-fault.Station = lit< tt
-call-positive call-fault.SameStation = lit< tt
-call-positive call-fault.Short = lit< tt
-call-positive call-fault.TooMany = lit< tt
-call-positive call-fault.NotShortestPath = lit< tt
-call-positive call-fault.SetByte = lit< tt
-call-positive call-fault.Turnaround = lit< tt
-
-fault-positive : (f : Fault) → 0 < faultNumber f
-fault-positive (fault.Plan f) = number-positive f
-fault-positive (fault.Call f) = call-positive f
 
 -- ---- from a text written at the beginning to the contract
 
@@ -187,11 +171,11 @@ module _ (bs : List ℕ) (n t : ℕ) (out ps ls area : List ℕ) (w : Within bs 
       slots-more : t ≤ 63 → t + 1 ≤ 64
       slots-more h = omega arith
 
-  loaded-number : loaded plan old .number ≡ first (cause 9 (tooManyAnywhere plan) ∷ [])
-  unfolding loaded cause first
+  loaded-number : partlyLoaded plan n old .number ≡ first (cause 9 (tooManyAnywhere plan) ∷ [])
+  unfolding partlyLoaded cause first planOf
   loaded-number = decide (tooManyAnywhere plan) refl
     where
-      decide : (b : Bool) → tooManyAnywhere plan ≡ b → loaded plan old .number ≡ first (cause 9 (tooManyAnywhere plan) ∷ [])
+      decide : (b : Bool) → tooManyAnywhere plan ≡ b → partlyLoaded plan n old .number ≡ first (cause 9 (tooManyAnywhere plan) ∷ [])
       decide true e = rw e
       decide false e = rw e
 
@@ -199,13 +183,13 @@ module _ (bs : List ℕ) (n t : ℕ) (out ps ls area : List ℕ) (w : Within bs 
   unfolding wrongTurnaround
   right = refl
 
-  works : planFault bs n t ≡ 0 → loads bs n t usual old ≡ loaded plan old
+  works : planFault bs n t ≡ 0 → loads bs n t usual old ≡ partlyLoaded plan n old
   works ok =
-      loads-works bs n t usual ps ls area ok right (omega (arith, few-stations, w .pairs-size))
+      loads-works bs n t usual n ps ls area ok right (omega arith) (omega (arith, few-stations, w .pairs-size))
       (omega (arith, few-stations, w .loads-size)) work-room
 
   loads-number : loads bs n t usual old .number ≡ first causes
-  unfolding causes planFault loads
+  unfolding causes planFault partialLoads
   loads-number = decide (planFault bs n t) refl
     where
       decide : (k : ℕ) → planFault bs n t ≡ k → loads bs n t usual old .number ≡ first causes
@@ -240,7 +224,7 @@ module _ (bs : List ℕ) (n t : ℕ) (out ps ls area : List ℕ) (w : Within bs 
   unfolding printed
   printed-by f b answer =
       let e = number-is b (faultNumber f) answer in
-      sym (unless-some (refusalOf bs) _ _ (omega (arith, e, fault-positive f)) ∙ ap refusalText e)
+      sym (unless-some (refusalOf bs) _ _ (omega (arith, e, fault-number-within f)) ∙ ap refusalText e)
 
   -- loads: the tables have the pairs and the loads
   module _ (ps′ ls′ area′ : List ℕ)
@@ -258,15 +242,15 @@ module _ (bs : List ℕ) (n t : ℕ) (out ps ls area : List ℕ) (w : Within bs 
     not-many = first-head 8 (tooManyAnywhere plan) [] (first-append-right (planCauses bs n t) _ none)
 
     tables :
-        loadBuffers ps′ ls′ area′ ≡ loaded plan old .buffers
+        loadBuffers ps′ ls′ area′ ≡ partlyLoaded plan n old .buffers
     tables = ap (λ o. o .buffers) (answer ∙ works no-fault)
 
     pairs-table : ps′ ≡ over (map (pairs plan) (below n)) ps
-    unfolding loaded planOf
+    unfolding partlyLoaded planOf
     pairs-table = ap (λ x. x .pairsTable) tables ∙ rw not-many refl
 
     loads-table : ls′ ≡ over (map (load plan) (below n)) ls
-    unfolding loaded planOf
+    unfolding partlyLoaded planOf
     loads-table = ap (λ x. x .loadTable) tables ∙ rw not-many refl
 
     lines-same : linesOf ps′ ls′ 0 n ≡ flatMap (λ v. line v (pairs plan v) (load plan v)) (below n)

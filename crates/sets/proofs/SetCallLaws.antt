@@ -30,11 +30,11 @@ use Rattle.plan.specs.declared.PlanFault.{PlanFault}
 use Rattle.plan.specs.declared.CallFault.{CallFault}
 use Rattle.plan.specs.declared.CheckAnswer.{CheckAnswer}
 use Rattle.plan.specs.declared.CheckAnswer.the-variants as check-answer
-use Rattle.plan.proofs.Answers.{number-positive}
+use Rattle.plan.proofs.Answers.{number-positive, call-number-within}
 use Rattle.calls.specs.Call.{pairCallFault, callCheckNumber}
 use Rattle.calls.specs.declared.CallCheck.{CallCheck}
 use Rattle.calls.specs.declared.CallCheck.the-variants as call-check
-use Rattle.calls.proofs.CallLaws.{terms-inv, call-free, free-call, call-number-positive}
+use Rattle.calls.proofs.CallLaws.{terms-inv, call-free, free-call}
 use Rattle.entries.proofs.SearchLaws.{any-found, any-pass, any-end, any-start}
 use Rattle.pass.specs.Passed.{waiting, areaSize, Counted, SetReady, SetPassed}
 use Rattle.pass.proofs.SizeLaws.{small-fits, first-part}
@@ -192,7 +192,7 @@ module _ (bs : List ℕ) (n t : ℕ) (terms : Terms) (s z : ℕ) (set area : Lis
       unfolding throughSet entered setCauses pairCallFault work
       set-call f e =
           let number : callNumber f ≡ pairCallFault n t terms s z (length set) n (length area) = ap callCheckNumber (sym e) ∙ answer in
-          let some = call-number-positive f in
+          let some = call-number-within f .0 in
           let first-there = first-append-some _ (cause 11 (wrongSet n set) ∷ []) (subst (λ k. 0 < k) number some) in
           ap (refusedWith 0 area work) (number ∙ sym first-there) ∙
           sym (entered-call 0 area work bs n t _ ok ∙ unless-some _ _ _ (omega arith))

@@ -1,4 +1,4 @@
--- All sources: the tallies at the beginning, the loop over sources, and the tallies at its end.
+-- The sources below k: the tallies at the beginning, the loop over sources, and the tallies at its end.
 -- Assumes nothing.
 use Prim.Native.Nat.{ℕ, _+_, _-_, _*_, _<_, _≤_, min}
 use mathlib.Core.Path.{_≡_, refl, sym, ap, _∙_, subst}
@@ -12,7 +12,7 @@ use lib.ListN.{length, getD, drop}
 use Rattle.temporal.specs.Plan.{Terms}
 use Rattle.temporal.specs.Lists.{below}
 use Rattle.temporal.specs.Bytes.{planOf}
-use Rattle.temporal.specs.Cause.{tooMany, tooManyAnywhere}
+use Rattle.temporal.specs.Cause.{tooMany, tooManyBelow}
 use Rattle.temporal.specs.Outcome.{workSize}
 use Rattle.temporal.proofs.Accepted.{accepted}
 use Rattle.temporal.proofs.ListLaws.{any-true, any-false, mem-below}
@@ -31,12 +31,12 @@ use Rattle.tallies.proofs.Sizes.{base-fits, block-some}
 -- ---- the sizes
 
 -- the block and the base that are computed are those that are named
-pub all-ready : (bs : List ℕ) (n t : ℕ) (terms : Terms) (base block q : ℕ) (w : List ℕ) → Tallyable bs n t terms w
+pub all-ready : (bs : List ℕ) (n t : ℕ) (terms : Terms) (k base block q : ℕ) (w : List ℕ) → Tallyable bs n t terms k w
     → q ≡ waiting t terms → block ≡ mostColumns n (4 * (t + 1) - 2) q
     → base ≡ tallyBase n t terms
-    → AllReady bs n t terms base block w
+    → AllReady bs n t terms k base block w
 unfolding blockOf
-all-ready bs n t terms base block q w asked is e f =
+all-ready bs n t terms k base block q w asked is e f =
     record { asked = asked; block-there = e ∙ ap (mostColumns n (4 * (t + 1) - 2)) is; base-there = f }
 
 -- where the tallies begin is a small number, and so are those that it is made of
@@ -58,13 +58,13 @@ base-there n t terms q block is e = rw (e, is)
 -- ---- the loop over sources
 
 -- the sources below s are done, and no count from one of them is over 2^64 - 1
-pub record Summing (bs : List ℕ) (n t : ℕ) (terms : Terms) (base : ℕ) (old : List ℕ) (s : ℕ) (w : List ℕ) : Type 0 where
-  pub within : s ≤ n
+pub record Summing (bs : List ℕ) (n t : ℕ) (terms : Terms) (k base : ℕ) (old : List ℕ) (s : ℕ) (w : List ℕ) : Type 0 where
+  pub within : s ≤ k
   pub few : (a : ℕ) → a < s → tooMany (planOf bs n t terms) a ≡ false
   pub summed : (v : ℕ) → v < n → TallyEntry (planOf bs n t terms) n base s v 0 w
   pub kept : Kept n base old w
 
-module _ (bs : List ℕ) (n t : ℕ) (terms : Terms) (base block : ℕ) (old : List ℕ) (pre : AllReady bs n t terms base block old) where
+module _ (bs : List ℕ) (n t : ℕ) (terms : Terms) (k base block : ℕ) (old : List ℕ) (pre : AllReady bs n t terms k base block old) where
   pub all-room : base + 2 * n ≤ length old
   all-room =
       let a = accepted bs n t (pre .asked .accepted) in
@@ -72,12 +72,13 @@ module _ (bs : List ℕ) (n t : ℕ) (terms : Terms) (base block : ℕ) (old : L
       let f = pre .asked .fits in
       omega (arith, base-fits n t terms (a .some-slot))
 
-  pub all-cleared : (w : List ℕ) → w ≡ filled old base (2 * n) 0 → AllReady bs n t terms base block w
+  pub all-cleared : (w : List ℕ) → w ≡ filled old base (2 * n) 0 → AllReady bs n t terms k base block w
   all-cleared w e =
       record {
         asked =
             record {
               accepted = pre .asked .accepted;
+              sources = pre .asked .sources;
               turns = pre .asked .turns;
               fits = let f = pre .asked .fits in omega (arith, ap length e, filled-length old base (2 * n) 0);
             };
@@ -86,7 +87,7 @@ module _ (bs : List ℕ) (n t : ℕ) (terms : Terms) (base block : ℕ) (old : L
       }
 
   -- cleared tallies hold the sums over no source
-  pub summing-none : (w : List ℕ) → w ≡ filled old base (2 * n) 0 → Summing bs n t terms base w 0 w
+  pub summing-none : (w : List ℕ) → w ≡ filled old base (2 * n) 0 → Summing bs n t terms k base w 0 w
   summing-none w e =
       let p = planOf bs n t terms in
       record {
@@ -106,13 +107,13 @@ module _ (bs : List ℕ) (n t : ℕ) (terms : Terms) (base block : ℕ) (old : L
       zero-at i h = ap (λ l. getD l (base + i) 0) e ∙ filled-at old base (2 * n) 0 i h all-room
 
   kept-work : (w : List ℕ) → Kept n base old w → drop (workSize n t) w ≡ drop (workSize n t) old
-  kept-work w k =
+  kept-work w kept =
       let a = accepted bs n t (pre .asked .accepted) in
       let e = pre .base-there in
-      later-drop (base + 2 * n) (workSize n t) w old (omega (arith, base-fits n t terms (a .some-slot))) (k .beyond)
+      later-drop (base + 2 * n) (workSize n t) w old (omega (arith, base-fits n t terms (a .some-slot))) (kept .beyond)
 
-  module _ (s : ℕ) (w : List ℕ) (f : Summing bs n t terms base old s w) where
-    pub summing-ready : s < n → SourceReady bs n t terms base block s w
+  module _ (s : ℕ) (w : List ℕ) (f : Summing bs n t terms k base old s w) where
+    pub summing-ready : s < k → SourceReady bs n t terms base block s w
     unfolding tallyBase blockOf
     summing-ready h =
         let a = accepted bs n t (pre .asked .accepted) in
@@ -121,7 +122,7 @@ module _ (bs : List ℕ) (n t : ℕ) (terms : Terms) (base block : ℕ) (old : L
         let there : areaSize n (waiting t terms) block ≤ base = rw (e, pre .base-there) (omega arith) in
         record {
           accepted = pre .asked .accepted;
-          source = h;
+          source = let few = pre .asked .sources in omega arith;
           turns = pre .asked .turns;
           some-block = omega arith;
           area = there;
@@ -134,20 +135,20 @@ module _ (bs : List ℕ) (n t : ℕ) (terms : Terms) (base block : ℕ) (old : L
           summed = f .summed;
         }
 
-    pub summing-over : s < n → (x : List ℕ) → SourceDone bs n t terms base s w x true → Tallied bs n t terms old x true
-    unfolding tooManyAnywhere planOf
+    pub summing-over : s < k → (x : List ℕ) → SourceDone bs n t terms base s w x true → Tallied bs n t terms k old x true
+    unfolding tooManyBelow planOf
     summing-over h x d =
-        let k = kept-over n base (f .kept) (d .kept) in
+        let kept = kept-over n base (f .kept) (d .kept) in
         record {
           too-many =
-              sym (any-true (tooMany (planOf bs n t terms)) (below n) .1 (s, mem-below n .1 h, sym (d .too-many)));
+              sym (any-true (tooMany (planOf bs n t terms)) (below k) .1 (s, mem-below k .1 h, sym (d .too-many)));
           station-pairs = λ e. absurd (let z : _≡_ {A = ℕ} 0 1 = cc in omega arith);
           station-loads = λ e. absurd (let z : _≡_ {A = ℕ} 0 1 = cc in omega arith);
-          beyond = kept-work x k;
-          same-length = k .same-length;
+          beyond = kept-work x kept;
+          same-length = kept .same-length;
         }
 
-    pub summing-more : s < n → (x : List ℕ) → SourceDone bs n t terms base s w x false → Summing bs n t terms base old (s + 1) x
+    pub summing-more : s < k → (x : List ℕ) → SourceDone bs n t terms base s w x false → Summing bs n t terms k base old (s + 1) x
     summing-more h x d =
         record {
           within = omega arith;
@@ -157,24 +158,24 @@ module _ (bs : List ℕ) (n t : ℕ) (terms : Terms) (base block : ℕ) (old : L
           kept = kept-over n base (f .kept) (d .kept);
         }
 
-    pub summing-all : n ≤ s → Tallied bs n t terms old w false
-    unfolding tooManyAnywhere planOf
+    pub summing-all : k ≤ s → Tallied bs n t terms k old w false
+    unfolding tooManyBelow planOf
     summing-all h =
         let p = planOf bs n t terms in
-        let all : s ≡ n = let g = f .within in omega arith in
+        let all : s ≡ k = let g = f .within in omega arith in
         let entries = subst (λ y. (v : ℕ) → v < n → TallyEntry p n base y v 0 w) all (f .summed) in
         record {
           too-many =
-              sym (any-false (tooMany p) (below n) .1 (λ a m. f .few a (let g = mem-below n .0 m in omega arith)));
-          station-pairs = λ e v g. rw (← pre .base-there) (entries v g .pairs-there ∙ sym (pairs-partly p v));
-          station-loads = λ e v g. rw (← pre .base-there) (entries v g .load-there ∙ sym (load-partly p v));
+              sym (any-false (tooMany p) (below k) .1 (λ a m. f .few a (let g = mem-below k .0 m in omega arith)));
+          station-pairs = λ e v g. rw (← pre .base-there) (entries v g .pairs-there ∙ sym (pairs-partly p k v));
+          station-loads = λ e v g. rw (← pre .base-there) (entries v g .load-there ∙ sym (load-partly p k v));
           beyond = kept-work w (f .kept);
           same-length = f .kept .same-length;
         }
 
   -- what is promised of the cleared list is promised of the list before
   pub tallied-cleared :
-      (w x : List ℕ) (r : Bool) → w ≡ filled old base (2 * n) 0 → Tallied bs n t terms w x r → Tallied bs n t terms old x r
+      (w x : List ℕ) (r : Bool) → w ≡ filled old base (2 * n) 0 → Tallied bs n t terms k w x r → Tallied bs n t terms k old x r
   tallied-cleared w x r e d =
       let same = ap length e ∙ filled-length old base (2 * n) 0 in
       record {

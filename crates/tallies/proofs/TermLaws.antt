@@ -16,53 +16,37 @@ use Rattle.temporal.specs.Bytes.{planOf}
 use Rattle.temporal.specs.Cause.{planFault}
 use Rattle.temporal.specs.Shortest.{shortestPaths, hops, through, count}
 use Rattle.temporal.specs.Walk.{isInterior}
-use Rattle.temporal.specs.Load.{Ends, allEnds, isPairOf, pairsOf, pairs, share, load}
-use Rattle.temporal.proofs.ListLaws.{sum-ext, length-select, select-none, length-below, not-true-false}
+use Rattle.temporal.specs.Load.{Ends, endsBelow, isPairOf, partialPairs, share, partialLoad}
+use Rattle.temporal.proofs.ListLaws.{select-none, length-below, not-true-false}
 use Rattle.temporal.proofs.ShortestLaws.{hops-bound}
 use Rattle.temporal.proofs.PathLaws.{interior-inv}
 use Rattle.temporal.proofs.PlanLaws.{slots-within}
 use Rattle.temporal.proofs.Accepted.{accepted}
 use Rattle.temporal.proofs.Adequacy.{bounded-paths}
 use Rattle.counting.proofs.ExactSum.{sum-at-most, share-at-most}
-use Rattle.counting.proofs.SumLaws.{sum-flatMap, sum-below-suc}
+use Rattle.counting.proofs.SumLaws.{sum-below-suc}
+use Rattle.counting.proofs.PartialLaws.{overDestinations, sum-ends, pairs-summed, load-summed}
 use Rattle.tallies.specs.Progress.{ends, pairTerm, loadTerm, partly}
-
--- the sum over a selection is the sum over the whole list, with 0 for what is not selected
-sum-select : {A : Type 0} (f : A → ℕ) (t : A → Bool) (l : List A)
-    → sum (map f (select t l)) ≡ sum (map (λ x. cond (t x) (f x) 0) l)
-unfolding select sum
-sum-select f t [] = refl
-sum-select f t (x ∷ l) = rw (← sum-select f t l) (step (t x))
-  where
-    step : (c : Bool) → sum (map f (cond c (x ∷ select t l) (select t l))) ≡ cond c (f x) 0 + sum (map f (select t l))
-    step true = refl
-    step false = omega arith
 
 -- nothing more is summed up where there are no destinations
 none-more : (x : ℕ) (g : ℕ → ℕ) → x ≡ x + sum (map g (below 0))
 unfolding sum below from
 none-more x g = omega arith
 
--- a sum over all ordered pairs is a sum over sources of sums over destinations
-sum-ends : (f : Ends → ℕ) (n : ℕ) → sum (map f (allEnds n)) ≡ partly (λ s z. f (ends s z)) n n 0
-unfolding allEnds partly
-sum-ends f n =
-    sum-flatMap f (λ s. map (ends s) (below n)) (below n)
-    ∙ sum-ext (below n) (λ s m. ap sum (map-map f (ends s) (below n)))
-    ∙ none-more _ (λ z. f (ends n z))
+-- a sum over the ordered pairs whose source is below k, when these sources are done
+ends-partly : (f : Ends → ℕ) (k n : ℕ) → sum (map f (endsBelow k n)) ≡ partly (λ s z. f (ends s z)) n k 0
+unfolding partly overDestinations
+ends-partly f k n = sum-ends f k n ∙ none-more _ (λ z. f (ends k z))
 
 -- the pairs of a station, summed up
-pub pairs-partly : (p : Plan) (v : ℕ) → pairs p v ≡ partly (pairTerm p v) (p .stations) (p .stations) 0
-unfolding pairs pairsOf pairTerm
-pairs-partly p v =
-    length-select (isPairOf p v) (allEnds (p .stations)) ∙ sum-ends (λ e. cond (isPairOf p v e) 1 0) (p .stations)
+pub pairs-partly : (p : Plan) (k v : ℕ) → partialPairs p k v ≡ partly (pairTerm p v) (p .stations) k 0
+unfolding pairTerm
+pairs-partly p k v = pairs-summed p v k ∙ ends-partly (λ e. cond (isPairOf p v e) 1 0) k (p .stations)
 
 -- the load of a station, summed up
-pub load-partly : (p : Plan) (v : ℕ) → load p v ≡ partly (loadTerm p v) (p .stations) (p .stations) 0
-unfolding load pairsOf loadTerm
-load-partly p v =
-    sum-select (share p v) (isPairOf p v) (allEnds (p .stations))
-    ∙ sum-ends (λ e. cond (isPairOf p v e) (share p v e) 0) (p .stations)
+pub load-partly : (p : Plan) (k v : ℕ) → partialLoad p k v ≡ partly (loadTerm p v) (p .stations) k 0
+unfolding loadTerm
+load-partly p k v = load-summed p v k ∙ ends-partly (λ e. cond (isPairOf p v e) (share p v e) 0) k (p .stations)
 
 module _ (f : ℕ → ℕ → ℕ) (n s : ℕ) where
   -- one destination more

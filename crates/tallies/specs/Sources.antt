@@ -1,4 +1,4 @@
--- What the functions of the tallies ask and promise that work on a block of stations, a source, and all sources.
+-- What the functions of the tallies ask and promise that work on a block of stations, a source, and the sources below k.
 -- Definitions only.
 -- Assumes nothing.
 use Prim.Native.Nat.{ℕ, _+_, _<_, _≤_}
@@ -44,8 +44,8 @@ pub record SourceDone (bs : List ℕ) (n t : ℕ) (terms : Terms) (base s : ℕ)
   pub summed : r ≡ false → (v : ℕ) → v < n → TallyEntry (planOf bs n t terms) n base (s + 1) v 0 new
   pub kept : Kept n base old new
 
--- what all sources ask: what the tallies ask, with their block and base
-pub record AllReady (bs : List ℕ) (n t : ℕ) (terms : Terms) (base block : ℕ) (work : List ℕ) : Type 0 where
-  pub asked : Tallyable bs n t terms work
+-- what the sources below k ask: what the tallies ask, with their block and base
+pub record AllReady (bs : List ℕ) (n t : ℕ) (terms : Terms) (k base block : ℕ) (work : List ℕ) : Type 0 where
+  pub asked : Tallyable bs n t terms k work
   pub block-there : block ≡ blockOf n t terms
   pub base-there : base ≡ tallyBase n t terms

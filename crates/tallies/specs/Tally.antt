@@ -1,4 +1,5 @@
--- What the tallies ask and what they promise: the pairs and the load of every station, or that a count is over 2^64 - 1.
+-- What the tallies ask and what they promise: the pairs and the load of every station over the sources below k, or that a count
+-- from one of them is over 2^64 - 1.
 -- Definitions only.
 -- Assumes nothing.
 use Prim.Native.Nat.{ℕ, _+_, _-_, _*_, _<_, _≤_}
@@ -8,8 +9,8 @@ use mathlib.Core.List.{List}
 use lib.ListN.{length, getD, drop}
 use Rattle.temporal.specs.Plan.{Terms}
 use Rattle.temporal.specs.Bytes.{planOf}
-use Rattle.temporal.specs.Cause.{planFault, tooManyAnywhere}
-use Rattle.temporal.specs.Load.{pairs, load}
+use Rattle.temporal.specs.Cause.{planFault, tooManyBelow}
+use Rattle.temporal.specs.Load.{partialPairs, partialLoad}
 use Rattle.temporal.specs.Outcome.{workSize}
 use Rattle.pass.specs.Passed.{waiting, areaSize, mostColumns}
 
@@ -21,17 +22,18 @@ blockOf n t terms = mostColumns n (4 * (t + 1) - 2) (waiting t terms)
 unfoldable pub tallyBase : ℕ → ℕ → Terms → ℕ
 tallyBase n t terms = areaSize n (waiting t terms) (blockOf n t terms)
 
--- what the tallies ask: an accepted plan, a turnaround and a work area that is long enough
-pub record Tallyable (bs : List ℕ) (n t : ℕ) (terms : Terms) (work : List ℕ) : Type 0 where
+-- what the tallies ask: an accepted plan, a turnaround, sources that are stations, and a work area that is long enough
+pub record Tallyable (bs : List ℕ) (n t : ℕ) (terms : Terms) (k : ℕ) (work : List ℕ) : Type 0 where
   pub accepted : planFault bs n t ≡ 0
+  pub sources : k ≤ n
   pub turns : 0 < terms .turnaround
   pub fits : workSize n t ≤ length work
 
--- What the tallies promise: whether a count from some source is over 2^64 - 1, exactly; where none is, the pairs and the
--- load of every station; and that nothing past the named part of the work area is touched.
-pub record Tallied (bs : List ℕ) (n t : ℕ) (terms : Terms) (old new : List ℕ) (r : Bool) : Type 0 where
-  pub too-many : r ≡ tooManyAnywhere (planOf bs n t terms)
-  pub station-pairs : r ≡ false → (v : ℕ) → v < n → getD new (tallyBase n t terms + v) 0 ≡ pairs (planOf bs n t terms) v
-  pub station-loads : r ≡ false → (v : ℕ) → v < n → getD new (tallyBase n t terms + n + v) 0 ≡ load (planOf bs n t terms) v
+-- What the tallies promise: whether a count from a source below k is over 2^64 - 1, exactly; where none is, the pairs and the
+-- load of every station over these sources; and that nothing past the named part of the work area is touched.
+pub record Tallied (bs : List ℕ) (n t : ℕ) (terms : Terms) (k : ℕ) (old new : List ℕ) (r : Bool) : Type 0 where
+  pub too-many : r ≡ tooManyBelow (planOf bs n t terms) k
+  pub station-pairs : r ≡ false → (v : ℕ) → v < n → getD new (tallyBase n t terms + v) 0 ≡ partialPairs (planOf bs n t terms) k v
+  pub station-loads : r ≡ false → (v : ℕ) → v < n → getD new (tallyBase n t terms + n + v) 0 ≡ partialLoad (planOf bs n t terms) k v
   pub beyond : drop (workSize n t) new ≡ drop (workSize n t) old
   pub same-length : length new ≡ length old

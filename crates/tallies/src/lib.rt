@@ -1,4 +1,4 @@
-// Adds up, over all sources, every station's pairs and load. Everything lives in a lent work area: the pass's part first,
+// Adds up, over the sources below k, every station's pairs and load. Everything lives in a lent work area: the pass's part first,
 // behind it the pairs of the stations, then their loads.
 ghost use mathlib.Core.Path.{_≡_};
 ghost use Prim.Native.Nat.{_+_, _*_, _<_, _≤_, min};
@@ -114,22 +114,23 @@ fn tally_source(
     false
 }
 
-// Works on all sources, from cleared tallies on. True where a count is over 2^64 - 1.
+// Works on the sources below k, from cleared tallies on. True where a count is over 2^64 - 1.
 fn tally_sources(
     work: &mut [u64],
     plan: &[u8],
     n: usize,
     t: usize,
     g: usize,
+    k: usize,
     base: usize,
     block: usize,
 ) -> bool
-    requires { ⌜ AllReady (now plan) n t (turning g) base block (now work) ⌝ }
-    ensures { λ r. ⌜ Tallied (now (plan .entry)) n t (turning g) (now (work .entry)) (now (work .exit)) r ⌝ }
+    requires { ⌜ AllReady (now plan) n t (turning g) k base block (now work) ⌝ }
+    ensures { λ r. ⌜ Tallied (now (plan .entry)) n t (turning g) k (now (work .entry)) (now (work .exit)) r ⌝ }
 {
     memory::fill_part(work, base, 2 * n, 0);
     let mut source = 0;
-    while source < n {
+    while source < k {
         if tally_source(work, plan, n, t, g, base, block, source) {
             return true;
         }
@@ -148,13 +149,13 @@ pub fn base_of(n: usize, t: usize, g: usize) -> usize
     (1 + q) * (2 * n + n * block)
 }
 
-// Adds up the pairs and the load of every station over all sources. True where a count is over 2^64 - 1.
-pub fn tally(work: &mut [u64], plan: &[u8], n: usize, t: usize, g: usize) -> bool
-    requires { ⌜ Tallyable (now plan) n t (turning g) (now work) ⌝ }
-    ensures { λ r. ⌜ Tallied (now (plan .entry)) n t (turning g) (now (work .entry)) (now (work .exit)) r ⌝ }
+// Adds up the pairs and the load of every station over the sources below k. True where a count is over 2^64 - 1.
+pub fn tally(work: &mut [u64], plan: &[u8], n: usize, t: usize, g: usize, k: usize) -> bool
+    requires { ⌜ Tallyable (now plan) n t (turning g) k (now work) ⌝ }
+    ensures { λ r. ⌜ Tallied (now (plan .entry)) n t (turning g) k (now (work .entry)) (now (work .exit)) r ⌝ }
 {
     let q = pass::smaller(g, t);
     let block = pass::most_columns(n, 4 * (t + 1) - 2, q);
     let base = base_of(n, t, g);
-    tally_sources(work, plan, n, t, g, base, block)
+    tally_sources(work, plan, n, t, g, k, base, block)
 }

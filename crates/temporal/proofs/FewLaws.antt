@@ -11,7 +11,7 @@ use Rattle.temporal.specs.Lists.{below, sum, select, tuples}
 use Rattle.temporal.specs.Plan.{Plan}
 use Rattle.temporal.specs.Walk.{isWalk, isPath}
 use Rattle.temporal.specs.Shortest.{orElse, firstNonempty, ofHops, shortest, shortestWalks, shortestPaths, count}
-use Rattle.temporal.specs.Cause.{appearanceTooMany, stationTooMany, tooMany, tooManyAnywhere}
+use Rattle.temporal.specs.Cause.{appearanceTooMany, stationTooMany, tooMany, tooManyBelow, tooManyAnywhere}
 use Rattle.temporal.proofs.ListLaws.{any-false}
 
 -- how many lists of positions there are with as many hops as a walk can have
@@ -71,5 +71,5 @@ module _ (p : Plan) (few : mostLists p ≤ 18446744073709551615) where
       rw (appearances, stations)
 
   pub few-anywhere : tooManyAnywhere p ≡ false
-  unfolding tooManyAnywhere
+  unfolding tooManyBelow
   few-anywhere = any-false (tooMany p) (below (p .stations)) .1 (λ s m. few-walks s)

@@ -2,12 +2,12 @@
 -- the sum differ, a set of two stations on one path, a set of the destination, turnarounds,
 -- shortest foremost paths; and which of 9 and 11 is told.
 -- Assumes nothing.
-use Prim.Native.Nat.{ℕ}
+use Prim.Native.Nat.{ℕ, _+_}
 use mathlib.Core.Path.{_≡_, refl}
 use mathlib.Core.Bool.{true, _||_}
 use mathlib.Core.List.{List, [], _∷_, map, flatMap}
 use mathlib.Core.Option.{bind}
-use lib.Dec.{eqb}
+use lib.Dec.{leb, ltb, eqb}
 use Rattle.temporal.specs.Lists.{from, below, sum, product, select, any, firstWhere, member, distinct, tuples}
 use Rattle.temporal.specs.Plan.{Contact, Plan, Terms, turning, leadsTo, mayFollow}
 use Rattle.temporal.specs.Walk.{along, step, run, lastOr, holds, endsIn, isWalk, isPath, isInterior}
@@ -16,10 +16,11 @@ use Rattle.temporal.specs.Shortest.{hops, count, through}
 use Rattle.temporal.specs.Foremost.{arrival, foremostPaths}
 use Rattle.temporal.specs.OutcomeForemost.{foremostThrough}
 use Rattle.temporal.specs.Set.{touches, touched}
-use Rattle.temporal.specs.Load.{allEnds, pairsOf, share, load}
-use Rattle.temporal.specs.Bytes.{planOf}
-use Rattle.temporal.specs.Cause.{cause, first, unless, planCauses, planFault, wrongTurnaround, pairCauses, tooMany}
+use Rattle.temporal.specs.Load.{endsBelow, pairsBelow, partialPairs, share, partialLoad, load, restOfPairs, restOfLoad}
+use Rattle.temporal.specs.Bytes.{records, planOf}
+use Rattle.temporal.specs.Cause.{cause, first, unless, outside, wrongLength, planCauses, planFault, wrongTurnaround, pairCauses, tooMany}
 use Rattle.temporal.specs.Outcome.{entered, short, workSize}
+use Rattle.temporal.specs.OutcomePair.{partialLoads}
 use Rattle.temporal.specs.OutcomeSet.{wrongSet, setCauses, setCounted, throughSet}
 use Rattle.temporal.proofs.CauseLaws.{first-append-none}
 
@@ -51,8 +52,44 @@ foremostTold p s z = arrival p s z ∷ hops (foremostPaths p s z) ∷ count (for
 
 -- Station 2 has two pairs, 2 of 3 paths of each: twice the whole part of 2^33 / 3 (P9).
 load-of-two-pairs : load outwardA 2 ≡ 5726623060
-unfolding outwardA from below sum product select any member distinct tuples leadsTo mayFollow along step run lastOr holds isPath isInterior orElse firstNonempty ofHops shortest shortestPaths through allEnds pairsOf share load flatMap bind
+unfolding outwardA from below sum product select any member distinct tuples leadsTo mayFollow along step run lastOr holds isPath isInterior orElse firstNonempty ofHops shortest shortestPaths through endsBelow pairsBelow share partialLoad flatMap bind
 load-of-two-pairs = refl
+
+-- Station 3 has three pairs, with the sources 0, 1 and 2 and the destination 4, and all their paths go through it: with k sources
+-- worked on it has the pairs of those (document 02, C-18).
+partial-loads-of-one-station :
+    flatMap (λ k. partialPairs outwardA k 3 ∷ partialLoad outwardA k 3 ∷ []) (0 ∷ 1 ∷ 2 ∷ 3 ∷ 5 ∷ []) ≡
+    0 ∷ 0 ∷ 1 ∷ 4294967296 ∷ 2 ∷ 8589934592 ∷ 3 ∷ 12884901888 ∷ 3 ∷ 12884901888 ∷ []
+unfolding outwardA from below sum product select any member distinct tuples leadsTo mayFollow along step run lastOr holds isPath isInterior orElse firstNonempty ofHops shortest shortestPaths through endsBelow pairsBelow partialPairs share partialLoad flatMap bind
+partial-loads-of-one-station = refl
+
+-- the one pair of station 1 has the last source
+backwards : Plan
+backwards =
+    record {
+      stations = 3;
+      slots = 2;
+      contacts = record { slot = 1; sender = 2; hearer = 1 } ∷ record { slot = 2; sender = 1; hearer = 0 } ∷ [];
+      terms = turning 1;
+    }
+
+-- Without the last source it has no load, and what the bound leaves open covers the load that it has with it.
+rest-of-last-source :
+    leb (load backwards 1) (partialLoad backwards 2 1 + restOfLoad 3 2) ∷ ltb 0 (load backwards 1) ∷
+    eqb (partialLoad backwards 2 1) 0 ∷ [] ≡
+    true ∷ true ∷ true ∷ []
+unfolding backwards from below sum product select any member distinct tuples leadsTo mayFollow along step run lastOr holds isPath isInterior orElse firstNonempty ofHops shortest shortestPaths through endsBelow pairsBelow share partialLoad restOfPairs restOfLoad flatMap bind
+rest-of-last-source = refl
+
+-- 13 is told above n alone, after 12 and before 8 (document 02, C-18).
+thirteen-before-eight :
+    map (λ k. partialLoads [] 3 1 (turning 1) k (record { pairsTable = []; loadTable = []; work = [] }) .number)
+    (0 ∷ 2 ∷ 3 ∷ 4 ∷ 65536 ∷ []) ∷
+    map (λ k. partialLoads [] 3 1 (turning 17) k (record { pairsTable = []; loadTable = []; work = [] }) .number)
+    (3 ∷ 4 ∷ []) ∷ [] ≡
+    (8 ∷ 8 ∷ 8 ∷ 13 ∷ 13 ∷ []) ∷ (12 ∷ 12 ∷ []) ∷ []
+unfolding from below any records wrongLength outside planCauses wrongTurnaround cause first unless entered partialLoads flatMap
+thirteen-before-eight = refl
 
 -- Of the three shortest paths from 0 to 4 all go through station 3 and two of them through station 2 too: each counts once.
 set-of-two : touched outwardA 0 4 (λ v. eqb v 2 || eqb v 3) ≡ 3

@@ -13,7 +13,7 @@ use Rattle.temporal.specs.Plan.{Plan, Appearance, start}
 use Rattle.temporal.specs.Walk.{step, holds, endsIn, isAt, isAppearance, isWalk, isPath}
 use Rattle.temporal.specs.Shortest.{firstNonempty, ofHops, shortest, shortestWalks, shortestPaths}
 use Rattle.temporal.specs.Shortest.{count, throughIn, through}
-use Rattle.temporal.specs.Load.{Ends, allEnds, pairsOf, pairs, share, load}
+use Rattle.temporal.specs.Load.{Ends, endsBelow, pairsBelow, partialPairs, pairs, share, partialLoad, load}
 use Rattle.temporal.proofs.ListLaws.{select-append, select-none, select-select}
 use Rattle.temporal.proofs.PathLaws.{path-is-walk}
 use Rattle.temporal.proofs.WalkLaws.{ends-cons, ends-inv, ends-intro, ends-nil}
@@ -140,7 +140,7 @@ pairsBy p P v =
     select
     (λ e. not (eqb (e .source) (e .destination)) &&
     ltb 0 (throughIn p (e .source) (e .destination) (P (e .source) (e .destination)) v))
-    (allEnds (p .stations))
+    (endsBelow (p .stations) (p .stations))
 
 unfoldable pub loadBy : Plan → (ℕ → ℕ → List (List ℕ)) → ℕ → ℕ
 loadBy p P v =
@@ -151,9 +151,9 @@ loadBy p P v =
     (pairsBy p P v))
 
 pub pairs-by : (p : Plan) (v : ℕ) → pairs p v ≡ length (pairsBy p (grownPaths p) v)
-unfolding pairs pairsOf through pairsBy
+unfolding partialPairs pairsBelow through pairsBy
 pairs-by p v = ap (λ P. length (pairsBy p P v)) (paths-grown p)
 
 pub load-by : (p : Plan) (v : ℕ) → load p v ≡ loadBy p (grownPaths p) v
-unfolding load share pairsOf through pairsBy loadBy
+unfolding partialLoad share pairsBelow through pairsBy loadBy
 load-by p v = ap (λ P. loadBy p P v) (paths-grown p)

@@ -1,4 +1,4 @@
--- The causes of refusal, 1 to 9, in the order of document 01, and document 02's 12. (10 is about an offered list: Cursor.)
+-- The causes of refusal, 1 to 9, in the order of document 01, and document 02's 12 and 13. (10 is about an offered list: Cursor.)
 -- Definitions only.
 -- Assumes nothing.
 use Prim.Native.Nat.{ℕ, zero, suc, _+_, _-_, _%_, _^_}
@@ -69,6 +69,10 @@ planFault bs n t = first (planCauses bs n t)
 unfoldable pub wrongTurnaround : Terms → Bool
 wrongTurnaround terms = eqb (terms .turnaround) 0 || ltb 16 (terms .turnaround)
 
+-- 13: more sources are to be worked on than there are stations (document 02, C-18)
+abbrev pub wrongSources : ℕ → ℕ → Bool
+wrongSources n k = ltb n k
+
 -- 12, 6, 7, 8 of a call that names a pair; the Boolean says that something lent is too short
 unfoldable pub pairCauses : Terms → ℕ → ℕ → ℕ → Bool → List ℕ
 pairCauses terms n s z short =
@@ -91,6 +95,9 @@ stationTooMany p s = any (λ v. ltb (2 ^ 64 - 1) (count (shortestPaths p s v))) 
 unfoldable pub tooMany : Plan → ℕ → Bool
 tooMany p s = appearanceTooMany p s || stationTooMany p s
 
--- 9 of an operation that works on every source
-unfoldable pub tooManyAnywhere : Plan → Bool
-tooManyAnywhere p = any (tooMany p) (below (p .stations))
+-- 9 of an operation that works on the sources below k, and of one that works on every source
+unfoldable pub tooManyBelow : Plan → ℕ → Bool
+tooManyBelow p k = any (tooMany p) (below k)
+
+abbrev pub tooManyAnywhere : Plan → Bool
+tooManyAnywhere p = tooManyBelow p (p .stations)

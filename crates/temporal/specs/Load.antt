@@ -1,6 +1,6 @@
 -- Pairs, shares and loads. Definitions only.
 -- Assumes nothing.
-use Prim.Native.Nat.{ℕ, _+_, _*_, _/_, _^_, _<_, _≤_}
+use Prim.Native.Nat.{ℕ, _+_, _-_, _*_, _/_, _^_, _<_, _≤_}
 use mathlib.Core.Path.{_≡_}
 use mathlib.Core.Bool.{Bool, not, _&&_}
 use mathlib.Core.List.{List, map, flatMap}
@@ -15,9 +15,9 @@ pub record Ends : Type 0 where
   pub source : ℕ
   pub destination : ℕ
 
--- all ordered pairs of two stations of n, two equal ones too
-unfoldable pub allEnds : ℕ → List Ends
-allEnds n = flatMap (λ s. map (λ z. record { source = s; destination = z }) (below n)) (below n)
+-- all ordered pairs of two stations of n, two equal ones too, whose source is below k
+unfoldable pub endsBelow : ℕ → ℕ → List Ends
+endsBelow k n = flatMap (λ s. map (λ z. record { source = s; destination = z }) (below n)) (below k)
 
 -- how many shortest paths a pair has, and how many of them have v inside
 abbrev pub countOf : Plan → Ends → ℕ
@@ -30,13 +30,20 @@ throughOf p v e = through p (e .source) (e .destination) v
 abbrev pub isPairOf : Plan → ℕ → Ends → Bool
 isPairOf p v e = not (eqb (e .source) (e .destination)) && ltb 0 (throughOf p v e)
 
--- Document 01's pairs of a station v: the ordered pairs s ≠ z with v inside some least way.
-unfoldable pub pairsOf : Plan → ℕ → List Ends
-pairsOf p v = select (isPairOf p v) (allEnds (p .stations))
+-- Document 01's pairs of a station v, the ordered pairs s ≠ z with v inside some least way: those whose source is below k
+-- (document 02, C-18). Where k is the number of stations these are all of them.
+unfoldable pub pairsBelow : Plan → ℕ → ℕ → List Ends
+pairsBelow p k v = select (isPairOf p v) (endsBelow k (p .stations))
 
--- how many pairs a station has
-unfoldable pub pairs : Plan → ℕ → ℕ
-pairs p v = length (pairsOf p v)
+abbrev pub pairsOf : Plan → ℕ → List Ends
+pairsOf p v = pairsBelow p (p .stations) v
+
+-- how many pairs a station has whose source is below k, and how many it has
+unfoldable pub partialPairs : Plan → ℕ → ℕ → ℕ
+partialPairs p k v = length (pairsBelow p k v)
+
+abbrev pub pairs : Plan → ℕ → ℕ
+pairs p v = partialPairs p (p .stations) v
 
 -- Document 01's share: the whole part of 2^32 × through ÷ count. Numbers have no limit here. (Document 002, Def. 2.3, has
 -- the sum of sigma_sz(v) / sigma_sz; its factor 1 / (n (n - 1)) is left out.)
@@ -44,8 +51,20 @@ unfoldable pub share : Plan → ℕ → Ends → ℕ
 share p v e = 2 ^ 32 * throughOf p v e / countOf p e
 
 -- Document 01's load of a station: the sum of the shares over its pairs, in units of 1 / 2^32. Each share is rounded down.
-unfoldable pub load : Plan → ℕ → ℕ
-load p v = sum (map (share p v) (pairsOf p v))
+-- Document 02's partial load (C-18) is the sum over those whose source is below k.
+unfoldable pub partialLoad : Plan → ℕ → ℕ → ℕ
+partialLoad p k v = sum (map (share p v) (pairsBelow p k v))
+
+abbrev pub load : Plan → ℕ → ℕ
+load p v = partialLoad p (p .stations) v
+
+-- Document 02's bounds (C-18): by how much, of n stations, a station's pairs may exceed those whose source is below k, and by how
+-- much its load may exceed the partial one.
+unfoldable pub restOfPairs : ℕ → ℕ → ℕ
+restOfPairs n k = (n - k) * (n - 1)
+
+unfoldable pub restOfLoad : ℕ → ℕ → ℕ
+restOfLoad n k = restOfPairs n k * 2 ^ 32
 
 -- Document 01's D: the product of the counts of the station's pairs, 1 if there are none.
 unfoldable pub commonCount : Plan → ℕ → ℕ

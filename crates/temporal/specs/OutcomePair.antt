@@ -1,4 +1,4 @@
--- What operations 4 to 6 answer, and what every lent buffer holds afterwards, for every call. Definitions only.
+-- What operations 4 to 6 and document 02's partial loads answer, and what every lent buffer holds afterwards, for every call. Definitions only.
 -- Assumes nothing.
 use Prim.Native.Nat.{ℕ}
 use mathlib.Core.Bool.{cond, _||_}
@@ -6,9 +6,9 @@ use mathlib.Core.List.{List, [], _∷_, _++_, map}
 use Rattle.temporal.specs.Lists.{below}
 use Rattle.temporal.specs.Plan.{Plan, Terms}
 use Rattle.temporal.specs.Shortest.{shortestPaths, hops, count, through}
-use Rattle.temporal.specs.Load.{pairs, load, busiestOf}
+use Rattle.temporal.specs.Load.{partialPairs, partialLoad, busiestOf}
 use Rattle.temporal.specs.Bytes.{planOf}
-use Rattle.temporal.specs.Cause.{cause, planCauses, wrongTurnaround, pairCauses, tooMany, tooManyAnywhere}
+use Rattle.temporal.specs.Cause.{cause, planCauses, wrongTurnaround, wrongSources, pairCauses, tooMany, tooManyBelow, tooManyAnywhere}
 use Rattle.temporal.specs.Outcome.{Outcome, entered, over, cleared, short, workSize}
 
 -- ---- Operation 4, pair
@@ -48,17 +48,17 @@ pair bs n t terms s z old =
     (planCauses bs n t ++ pairCauses terms n s z (short n (old .throughTable) || short (workSize n t) (old .work)))
     (record { hops = 0; count = 0 }) old (paired (planOf bs n t terms) s z old)
 
--- ---- Operation 5, loads
+-- ---- Partial loads, and operation 5, loads
 
 pub record LoadBuffers : Type 0 where
   pub pairsTable : List ℕ
   pub loadTable : List ℕ
   pub work : List ℕ
 
--- loads once 1 to 8 and 12 are excluded; every source is worked on
-unfoldable pub loaded : Plan → LoadBuffers → Outcome (Unit {0}) LoadBuffers
-loaded p old =
-    cond (tooManyAnywhere p)
+-- partial loads once 1 to 8, 12 and 13 are excluded; the sources below k are worked on
+unfoldable pub partlyLoaded : Plan → ℕ → LoadBuffers → Outcome (Unit {0}) LoadBuffers
+partlyLoaded p k old =
+    cond (tooManyBelow p k)
     (record {
       number = 9;
       values = tt;
@@ -72,18 +72,23 @@ loaded p old =
       number = 0;
       values = tt;
       buffers = record {
-        pairsTable = over (map (pairs p) (below (p .stations))) (old .pairsTable);
-        loadTable = over (map (load p) (below (p .stations))) (old .loadTable);
+        pairsTable = over (map (partialPairs p k) (below (p .stations))) (old .pairsTable);
+        loadTable = over (map (partialLoad p k) (below (p .stations))) (old .loadTable);
         work = cleared (workSize (p .stations) (p .slots)) (old .work);
       };
     })
 
-unfoldable pub loads : List ℕ → ℕ → ℕ → Terms → LoadBuffers → Outcome (Unit {0}) LoadBuffers
-loads bs n t terms old =
+-- Document 02's partial loads (C-18): pairs and loads over the ordered pairs whose source is below k.
+unfoldable pub partialLoads : List ℕ → ℕ → ℕ → Terms → ℕ → LoadBuffers → Outcome (Unit {0}) LoadBuffers
+partialLoads bs n t terms k old =
     entered
-    (planCauses bs n t ++ cause 12 (wrongTurnaround terms) ∷
+    (planCauses bs n t ++ cause 12 (wrongTurnaround terms) ∷ cause 13 (wrongSources n k) ∷
     cause 8 (short n (old .pairsTable) || (short n (old .loadTable) || short (workSize n t) (old .work))) ∷ [])
-    tt old (loaded (planOf bs n t terms) old)
+    tt old (partlyLoaded (planOf bs n t terms) k old)
+
+-- Operation 5, loads: the case in which every source is worked on. 13 never holds there.
+abbrev pub loads : List ℕ → ℕ → ℕ → Terms → LoadBuffers → Outcome (Unit {0}) LoadBuffers
+loads bs n t terms old = partialLoads bs n t terms n old
 
 -- ---- Operation 6, busiest
 

@@ -91,6 +91,20 @@ extern "C" {
         work: *mut u64,
         work_length: usize,
     ) -> u32;
+    fn joftaki_partial_loads(
+        plan: *const u8,
+        plan_length: usize,
+        n: usize,
+        t: usize,
+        g: usize,
+        k: usize,
+        pairs: *mut u64,
+        pairs_length: usize,
+        loads: *mut u64,
+        loads_length: usize,
+        work: *mut u64,
+        work_length: usize,
+    ) -> u32;
     fn joftaki_busiest(
         plan: *const u8,
         plan_length: usize,
@@ -232,6 +246,27 @@ pub fn loads(input: PlanInput, pairs: &mut [u64], loads: &mut [u64], work: &mut 
     on_plan!(
         joftaki_loads,
         input,
+        pairs.as_mut_ptr(),
+        pairs.len(),
+        loads.as_mut_ptr(),
+        loads.len(),
+        work.as_mut_ptr(),
+        work.len()
+    )
+}
+
+/// Document 02's loads over the sources below a number.
+pub fn partial_loads(
+    input: PlanInput,
+    sources: usize,
+    pairs: &mut [u64],
+    loads: &mut [u64],
+    work: &mut [u64],
+) -> u32 {
+    on_plan!(
+        joftaki_partial_loads,
+        input,
+        sources,
         pairs.as_mut_ptr(),
         pairs.len(),
         loads.as_mut_ptr(),

@@ -20,6 +20,7 @@ pub fn function(operation: Operation) -> &'static str {
         Operation::NextWay => "joftaki_next_way",
         Operation::ThroughSet => "joftaki_through_set",
         Operation::Foremost => "joftaki_foremost",
+        Operation::PartialLoads => "joftaki_partial_loads",
     }
 }
 
@@ -28,8 +29,8 @@ pub fn function(operation: Operation) -> &'static str {
 pub struct Call<'a> {
     pub operation: Operation,
     pub input: PlanInput<'a>,
-    /// The one station, or source and destination; more are not named.
-    pub stations: [usize; 2],
+    /// The numbers behind g: the one station, source and destination, or k; further ones are not given.
+    pub arguments: [usize; 2],
     pub lent: Lent,
     /// The places for the values beside the number.
     pub values: Vec<u64>,
@@ -39,7 +40,7 @@ impl Call<'_> {
     /// What the call must answer, and what it must leave of a copy of what it lends.
     pub fn expected(&self, means: Means) -> (Answered, Lent) {
         let mut lent = self.lent.clone();
-        let answered = means.call(self.operation, self.input, self.stations, &mut lent);
+        let answered = means.call(self.operation, self.input, self.arguments, &mut lent);
         (answered, lent)
     }
 }
@@ -71,8 +72,12 @@ impl fmt::Display for Call<'_> {
             ..
         } = self.input;
         writeln!(to, "n {stations} T {slots} g {turnaround}")?;
-        let named = &self.stations[..self.operation.stations()];
-        write!(to, "{}, stations {named:?}", function(self.operation))?;
+        let given = &self.arguments[..self.operation.arguments()];
+        let name = match self.operation {
+            Operation::PartialLoads => "k",
+            _ => "stations",
+        };
+        write!(to, "{}, {name} {given:?}", function(self.operation))?;
         write!(to, ", 16-bit tables {:?}", lengths(&self.lent.narrow))?;
         writeln!(to, ", 64-bit tables {:?}", lengths(&self.lent.wide))?;
         for set in &self.lent.sets {

@@ -13,12 +13,13 @@ use crate::native::{self, Seen};
 /// The text of a difference.
 pub type Difference = String;
 
-/// The comparisons so far: how often each operation answered each number, and how often its through
-/// counts were added up.
+/// The comparisons so far: how often each operation answered each number, how often its through counts were
+/// added up, and how often partial loads were held to the loads and to those of fewer sources.
 #[derive(Clone, Debug, Default)]
 pub struct Comparison {
     answers: BTreeMap<(Operation, u32), u64>,
     added_up: BTreeMap<Operation, u64>,
+    pub spans: [u64; 2],
 }
 
 impl Comparison {
@@ -92,7 +93,7 @@ impl Comparison {
             let answered = |number: &u32| self.answered(operation, *number);
             let calls: u64 = numbers.iter().map(answered).sum();
             total += calls;
-            let _ = write!(text, "{:19} {calls:>8}:", function(operation));
+            let _ = write!(text, "{:21} {calls:>8}:", function(operation));
             for number in numbers {
                 let _ = write!(text, " {} {}", number_name(number), answered(&number));
             }
@@ -103,6 +104,12 @@ impl Comparison {
             let name = function(*operation);
             let _ = writeln!(text, "through counts added up after {name}: {times}");
         }
+        let [of_loads, of_fewer] = self.spans;
+        let _ = writeln!(text, "partial loads held to the loads: {of_loads}");
+        let _ = writeln!(
+            text,
+            "partial loads held to those of fewer sources: {of_fewer}"
+        );
         text
     }
 }

@@ -1,7 +1,7 @@
-//! Plans at the edges of the limits: most stations, slots and records, counts around 2^64, and the smallest
-//! and the largest turnarounds.
+//! Plans at the edges of the limits: most stations, slots and records, counts around 2^64, the smallest and the
+//! largest turnarounds, and numbers of sources around n and around a source with too many walks.
 
-use lister::cases::Record;
+use lister::cases::{Record, PLAN_A};
 use lister::means::COUNTED;
 use lister::operation::{Operation, LAST, OPERATIONS};
 use lister::plan::{LEAST_TURNAROUND, MOST_TURNAROUND};
@@ -16,6 +16,7 @@ use lister::turned::spaced_row;
 use crate::call::Call;
 use crate::compare::{Comparison, Difference};
 use crate::lend::{self, Lengths};
+use crate::partial::{self, arguments};
 use crate::rounds::{draw_loads, some_calls};
 
 /// The number of cause 9.
@@ -32,7 +33,9 @@ pub fn compare(comparison: &mut Comparison, seed: u64) -> Result<(), Difference>
     for turnaround in [LEAST_TURNAROUND, 2, MOST_TURNAROUND] {
         last_positions(comparison, random, turnaround)?;
     }
-    turnarounds(comparison, random)
+    turnarounds(comparison, random)?;
+    sources(comparison, random)?;
+    sources_with_many_walks(comparison, random)
 }
 
 /// So many records in the first slots, each slot's between the first 64 stations.
@@ -100,7 +103,7 @@ fn turned_plans() -> Vec<Owned> {
 }
 
 /// Each operation from the first station to the last, on memory of exactly the named lengths; loads
-/// and busiest where they are refused or drawn.
+/// and busiest where they are refused or drawn. Partial loads of no source, of the first, and of one too many.
 fn ends(comparison: &mut Comparison, random: &mut Random, owned: &Owned) -> Result<(), Difference> {
     let stations = [0, owned.stations - 1];
     let mut refused = false;
@@ -108,6 +111,11 @@ fn ends(comparison: &mut Comparison, random: &mut Random, owned: &Owned) -> Resu
     for operation in OPERATIONS {
         let of_all = matches!(operation, Operation::Loads | Operation::Busiest);
         if of_all && !refused && !draw_loads(random, owned) {
+            continue;
+        }
+        if operation == Operation::PartialLoads {
+            let numbers = [0, 1, owned.stations + 1];
+            partial::in_turn(comparison, random, owned, COUNTED, &numbers)?;
             continue;
         }
         let mut call = lend::call(random, operation, owned.input(), stations, Lengths::Named);
@@ -192,7 +200,8 @@ fn turnarounds(comparison: &mut Comparison, random: &mut Random) -> Result<(), D
         let owned = Owned::new(4, 33, &records).turning(turnaround);
         for operation in OPERATIONS {
             for lengths in [Lengths::Named, Lengths::Any] {
-                let call = lend::call(random, operation, owned.input(), [0, 3], lengths);
+                let arguments = arguments(random, operation, owned.stations, [0, 3]);
+                let call = lend::call(random, operation, owned.input(), arguments, lengths);
                 if !known && operation.causes().contains(&12) {
                     stated(comparison, &call, 12)?;
                 } else {
@@ -202,4 +211,66 @@ fn turnarounds(comparison: &mut Comparison, random: &mut Random) -> Result<(), D
         }
     }
     Ok(())
+}
+
+/// Numbers of sources around the 5 stations of plan A and far above; some are at most 5 in their low bits alone.
+const SOURCES: [usize; 12] = [
+    0,
+    1,
+    4,
+    5,
+    6,
+    255,
+    256 + 5,
+    65535,
+    65536 + 1,
+    (1 << 32) + 5,
+    1 << 63,
+    usize::MAX,
+];
+
+fn sources(comparison: &mut Comparison, random: &mut Random) -> Result<(), Difference> {
+    for turnaround in [LEAST_TURNAROUND, 2, MOST_TURNAROUND] {
+        let owned = Owned::new(5, 4, &PLAN_A).turning(turnaround);
+        for sources in SOURCES {
+            let number = if sources > 5 { 13 } else { 0 };
+            stated_sources(comparison, random, &owned, sources, number)?;
+        }
+    }
+    Ok(())
+}
+
+/// Loads with counts up to 2^63 and partial loads of some numbers of sources; then a ladder of 65 layers whose source
+/// is not the first station: the sources before it are accepted, and with it all numbers up to n are refused.
+fn sources_with_many_walks(
+    comparison: &mut Comparison,
+    random: &mut Random,
+) -> Result<(), Difference> {
+    for builder in [ladder(64, 2), falling_ladder(64), spaced_ladder(4, 64, 2)] {
+        let owned = Owned::built(&builder);
+        let n = owned.stations;
+        let numbers = [0, 1, 2, n / 2, n - 1, n, n + 1];
+        partial::with_loads(comparison, random, &owned, COUNTED, &numbers)?;
+    }
+    for source in [1, 64, 130] {
+        let owned = Owned::built(&ladder(65, 2).with_source(source));
+        let numbers = [(0, 0), (source, 0), (source + 1, 9), (131, 9), (132, 13)];
+        for (sources, number) in numbers {
+            stated_sources(comparison, random, &owned, sources, number)?;
+        }
+    }
+    Ok(())
+}
+
+/// Partial loads, whose number is stated by hand too.
+fn stated_sources(
+    comparison: &mut Comparison,
+    random: &mut Random,
+    owned: &Owned,
+    sources: usize,
+    number: u32,
+) -> Result<(), Difference> {
+    let (operation, input) = (Operation::PartialLoads, owned.input());
+    let call = lend::call(random, operation, input, [sources, 0], Lengths::Named);
+    stated(comparison, &call, number)
 }

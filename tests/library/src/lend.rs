@@ -94,7 +94,7 @@ pub fn call<'a>(
     random: &mut Random,
     operation: Operation,
     input: PlanInput<'a>,
-    stations: [usize; 2],
+    arguments: [usize; 2],
     lengths: Lengths,
 ) -> Call<'a> {
     let tables = named(operation, input);
@@ -105,7 +105,7 @@ pub fn call<'a>(
     Call {
         operation,
         input,
-        stations,
+        arguments,
         lent: of_lengths(random, &tables, input.stations),
         values: wide(random, operation.values().len()),
     }

@@ -1,10 +1,12 @@
 //! Compares the library libjoftaki_c.a with the plain lister.
 
 mod call;
+mod causes;
 mod compare;
 mod edges;
 mod lend;
 mod native;
+mod partial;
 mod plans;
 mod rounds;
 mod tiny;
@@ -58,10 +60,11 @@ fn told(comparison: &mut Comparison, rounds: u64, seed: u64) -> ExitCode {
     ExitCode::SUCCESS
 }
 
-/// The tiny plans, the edges, then the rounds.
+/// The tiny plans, the numbers against each other, the edges, then the rounds.
 fn run(comparison: &mut Comparison, rounds: u64, seed: u64) -> Result<(), Difference> {
     let named = |name: String| move |text: Difference| format!("difference in {name}\n{text}");
     tiny::compare(comparison, seed).map_err(named(format!("tiny plans, seed {seed}")))?;
+    causes::compare(comparison, seed).map_err(named(format!("causes, seed {seed}")))?;
     edges::compare(comparison, seed).map_err(named(format!("edges, seed {seed}")))?;
     for round in 0..rounds {
         let seed = seed.wrapping_add(round);

@@ -109,7 +109,7 @@ type Tables<'a> = (
 
 /// The number that the library answers.
 fn answer(call: &Call, input: PlanInput, (narrow, wide, sets): Tables, values: &mut [u64]) -> u32 {
-    let [s, z] = call.stations;
+    let [s, z] = call.arguments;
     match (call.operation, narrow, wide, values) {
         (Operation::Check, [], [], []) => archive::check(input),
         (Operation::Reach, [hops, station_hops], [counts, station_counts], []) => {
@@ -147,6 +147,10 @@ fn answer(call: &Call, input: PlanInput, (narrow, wide, sets): Tables, values: &
         (Operation::Foremost, [], [through, work], [arrival, hops, count]) => {
             let values = [arrival, hops, count];
             archive::foremost(input, (s, z), values, through.lent(), work.lent())
+        }
+        (Operation::PartialLoads, [], [pairs, loads, work], []) => {
+            let [k, _] = call.arguments;
+            archive::partial_loads(input, k, pairs.lent(), loads.lent(), work.lent())
         }
         (operation, ..) => panic!("{operation:?} lends other tables"),
     }

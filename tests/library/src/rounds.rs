@@ -13,6 +13,7 @@ use lister::ways::Way;
 use crate::call::Call;
 use crate::compare::{Comparison, Difference};
 use crate::lend::{self, Lengths};
+use crate::partial::{arguments, every_number};
 use crate::plans;
 
 /// One round: a plan with a turnaround, calls of every operation on it, and traces.
@@ -57,13 +58,13 @@ fn changed(random: &mut Random, owned: Owned) -> Owned {
     }
 }
 
-/// The operations whose calls name so many stations.
-fn naming(stations: usize) -> impl Iterator<Item = Operation> {
+/// The operations whose calls have so many numbers behind g.
+fn taking(arguments: usize) -> impl Iterator<Item = Operation> {
     let operations = OPERATIONS.into_iter();
-    operations.filter(move |operation| operation.stations() == stations)
+    operations.filter(move |operation| operation.arguments() == arguments)
 }
 
-/// A small plan: every pair if the plan is accepted, and traces.
+/// A small plan: every pair and every number of sources if the plan is accepted, and traces.
 fn small_plan(
     comparison: &mut Comparison,
     random: &mut Random,
@@ -78,16 +79,17 @@ fn small_plan(
         return Ok(());
     }
     for (source, destination) in pairs(owned.stations) {
-        for operation in naming(2) {
+        for operation in taking(2) {
             let stations = [source, destination];
             one_call(comparison, random, owned, operation, stations, LISTED)?;
         }
     }
     for source in 0..owned.stations {
-        for operation in naming(1) {
+        for operation in taking(1) {
             one_call(comparison, random, owned, operation, [source, 0], LISTED)?;
         }
     }
+    every_number(comparison, random, owned)?;
     trace(comparison, random, owned)?;
     trace(comparison, random, owned)
 }
@@ -104,17 +106,18 @@ fn station(random: &mut Random, stations: usize) -> usize {
     }
 }
 
-/// Loads and busiest are rarer on plans with more than so many records for all pairs together.
+/// Loads, partial loads and busiest are rarer on plans with more than so many records for all pairs together.
 const EVERY_PAIR: usize = 1_000_000;
 
-/// Whether loads and busiest are drawn for a plan: the more work it is, the rarer.
+/// Whether loads, partial loads or busiest is drawn for a plan: the more work it is, the rarer.
 pub fn draw_loads(random: &mut Random, owned: &Owned) -> bool {
     let records = owned.bytes.len() / RECORD_BYTES;
     let work = owned.stations.min(MOST_STATIONS).pow(2) * records;
     random.below(1 + work / EVERY_PAIR) == 0
 }
 
-/// Each operation so many times, with stations drawn; check, loads and busiest once at most.
+/// Each operation so many times, with stations or a number of sources drawn; check, loads, partial loads and
+/// busiest once at most.
 pub fn some_calls(
     comparison: &mut Comparison,
     random: &mut Random,
@@ -125,12 +128,15 @@ pub fn some_calls(
     for operation in OPERATIONS {
         let times = match operation {
             Operation::Check => 1,
-            Operation::Loads | Operation::Busiest => draw_loads(random, owned).into(),
+            Operation::Loads | Operation::PartialLoads | Operation::Busiest => {
+                draw_loads(random, owned).into()
+            }
             _ => times,
         };
         for _ in 0..times {
             let stations = [0; 2].map(|_| station(random, owned.stations));
-            one_call(comparison, random, owned, operation, stations, means)?;
+            let arguments = arguments(random, operation, owned.stations, stations);
+            one_call(comparison, random, owned, operation, arguments, means)?;
         }
     }
     Ok(())
@@ -142,10 +148,10 @@ fn one_call(
     random: &mut Random,
     owned: &Owned,
     operation: Operation,
-    stations: [usize; 2],
+    arguments: [usize; 2],
     means: Means,
 ) -> Result<(), Difference> {
-    let mut call = lend::call(random, operation, owned.input(), stations, Lengths::Any);
+    let mut call = lend::call(random, operation, owned.input(), arguments, Lengths::Any);
     if operation == Operation::NextWay {
         offer(random, &mut call, means);
     }
@@ -222,7 +228,7 @@ fn trace(
         let made = Call {
             operation,
             input: call.input,
-            stations: call.ends().into(),
+            arguments: call.ends().into(),
             lent,
             values: lend::wide(random, operation.values().len()),
         };

@@ -1,24 +1,22 @@
 //! All plans of tiny sizes with the first turnarounds, one-way plans, plans with equal loads, plans in which
-//! the earliest slot decides and plans with turnarounds, in all calls; every number of through set and of
-//! foremost against every other, and 12 against every other number of each operation.
+//! the earliest slot decides and plans with turnarounds, in all calls.
 
 use lister::cases::{plan_bytes, Record, PLAN_A};
 use lister::foremost_cases::ARRIVALS;
-use lister::means::{COUNTED, LISTED};
+use lister::means::LISTED;
 use lister::one_way::ONE_WAY_PLANS;
 use lister::operation::{Operation, OPERATIONS};
 use lister::pair_cases::TIED_PLANS;
-use lister::plan::{PlanInput, LEAST_TURNAROUND, RECORD_BYTES};
+use lister::plan::{PlanInput, RECORD_BYTES};
 use lister::plans::{all_doubled_plans, all_lists, all_plans, pairs, possible_records, Owned};
 use lister::random::Random;
-use lister::reach_cases::ladder;
 use lister::set_cases::all_sets;
 use lister::sets::set_of;
 use lister::turned::{rows_around, two_links, TURNED_PLANS};
 
-use crate::call::Call;
 use crate::compare::{Comparison, Difference};
 use crate::lend::{self, Lengths};
+use crate::partial::{arguments, every_number};
 
 /// Compares all of them; the seed is of what the tables hold before.
 pub fn compare(comparison: &mut Comparison, seed: u64) -> Result<(), Difference> {
@@ -61,9 +59,7 @@ pub fn compare(comparison: &mut Comparison, seed: u64) -> Result<(), Difference>
     every_size(comparison, random)?;
     every_sequence(comparison, random)?;
     every_length(comparison, random)?;
-    every_set_byte(comparison, random)?;
-    every_two_causes(comparison, random)?;
-    turnaround_and_another_cause(comparison, random)
+    every_set_byte(comparison, random)
 }
 
 /// The turnarounds of all plans of tiny sizes.
@@ -123,7 +119,8 @@ fn every_pair(
     owned: &Owned,
 ) -> Result<(), Difference> {
     let input = owned.input();
-    for operation in [Operation::Check, Operation::Loads, Operation::Busiest] {
+    every_number(comparison, random, owned)?;
+    for operation in [Operation::Check, Operation::Busiest] {
         let call = lend::call(random, operation, input, [0, 0], Lengths::Named);
         comparison.compare(&call, LISTED)?;
     }
@@ -147,14 +144,18 @@ fn every_pair(
     Ok(())
 }
 
-/// Every operation, with every station up to n.
+/// Every operation, with every station up to n and every number of sources up to n + 1.
 fn every_call(
     comparison: &mut Comparison,
     random: &mut Random,
     owned: &Owned,
 ) -> Result<(), Difference> {
+    every_number(comparison, random, owned)?;
     for operation in OPERATIONS {
-        let named = |place: usize| match operation.stations() > place {
+        if matches!(operation, Operation::Loads | Operation::PartialLoads) {
+            continue;
+        }
+        let named = |place: usize| match operation.arguments() > place {
             true => 0..owned.stations + 1,
             false => 0..1,
         };
@@ -213,14 +214,15 @@ fn any_turnaround(random: &mut Random) -> usize {
     [1, 1, 1, 1, 2, 3, 16, 0, 17][random.below(9)]
 }
 
-/// The operations, from 0 to 1.
+/// The operations, from 0 to 1 and with a number of sources drawn.
 fn each_operation(
     comparison: &mut Comparison,
     random: &mut Random,
     input: PlanInput,
 ) -> Result<(), Difference> {
     for operation in OPERATIONS {
-        let call = lend::call(random, operation, input, [0, 1], Lengths::Named);
+        let arguments = arguments(random, operation, input.stations, [0, 1]);
+        let call = lend::call(random, operation, input, arguments, Lengths::Named);
         comparison.compare(&call, LISTED)?;
     }
     Ok(())
@@ -298,7 +300,8 @@ fn every_length(comparison: &mut Comparison, random: &mut Random) -> Result<(), 
                     let mut lengths = named.clone();
                     lengths[width][table] = length;
                     let input = owned.input();
-                    let mut call = lend::call(random, operation, input, [0, 4], Lengths::Named);
+                    let arguments = arguments(random, operation, owned.stations, [0, 4]);
+                    let mut call = lend::call(random, operation, input, arguments, Lengths::Named);
                     call.lent = lend::of_lengths(random, &lengths, owned.stations);
                     comparison.compare(&call, LISTED)?;
                 }
@@ -322,154 +325,6 @@ fn every_set_byte(comparison: &mut Comparison, random: &mut Random) -> Result<()
                 comparison.compare(&call, LISTED)?;
             }
         }
-    }
-    Ok(())
-}
-
-/// A ladder of 65 layers, which gives 9 from its source; plans of its sizes, accepted or with one of the
-/// causes 1 to 5; and pairs of them, one with 6, one with 6 and 7, one with 7.
-fn plans_with_causes() -> (Vec<Owned>, [[usize; 2]; 5]) {
-    let ladder = Owned::built(&ladder(65, 2));
-    let (stations, slots) = (ladder.stations, ladder.slots);
-    let slot = slots as u16;
-    let records = [(1, 0, 1), (1, 0, 2), (2, 1, 3)];
-    let with = |record: Record| plan_bytes(&[&records[..], &[record]].concat());
-    let cut = ladder.bytes[1..].to_vec();
-    let plans = [
-        (ladder.bytes.clone(), stations, slots),
-        (plan_bytes(&records), stations, slots),
-        (ladder.bytes.clone(), 257, slots),
-        (ladder.bytes.clone(), stations, 256),
-        (cut, stations, slots),
-        (with((slot + 1, 0, 1)), stations, slots),
-        (with((slot, 5, 4)), stations, slots),
-        (with((slot, 5, 5)), stations, slots),
-        (with((slot, stations as u16, 0)), stations, slots),
-        (with((slot, 0, stations as u16)), stations, slots),
-        (with((1, 0, 1)), stations, slots),
-    ];
-    let plan = |(bytes, stations, slots)| Owned {
-        bytes,
-        stations,
-        slots,
-        turnaround: LEAST_TURNAROUND,
-    };
-    let ends = [[0, 130], [1, 130], [0, 131], [300, 300], [7, 7]];
-    (plans.map(plan).to_vec(), ends)
-}
-
-/// Through set and foremost with each set of causes of which one is of the plan, and any of the call: 6
-/// and 7 by the stations, 8 by the set or the table and the work area, 11, and 9 by a ladder of 65
-/// layers.
-fn every_two_causes(comparison: &mut Comparison, random: &mut Random) -> Result<(), Difference> {
-    let (plans, ends) = plans_with_causes();
-    let ladder = &plans[0];
-    for owned in &plans {
-        let input = owned.input();
-        for ends in ends {
-            for change in all_changes() {
-                for operation in [Operation::ThroughSet, Operation::Foremost] {
-                    let mut call = lend::call(random, operation, input, ends, Lengths::Named);
-                    if change.made(random, ladder, &mut call) {
-                        comparison.compare(&call, COUNTED)?;
-                    }
-                }
-            }
-        }
-    }
-    Ok(())
-}
-
-/// How many entries fewer than one more than the named ones the first lent part and the work area have,
-/// and a wrong byte of a set with its place.
-struct Change {
-    first: usize,
-    work: usize,
-    wrong: Option<(usize, u8)>,
-}
-
-impl Change {
-    /// Makes the change in what a call lends for a plan; false where it asks for a set, and the call has
-    /// none.
-    fn made(&self, random: &mut Random, owned: &Owned, Call { lent, .. }: &mut Call) -> bool {
-        let first = owned.stations + 1 - self.first;
-        let work = lend::wide(random, owned.scratch_length() + 1 - self.work);
-        match (&mut lent.sets[..], &mut lent.wide[..], self.wrong) {
-            ([set], [area], wrong) => {
-                *set = vec![1; first];
-                *area = work;
-                if let Some((place, byte)) = wrong {
-                    set[place.min(first - 1)] = byte;
-                }
-                true
-            }
-            ([], [table, area], None) => {
-                *table = lend::wide(random, first);
-                *area = work;
-                true
-            }
-            _ => false,
-        }
-    }
-}
-
-/// Lengths around the named ones, with and without a wrong byte at the first and the last place.
-fn all_changes() -> Vec<Change> {
-    let mut changes = Vec::new();
-    for first in 0..3 {
-        for work in 0..3 {
-            for wrong in [None, Some((0, 2)), Some((130, 255))] {
-                changes.push(Change { first, work, wrong });
-            }
-        }
-    }
-    changes
-}
-
-/// Each operation with 12 alone, with every other of its numbers and with several of them: 1 to 5 by the plan, 6
-/// and 7 by the stations, 8 by each lent part, 9 by the ladder, 10 by what the way buffer holds, 11 by a byte of
-/// the set.
-fn turnaround_and_another_cause(
-    comparison: &mut Comparison,
-    random: &mut Random,
-) -> Result<(), Difference> {
-    let (plans, ends) = plans_with_causes();
-    for owned in &plans {
-        for turnaround in [0, 17, usize::MAX, 16] {
-            let owned = owned.clone().turning(turnaround);
-            for operation in OPERATIONS {
-                for ends in ends {
-                    short_parts(comparison, random, &owned, operation, ends)?;
-                }
-            }
-        }
-    }
-    Ok(())
-}
-
-/// A call on the named lengths, and for each lent part one on which it lacks an entry; half of the sets have a
-/// wrong byte.
-fn short_parts(
-    comparison: &mut Comparison,
-    random: &mut Random,
-    owned: &Owned,
-    operation: Operation,
-    ends: [usize; 2],
-) -> Result<(), Difference> {
-    let named = lend::named(operation, owned.input());
-    let parts = named.iter().map(Vec::len).sum::<usize>();
-    for short in 0..=parts {
-        let mut lengths = named.clone();
-        let part = lengths.iter_mut().flatten().nth(short);
-        if let Some(length) = part {
-            *length -= 1;
-        }
-        let mut call = lend::call(random, operation, owned.input(), ends, Lengths::Named);
-        call.lent = lend::of_lengths(random, &lengths, owned.stations);
-        if let [set] = &mut call.lent.sets[..] {
-            set[0] = [1, 2][random.below(2)];
-        }
-        comparison.compare(&call, COUNTED)?;
     }
     Ok(())
 }

@@ -32,6 +32,8 @@ pub enum CallFault {
     SetByte,
     /// 12: g is outside its limits.
     Turnaround,
+    /// 13: the number of sources is above n.
+    Sources,
 }
 
 /// A refusal, of the plan or of the call.
@@ -57,6 +59,7 @@ impl Refusal {
             Refusal::Call(CallFault::NotShortest) => 10,
             Refusal::Call(CallFault::SetByte) => 11,
             Refusal::Call(CallFault::Turnaround) => 12,
+            Refusal::Call(CallFault::Sources) => 13,
         }
     }
 }

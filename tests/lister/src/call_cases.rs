@@ -9,8 +9,9 @@ pub trait Called: Copy {
     /// Its kind in a program that runs several operations; none where the program runs it alone.
     fn kind(self) -> Option<u16>;
 
-    /// The stations in the head of a case, 0 for one that the operation does not name.
-    fn stations(self) -> Vec<u16>;
+    /// The numbers behind g in the head of a case: stations, 0 for one that the operation does not name, or
+    /// the four parts of 16 bits of partial loads' k, the high one first.
+    fn words(self) -> Vec<u16>;
 
     /// The places, among the lengths, of the operation's tables.
     fn tables(self) -> Vec<usize>;
@@ -85,19 +86,19 @@ impl<O: Called, const TABLES: usize> CallCase<O, TABLES> {
     }
 
     /// The lengths of the operation's tables.
-    fn lent_lengths(&self) -> Vec<usize> {
+    pub fn lent_lengths(&self) -> Vec<usize> {
         let tables = self.operation.tables().into_iter();
         tables.map(|table| self.lengths[table]).collect()
     }
 
-    /// The bytes on standard input: the kind, n, T, g, the stations, the length of the plan, the length of
-    /// the label and the mark; the lengths; the label; the plan. Where there is no kind, only the
+    /// The bytes on standard input: the kind, n, T, g, the numbers behind g, the length of the plan, the length
+    /// of the label and the mark; the lengths; the label; the plan. Where there is no kind, only the
     /// operation's tables have a length.
     pub fn stdin_bytes(&self) -> Vec<u8> {
         let kind = self.operation.kind();
         let mut words = Vec::from_iter(kind);
         words.extend([self.stations, self.slots, self.turnaround]);
-        words.extend(self.operation.stations());
+        words.extend(self.operation.words());
         words.extend([self.bytes.len(), self.label.len()].map(|length| length as u16));
         words.push(self.mark);
         let lengths = match kind {

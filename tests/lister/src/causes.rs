@@ -1,4 +1,4 @@
-//! The causes of the call from 6 to 9, 11 and 12; those of the plan are in `plan`, 10 in `ways`.
+//! The causes of the call from 6 to 9 and from 11 to 13; those of the plan are in `plan`, 10 in `ways`.
 
 use crate::answer::{Answer, CallFault};
 use crate::plan::{Ends, LEAST_TURNAROUND, MOST_TURNAROUND};
@@ -15,6 +15,11 @@ fn unless(holds: bool, cause: CallFault) -> Answer<()> {
 pub fn known_turnaround(turnaround: usize) -> Answer<()> {
     let fits = (LEAST_TURNAROUND..=MOST_TURNAROUND).contains(&turnaround);
     unless(!fits, CallFault::Turnaround)
+}
+
+/// Cause 13: the number of sources is at most n. It is looked at after 12 and before 6.
+pub fn known_sources(stations: usize, sources: usize) -> Answer<()> {
+    unless(sources > stations, CallFault::Sources)
 }
 
 /// Cause 6: a named station is below n.

@@ -48,6 +48,7 @@ pub mod one_way;
 pub mod operation;
 pub mod pair;
 pub mod pair_cases;
+pub mod partial_cases;
 pub mod plan;
 pub mod plans;
 pub mod program;

@@ -1,6 +1,7 @@
-//! Operations 5 and 6, loads and busiest.
+//! Operations 5 and 6, loads and busiest, and document 02's partial loads (C-18).
 
 use crate::answer::Answer;
+use crate::causes::known_sources;
 use crate::lent::{clear, scratch_length};
 use crate::means::Means;
 use crate::plan::{read, Plan, PlanInput};
@@ -27,11 +28,12 @@ fn lowest_of_the_largest(loads: &[Load]) -> usize {
 }
 
 impl Means {
-    /// Pairs and load of every station of an accepted plan, or cause 9 of a source.
-    fn loads_of(self, plan: &Plan) -> Answer<Vec<Load>> {
+    /// Pairs and load of every station of an accepted plan over the ordered pairs whose source is below a
+    /// number, or cause 9 of such a source.
+    fn loads_from(self, plan: &Plan, sources: usize) -> Answer<Vec<Load>> {
         let mut loads = vec![Load::default(); plan.stations];
         let mut pairs_from = self.pairs_from(plan);
-        for source in 0..plan.stations {
+        for source in 0..sources {
             let others = (0..plan.stations).filter(|station| *station != source);
             let others: Vec<usize> = others.collect();
             for paired in pairs_from(source, &others)? {
@@ -46,15 +48,18 @@ impl Means {
         Ok(loads)
     }
 
-    /// Loads: each station's pairs and load in the two lent tables.
-    pub fn loads(
+    /// Partial loads: each station's pairs and load in the two lent tables, over the ordered pairs whose
+    /// source is below k.
+    pub fn partial_loads(
         self,
         input: PlanInput,
+        sources: usize,
         pairs: &mut [u64],
         loads: &mut [u64],
         scratch: &mut [u64],
     ) -> Answer<()> {
         let plan = read(input)?;
+        known_sources(plan.stations, sources)?;
         let (stations, named) = (plan.stations, scratch_length(plan.stations, plan.slots));
         let tables = [
             (&mut *pairs, stations),
@@ -62,17 +67,29 @@ impl Means {
             (scratch, named),
         ];
         clear(&mut { tables })?;
-        for (station, entry) in self.loads_of(&plan)?.iter().enumerate() {
+        for (station, entry) in self.loads_from(&plan, sources)?.iter().enumerate() {
             pairs[station] = entry.pairs;
             loads[station] = entry.load;
         }
         Ok(())
     }
 
+    /// Loads: partial loads with every station a source.
+    pub fn loads(
+        self,
+        input: PlanInput,
+        pairs: &mut [u64],
+        loads: &mut [u64],
+        scratch: &mut [u64],
+    ) -> Answer<()> {
+        self.partial_loads(input, input.stations, pairs, loads, scratch)
+    }
+
     /// Busiest: the lowest-numbered of the stations with the largest load.
     pub fn busiest(self, input: PlanInput, scratch: &mut [u64]) -> Answer<usize> {
         let plan = read(input)?;
         clear(&mut [(scratch, scratch_length(plan.stations, plan.slots))])?;
-        Ok(lowest_of_the_largest(&self.loads_of(&plan)?))
+        let loads = self.loads_from(&plan, plan.stations)?;
+        Ok(lowest_of_the_largest(&loads))
     }
 }

@@ -8,9 +8,12 @@ use lister::files::{stdin_bytes, stdout_text, Filed};
 use lister::load_program::load_text;
 use lister::means::LISTED;
 use lister::plan::PlanInput;
-use lister::show::{foremost_text, loads_text, pair_text, reach_text, set_text, text_of};
+use lister::show::{
+    foremost_text, loads_text, pair_text, partial_text, reach_text, set_text, text_of,
+};
 use lister::{
-    cases, foremost_cases, load_cases, pair_cases, program, reach_cases, set_cases, way_cases,
+    cases, foremost_cases, load_cases, pair_cases, partial_cases, program, reach_cases, set_cases,
+    way_cases,
 };
 
 const USAGE: &str = "usage:
@@ -22,12 +25,14 @@ const USAGE: &str = "usage:
   lister way-cases DIR           write DIR/stdin and DIR/stdout, cases of first way and next way
   lister set-cases DIR           write DIR/stdin and DIR/stdout, cases of through set
   lister foremost-cases DIR      write DIR/stdin and DIR/stdout, cases of foremost
+  lister partial-cases DIR       write DIR/stdin and DIR/stdout, cases of partial loads
   lister show n T g s z < plan
       hops, count, through counts and shortest paths of s, z with turnaround g
   lister foremost n T g s z < plan
       slot, hops, count, through counts and shortest foremost paths of s, z
   lister reach n T g s < plan    hops and count of each station from s, and the stations' rows
   lister loads n T g < plan      pairs and load of each station
+  lister partial n T g k < plan  the same over the sources below k, and what the loads may be more
   lister set n T g s z V.. < plan
       how many shortest paths of s, z have one of the stations V interior";
 
@@ -48,6 +53,7 @@ fn run(words: &[&str]) -> Result<(), String> {
         ["way-cases", directory] => write_files(directory, &way_cases::all_cases()),
         ["set-cases", directory] => write_files(directory, &set_cases::all_cases()),
         ["foremost-cases", directory] => write_files(directory, &foremost_cases::all_cases()),
+        ["partial-cases", directory] => write_files(directory, &partial_cases::all_cases()),
         [word @ ("show" | "foremost"), n, t, g, source, destination] => {
             let ends = (decimal(source)?, decimal(destination)?);
             let text = match *word {
@@ -57,6 +63,10 @@ fn run(words: &[&str]) -> Result<(), String> {
             print_for_plan([n, t, g], |input| text_of(text(input, ends)))
         }
         ["loads", n, t, g] => print_for_plan([n, t, g], |input| text_of(loads_text(LISTED, input))),
+        ["partial", n, t, g, sources] => {
+            let sources = decimal(sources)?;
+            print_for_plan([n, t, g], |input| text_of(partial_text(input, sources)))
+        }
         ["set", n, t, g, source, destination, members @ ..] => {
             let ends = (decimal(source)?, decimal(destination)?);
             let members = members.iter().map(|member| decimal(member));

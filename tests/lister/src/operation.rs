@@ -24,13 +24,25 @@ pub enum Operation {
     NextWay,
     ThroughSet,
     Foremost,
+    PartialLoads,
 }
 
 use Operation::*;
 
 /// All operations.
-pub const OPERATIONS: [Operation; 11] = [
-    Check, Reach, Row, RowNumber, Pair, Loads, Busiest, FirstWay, NextWay, ThroughSet, Foremost,
+pub const OPERATIONS: [Operation; 12] = [
+    Check,
+    Reach,
+    Row,
+    RowNumber,
+    Pair,
+    Loads,
+    Busiest,
+    FirstWay,
+    NextWay,
+    ThroughSet,
+    Foremost,
+    PartialLoads,
 ];
 
 /// The C interface's number of first way's answer "none".
@@ -49,6 +61,7 @@ impl Operation {
             Loads | Busiest => &[1, 2, 3, 4, 5, 12, 8, 9],
             NextWay => &[1, 2, 3, 4, 5, 12, 6, 7, 8, 9, 10],
             ThroughSet => &[1, 2, 3, 4, 5, 12, 6, 7, 8, 11, 9],
+            PartialLoads => &[1, 2, 3, 4, 5, 12, 13, 8, 9],
         }
     }
 
@@ -63,11 +76,11 @@ impl Operation {
         [0].into_iter().chain(refused).chain(further).collect()
     }
 
-    /// How many stations a call names.
-    pub fn stations(self) -> usize {
+    /// How many numbers a call has behind g: the stations that it names, or partial loads' k.
+    pub fn arguments(self) -> usize {
         match self {
             Check | Loads | Busiest => 0,
-            Reach | Row | RowNumber => 1,
+            Reach | Row | RowNumber | PartialLoads => 1,
             Pair | FirstWay | NextWay | ThroughSet | Foremost => 2,
         }
     }
@@ -90,7 +103,7 @@ impl Operation {
             Reach => vec![table, stations],
             Row | RowNumber => vec![table],
             Pair | Foremost => vec![stations, scratch],
-            Loads => vec![stations, stations, scratch],
+            Loads | PartialLoads => vec![stations, stations, scratch],
             Busiest | FirstWay | NextWay | ThroughSet => vec![scratch],
         }
     }
@@ -111,7 +124,7 @@ impl Operation {
     /// The names of the values beside the number.
     pub fn values(self) -> &'static [&'static str] {
         match self {
-            Check | Reach | RowNumber | Loads => &[],
+            Check | Reach | RowNumber | Loads | PartialLoads => &[],
             Row => &["offset", "length"],
             Pair => &["hops", "count"],
             Busiest => &["station"],
@@ -163,15 +176,16 @@ pub fn way_hops(answer: &Answer<Found>) -> u64 {
 }
 
 impl Means {
-    /// Makes a call on lent tables.
+    /// Makes a call on lent tables. The arguments are the one station, source and destination, or k; further
+    /// ones are not read.
     pub fn call(
         self,
         operation: Operation,
         input: PlanInput,
-        stations: [usize; 2],
+        arguments: [usize; 2],
         lent: &mut Lent,
     ) -> Answered {
-        let [station, destination] = stations;
+        let [station, destination] = arguments;
         let ends = (station, destination);
         match (operation, &mut lent.narrow[..], &mut lent.wide[..]) {
             (Check, [], []) => Answered::new(&check(input), &[]),
@@ -226,6 +240,13 @@ impl Means {
                 let answer = self.foremost(input, ends, through, scratch);
                 let ForemostValues { slot, hops, count } = beside(&answer);
                 Answered::new(&answer, &[slot.into(), hops.into(), count])
+            }
+            (PartialLoads, [], [pairs, loads, scratch]) => {
+                let [sources, _] = arguments;
+                Answered::new(
+                    &self.partial_loads(input, sources, pairs, loads, scratch),
+                    &[],
+                )
             }
             (operation, _, _) => panic!("{operation:?} lends other tables"),
         }

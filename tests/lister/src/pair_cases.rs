@@ -13,7 +13,7 @@
 //! out.
 //!
 //! `foremost_cases` has cases of the same kind for foremost, most of them on the plans and the memory
-//! of pair's.
+//! of pair's; `partial_cases` for partial loads, many of them on those of loads.
 
 mod exact;
 mod examples;
@@ -51,25 +51,27 @@ pub const LONGEST_LABEL: usize = 64;
 /// The most entries that the program lends, of each table and of the scratch.
 pub const LONGEST_TABLES: [usize; 3] = [320, 320, 262_200];
 
-/// The operation that a case runs; pair and foremost have source and destination. Foremost has a
-/// program of its own.
+/// The operation that a case runs; pair and foremost have source and destination, partial loads has k.
+/// Foremost and partial loads have a program each of their own.
 #[derive(Clone, Copy, Debug, PartialEq, Eq)]
 pub enum Operation {
     Pair(u16, u16),
     Loads,
     Busiest,
     Foremost(u16, u16),
+    PartialLoads(u64),
 }
 
 impl Operation {
     /// The end of a label.
-    fn text(self) -> String {
+    pub fn text(self) -> String {
         match self {
             Operation::Pair(source, destination) | Operation::Foremost(source, destination) => {
                 format!("{source} to {destination}")
             }
             Operation::Loads => "loads".to_string(),
             Operation::Busiest => "busiest".to_string(),
+            Operation::PartialLoads(sources) => format!("k {sources}"),
         }
     }
 
@@ -79,7 +81,7 @@ impl Operation {
         let scratch = scratch_length(stations, slots);
         match self {
             Operation::Pair(..) | Operation::Foremost(..) => [stations, 0, scratch],
-            Operation::Loads => [stations, stations, scratch],
+            Operation::Loads | Operation::PartialLoads(_) => [stations, stations, scratch],
             Operation::Busiest => [0, 0, scratch],
         }
     }
@@ -91,16 +93,20 @@ impl Called for Operation {
             Operation::Pair(..) => Some(0),
             Operation::Loads => Some(1),
             Operation::Busiest => Some(2),
-            Operation::Foremost(..) => None,
+            Operation::Foremost(..) | Operation::PartialLoads(_) => None,
         }
     }
 
-    fn stations(self) -> Vec<u16> {
+    fn words(self) -> Vec<u16> {
         match self {
             Operation::Pair(source, destination) | Operation::Foremost(source, destination) => {
                 vec![source, destination]
             }
             Operation::Loads | Operation::Busiest => vec![0, 0],
+            Operation::PartialLoads(sources) => {
+                let part = |bits: u32| (sources >> bits) as u16;
+                [48, 32, 16, 0].map(part).to_vec()
+            }
         }
     }
 
@@ -108,14 +114,14 @@ impl Called for Operation {
     fn tables(self) -> Vec<usize> {
         match self {
             Operation::Pair(..) | Operation::Foremost(..) => vec![0, 2],
-            Operation::Loads => vec![0, 1, 2],
+            Operation::Loads | Operation::PartialLoads(_) => vec![0, 1, 2],
             Operation::Busiest => vec![2],
         }
     }
 }
 
-/// One call of pair, of loads, of busiest or of foremost; the lengths are of the two tables and of the
-/// scratch.
+/// One call of pair, of loads, of busiest, of foremost or of partial loads; the lengths are of the two
+/// tables and of the scratch.
 pub type Case = CallCase<Operation, 3>;
 
 /// What a call answers and leaves: the number, the values beside it, the lent tables and the scratch.
@@ -152,6 +158,12 @@ impl Case {
                 let answer = means.foremost(input, ends, &mut first, &mut scratch);
                 let ForemostValues { slot, hops, count } = beside(&answer);
                 (number(&answer), vec![slot.into(), hops.into(), count])
+            }
+            Operation::PartialLoads(sources) => {
+                let sources = sources as usize;
+                let answer =
+                    means.partial_loads(input, sources, &mut first, &mut second, &mut scratch);
+                (number(&answer), Vec::new())
             }
         };
         let mut lent = [first, second, scratch];

@@ -59,7 +59,7 @@ impl Called for Operation {
         }
     }
 
-    fn stations(self) -> Vec<u16> {
+    fn words(self) -> Vec<u16> {
         let (Operation::Reach(station) | Operation::Row(station)) = self;
         vec![station]
     }

@@ -1,4 +1,4 @@
-//! The texts of the subcommands show, foremost, loads, reach and set.
+//! The texts of the subcommands show, foremost, loads, partial, reach and set.
 
 use crate::answer::Answer;
 use crate::foremost::ForemostValues;
@@ -93,6 +93,21 @@ pub fn loads_text(means: Means, input: PlanInput) -> Answer<String> {
         text += &format!("{} {} {}\n", station, pairs[station], load[station]);
     }
     Ok(text)
+}
+
+/// The number of sources; by how much the loads exceed the partial ones at most, (n − k) × (n − 1) × 2^32;
+/// then a line of partial pairs and a line of partial loads.
+pub fn partial_text(input: PlanInput, sources: usize) -> Answer<String> {
+    let plan = read(input)?;
+    let mut pairs = vec![0; plan.stations];
+    let mut loads = vec![0; plan.stations];
+    let mut scratch = vec![0; scratch_length(plan.stations, plan.slots)];
+    LISTED.partial_loads(input, sources, &mut pairs, &mut loads, &mut scratch)?;
+    let span = ((plan.stations - sources) * (plan.stations - 1)) << 32;
+    let (pairs, loads) = (spaced(&pairs), spaced(&loads));
+    Ok(format!(
+        "sources {sources} span {span}\npairs {pairs}\nloads {loads}\n"
+    ))
 }
 
 /// Hops and count of each station from a source, then each station's row of appearance counts.

@@ -1,7 +1,7 @@
 -- `joftaki_c::fault_code` meets its contract: a fault's number fits 32 bits.
 -- Assumes nothing.
 use native.Mathlib.Omega.{arith}
-use Rattle.joftaki_c.proofs.CodeLaws.{fault-small}
+use Rattle.plan.proofs.Answers.{fault-number-within}
 use borrow.Author.Needs.{needs}
 use Rattle.joftaki_c.proofs.fault_code.Statement.{statement}
 use Rattle.joftaki_c.proofs.fault_code.Tie as tie
@@ -10,7 +10,7 @@ fault-number-requires : tie.Need-fault-number-requires
 fault-number-requires c κs = search needs
 
 cast-result : tie.Need-cast-result
-cast-result c = omega (arith, fault-small (c .before .args .fault) _ (c .fault-number .ensures))
+cast-result c = omega (arith, fault-number-within (c .before .args .fault), c .fault-number .ensures)
 
 returns : tie.Need-returns
 returns c = search needs

@@ -26,7 +26,7 @@ base-of-requires : tie.Need-base-of-requires
 base-of-requires c κs = let a = accepted _ _ _ (c .before .before .before .before .pre .accepted) in (a .stations, a .some-slot, a .slots)
 
 tally-sources-requires : tie.Need-tally-sources-requires
-tally-sources-requires c κs = all-ready _ _ _ _ _ _ _ _ (c .before .before .before .before .before .before .pre) (c .before .before .before .smaller .ensures) (c .before .before .most-columns .ensures) (c .before .base-of .ensures)
+tally-sources-requires c κs = all-ready _ _ _ _ _ _ _ _ _ (c .before .before .before .before .before .before .pre) (c .before .before .before .smaller .ensures) (c .before .before .most-columns .ensures) (c .before .base-of .ensures)
 
 same-length : tie.Need-same-length
 same-length c = search needs

@@ -92,6 +92,30 @@ impl Builder {
         1 + self.turnaround * (hop - 1)
     }
 
+    /// The plan with other numbers for its stations.
+    fn renumbered(mut self, number: impl Fn(u16) -> u16) -> Builder {
+        for (_, sender, hearer) in &mut self.records {
+            (*sender, *hearer) = (number(*sender), number(*hearer));
+        }
+        self
+    }
+
+    /// The plan with the source behind so many other stations, which keep their order.
+    pub fn with_source(self, source: usize) -> Builder {
+        let source = source as u16;
+        self.renumbered(|station| match station {
+            0 => source,
+            _ if station <= source => station - 1,
+            _ => station,
+        })
+    }
+
+    /// The plan with its stations in the other order; the source is the last.
+    pub fn reversed(self) -> Builder {
+        let last = self.stations as u16 - 1;
+        self.renumbered(|station| last - station)
+    }
+
     /// The plan.
     pub fn bytes(&self) -> Vec<u8> {
         let mut records = self.records.clone();
@@ -208,15 +232,10 @@ pub const SPACED_LADDERS: [(usize, usize, usize, u8); 7] = [
 /// A ladder of two stations a layer that send to the next layer. Behind the source the numbers fall:
 /// the first layer has the two largest, the last one 2 and 1.
 pub fn falling_ladder(layers: usize) -> Builder {
-    let mut builder = sent_ladder(layers, 2);
-    let falling = |station: u16| match station {
+    sent_ladder(layers, 2).renumbered(|station| match station {
         0 => 0,
         _ => 2 * layers as u16 + 1 - station,
-    };
-    for (_, sender, hearer) in &mut builder.records {
-        (*sender, *hearer) = (falling(*sender), falling(*hearer));
-    }
-    builder
+    })
 }
 
 pub fn cases() -> Vec<Case> {

@@ -1,10 +1,11 @@
-//! What holds of each file of cases of one call on lent tables: pair-cases and foremost-cases.
+//! What holds of each file of cases of one call on lent tables: pair-cases, foremost-cases and partial-cases.
 
 use super::read_back::{entries_of, take, take_number};
 use crate::call_cases::Called;
 use crate::files::{stdin_bytes, stdout_text};
 use crate::means::Counting;
 use crate::pair_cases::{Case, Outcome};
+use crate::reach_cases::LONGEST_PLAN;
 
 /// Cases with their outcomes.
 pub type Made = Vec<(Case, Outcome)>;
@@ -27,6 +28,39 @@ fn all(made: &Made) -> Vec<Case> {
 pub fn labelled<'a>(made: &'a Made, label: &str) -> &'a (Case, Outcome) {
     let found = made.iter().find(|(case, _)| case.label == label);
     found.unwrap_or_else(|| panic!("no case {label}"))
+}
+
+/// Asserts that the numbers stated by hand are those of the lister; gives how many cases state each.
+pub fn assert_stated(made: &Made) -> [usize; 14] {
+    let mut seen = [0; 14];
+    for (case, outcome) in made {
+        if let Some(stated) = case.stated {
+            assert_eq!(outcome.number, stated, "{}", case.label);
+            seen[usize::from(stated)] += 1;
+        }
+    }
+    seen
+}
+
+/// Asserts that the cases fit a program of one operation, and that some plans have the most records and some one
+/// more; gives the most entries of each table.
+pub fn longest_tables(made: &Made) -> Vec<usize> {
+    let mut longest = vec![0; made[0].1.buffers.len()];
+    let mut records = [0; 2];
+    for (case, outcome) in made {
+        assert!(case.operation.kind().is_none(), "{}", case.label);
+        assert!(case.bytes.len() <= LONGEST_PLAN, "{}", case.label);
+        let left: Vec<usize> = outcome.buffers.iter().map(Vec::len).collect();
+        assert_eq!(left, case.lent_lengths(), "{}", case.label);
+        for (most, length) in longest.iter_mut().zip(left) {
+            *most = length.max(*most);
+        }
+        for (seen, full) in records.iter_mut().zip([8192, 8193]) {
+            *seen += usize::from(case.bytes.len() == 6 * full);
+        }
+    }
+    assert!(records.iter().all(|count| *count > 0), "{records:?}");
+    longest
 }
 
 /// Asserts that a case has no number stated exactly if it is generated.
@@ -53,10 +87,10 @@ pub fn assert_stdin(made: &Made, lengths: fn(&Case) -> Vec<usize>) {
     let mut rest = stdin.as_slice();
     for (case, _) in made {
         let kind = case.operation.kind().map(usize::from);
-        let stations = case.operation.stations().into_iter().map(usize::from);
+        let behind = case.operation.words().into_iter().map(usize::from);
         let mut head = Vec::from_iter(kind);
         head.extend([case.stations, case.slots, case.turnaround].map(usize::from));
-        head.extend(stations);
+        head.extend(behind);
         head.extend([case.bytes.len(), case.label.len(), case.mark.into()]);
         let lengths = lengths(case);
         for (numbers, bytes) in [(head, 2), (lengths, 4)] {

@@ -1,4 +1,4 @@
-//! Pair, foremost, loads and busiest by numbers of walks, compared with the plain lister and closed
+//! Pair, foremost, loads, partial loads and busiest by numbers of walks, compared with the plain lister and closed
 //! forms.
 
 use std::fmt::Debug;
@@ -72,12 +72,26 @@ fn loaded(means: Means, owned: &Owned, change: Lengths) -> Asked<()> {
     (answer, lent)
 }
 
-/// Asserts that both loads and both busiest agree, and gives the number of loads.
+/// Partial loads of so many sources.
+fn partial(means: Means, owned: &Owned, sources: usize, change: Lengths) -> Asked<()> {
+    let mut lent = lend(owned, change);
+    let [pairs, sums, scratch] = &mut lent;
+    let answer = means.partial_loads(owned.input(), sources, pairs, sums, scratch);
+    (answer, lent)
+}
+
+/// Asserts that both loads, both partial loads of every number of sources and both busiest agree, and gives
+/// the number of loads.
 fn assert_loads(limit: u64, owned: &Owned, change: Lengths) -> u8 {
     let (lister, counter) = (LISTED.within(limit), COUNTED.within(limit));
     let listed = loaded(lister, owned, change);
     let counted = loaded(counter, owned, change);
     assert_eq!(listed, counted, "limit {limit}, {owned:?}");
+    for sources in 0..=owned.stations + 1 {
+        let listed = partial(lister, owned, sources, change);
+        let counted = partial(counter, owned, sources, change);
+        assert_eq!(listed, counted, "limit {limit}, k {sources}, {owned:?}");
+    }
     let input = owned.input();
     let [[_, _, mut one], [_, _, mut other]] = [0; 2].map(|_| lend(owned, change));
     let busiest = lister.busiest(input, &mut one);
@@ -226,7 +240,16 @@ fn pair(owned: &Owned, source: usize, destination: usize) -> Result<(PairValues,
 
 /// Pairs and load of each station, or the number.
 fn loads(owned: &Owned) -> Result<Vec<Load>, u8> {
-    let (answer, [pairs, sums, _]) = loaded(COUNTED, owned, [0; 3]);
+    given(loaded(COUNTED, owned, [0; 3]))
+}
+
+/// The same of the pairs from so many sources.
+fn loads_from(owned: &Owned, sources: usize) -> Result<Vec<Load>, u8> {
+    given(partial(COUNTED, owned, sources, [0; 3]))
+}
+
+/// Pairs and load of each station after a call, or the number.
+fn given((answer, [pairs, sums, _]): Asked<()>) -> Result<Vec<Load>, u8> {
     answer.map_err(|refusal| refusal.number())?;
     let entry = |(pairs, load)| Load { pairs, load };
     Ok(pairs.into_iter().zip(sums).map(entry).collect())
@@ -260,21 +283,32 @@ fn pairs_of_ladders() {
     }
 }
 
+/// Pairs and load of a station of a ladder from so many sources: those in the layers before it.
+fn load_of_ladder(layers: usize, width: usize, station: usize, sources: usize) -> Load {
+    let at = layer(width, station);
+    let before = 1 + width * at.saturating_sub(1);
+    let pairs = if at == 0 {
+        0
+    } else {
+        before.min(sources) * width * (layers - at)
+    } as u64;
+    let load = pairs * ((1 << 32) / width as u64);
+    Load { pairs, load }
+}
+
 #[test]
 fn loads_of_ladders() {
     for (layers, width) in [(5, 2), (64, 2), (41, 3), (32, 4), (23, 7)] {
         let owned = ladder(layers, width);
+        let of_ladder = |sources| {
+            let load = move |station| load_of_ladder(layers, width, station, sources);
+            (0..owned.stations).map(load).collect::<Vec<Load>>()
+        };
         let loads = loads(&owned).unwrap();
-        for (station, entry) in loads.iter().enumerate() {
-            let at = layer(width, station);
-            let before = 1 + width * at.saturating_sub(1);
-            let pairs = if at == 0 {
-                0
-            } else {
-                before * width * (layers - at)
-            } as u64;
-            let load = pairs * ((1 << 32) / width as u64);
-            assert_eq!(*entry, Load { pairs, load }, "{layers} {width} {station}");
+        assert_eq!(loads, of_ladder(owned.stations), "{layers} {width}");
+        for sources in [0, 1, 2, width + 1, owned.stations / 2, owned.stations - 1] {
+            let partial = loads_from(&owned, sources);
+            assert_eq!(partial, Ok(of_ladder(sources)), "{layers} {width}");
         }
         let mut scratch = vec![7; owned.scratch_length()];
         let busiest = COUNTED.busiest(owned.input(), &mut scratch);
@@ -289,6 +323,21 @@ fn ladders_with_too_many_walks() {
     assert_eq!(pair(&owned, 1, 130).unwrap().0.count, 1 << 63);
     assert_eq!(loads(&owned), Err(9));
     assert_eq!(loads(&ladder(84, 3)), Err(9));
+}
+
+/// The source alone has too many: sources below it are accepted, and with it none is.
+#[test]
+fn sources_before_one_with_too_many_walks() {
+    for source in [0, 1, 64, 129, 130] {
+        let owned = Owned::built(&reach_cases::ladder(65, 2).with_source(source));
+        for sources in [0, source.saturating_sub(1), source] {
+            assert!(loads_from(&owned, sources).is_ok(), "{source} {sources}");
+        }
+        for sources in [source + 1, 131] {
+            assert_eq!(loads_from(&owned, sources), Err(9), "{source} {sources}");
+        }
+        assert_eq!(loads_from(&owned, 132), Err(13));
+    }
 }
 
 #[test]

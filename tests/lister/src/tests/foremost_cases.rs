@@ -4,11 +4,9 @@ use std::sync::OnceLock;
 
 use super::call_files::{self, Made};
 use super::read_back::assert_labels;
-use crate::call_cases::Called;
 use crate::foremost_cases::{all_cases, ARRIVALS};
 use crate::pair_cases::{Case, Operation, LONGEST_LABEL, LONGEST_TABLES};
 use crate::plan::{read, Ends};
-use crate::reach_cases::LONGEST_PLAN;
 use crate::walk::walks_from;
 
 /// All cases with their outcomes, made once.
@@ -27,15 +25,13 @@ fn ends(case: &Case) -> Ends {
 
 #[test]
 fn stated_numbers_are_those_of_the_lister() {
-    let mut seen = [0; 13];
-    for (case, outcome) in cases() {
-        if let Some(stated) = case.stated {
-            assert_eq!(outcome.number, stated, "{}", case.label);
-            seen[usize::from(stated)] += 1;
-        }
-    }
-    for (number, seen) in seen.into_iter().enumerate() {
-        assert_eq!(seen > 4, ![10, 11].contains(&number), "{number}: {seen}");
+    let seen = call_files::assert_stated(cases()).into_iter();
+    for (number, seen) in seen.enumerate() {
+        assert_eq!(
+            seen > 4,
+            ![10, 11, 13].contains(&number),
+            "{number}: {seen}"
+        );
     }
 }
 
@@ -136,23 +132,8 @@ fn stdout_has_a_line_a_case() {
 
 #[test]
 fn cases_fit_the_program() {
-    let mut longest = [0; 2];
-    let mut records = [0; 2];
-    for (case, outcome) in cases() {
-        assert!(case.operation.kind().is_none(), "{}", case.label);
-        assert!(case.bytes.len() <= LONGEST_PLAN, "{}", case.label);
-        let [through, _, scratch] = case.lengths;
-        let left: Vec<usize> = outcome.buffers.iter().map(Vec::len).collect();
-        assert_eq!(left, [through, scratch], "{}", case.label);
-        for (most, length) in longest.iter_mut().zip(left) {
-            *most = length.max(*most);
-        }
-        for (seen, full) in records.iter_mut().zip([8192, 8193]) {
-            *seen += usize::from(case.bytes.len() == 6 * full);
-        }
-    }
+    let longest = call_files::longest_tables(cases());
     assert_eq!(longest, [LONGEST_TABLES[0], LONGEST_TABLES[2]]);
-    assert!(records.iter().all(|count| *count > 0), "{records:?}");
 }
 
 #[test]

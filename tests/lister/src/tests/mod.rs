@@ -14,6 +14,8 @@ mod foremost_cases;
 mod load_cases;
 mod load_program;
 mod pair_cases;
+mod partial;
+mod partial_cases;
 mod reach_cases;
 mod read_back;
 mod refusals;

@@ -167,7 +167,7 @@ fn lent_memory_is_what_the_operation_has() {
             Operation::Pair(..) => vec![first, scratch],
             Operation::Loads => vec![first, second, scratch],
             Operation::Busiest => vec![scratch],
-            Operation::Foremost(..) => panic!("{}", case.label),
+            Operation::Foremost(..) | Operation::PartialLoads(_) => panic!("{}", case.label),
         };
         let left: Vec<usize> = outcome.buffers.iter().map(Vec::len).collect();
         assert_eq!(left, lent, "{}", case.label);

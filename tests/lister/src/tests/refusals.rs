@@ -40,6 +40,7 @@ fn named_lengths_of_plan_a() {
         (Operation::NextWay, vec![4], vec![100], vec![]),
         (Operation::ThroughSet, vec![], vec![100], vec![5]),
         (Operation::Foremost, vec![], vec![5, 100], vec![]),
+        (Operation::PartialLoads, vec![], vec![5, 5, 100], vec![]),
     ] {
         assert_eq!(operation.named(), [narrow, wide, sets], "{operation:?}");
     }
@@ -54,6 +55,8 @@ struct Arguments {
     bytes: Vec<u8>,
     source: usize,
     destination: usize,
+    /// Partial loads' k.
+    sources: usize,
     limit: u64,
     /// The first byte of a set.
     byte: u8,
@@ -92,6 +95,7 @@ impl Arguments {
             bytes,
             source,
             destination,
+            sources: if has(13) { 6 } else { 5 },
             limit: if has(9) { 2 } else { u64::MAX },
             byte: if has(11) { 2 } else { 1 },
         }
@@ -147,12 +151,13 @@ fn lend(operation: Operation, short: Option<usize>, offered: &[u16], byte: u8) -
 
 /// Makes the call; gives its number, and whether zeros are beside it.
 fn run(operation: Operation, arguments: &Arguments, lent: &mut Lent) -> (u32, bool) {
-    let stations = match operation.stations() {
-        1 => [arguments.station(), 0],
+    let numbers = match (operation, operation.arguments()) {
+        (Operation::PartialLoads, _) => [arguments.sources, 0],
+        (_, 1) => [arguments.station(), 0],
         _ => [arguments.source, arguments.destination],
     };
     let listed = LISTED.within(arguments.limit);
-    let Answered { number, values } = listed.call(operation, arguments.input(), stations, lent);
+    let Answered { number, values } = listed.call(operation, arguments.input(), numbers, lent);
     (number, values.iter().all(|value| *value == 0))
 }
 
@@ -173,14 +178,17 @@ fn memory_after(operation: Operation, refusal: u32, before: &Lent) -> Lent {
     after
 }
 
-/// All sets of the numbers 1 to 12.
+/// The largest number of a cause.
+const MOST: usize = 13;
+
+/// All sets of the numbers of causes.
 fn sets_of_causes() -> Vec<Vec<u8>> {
     let set = |bits: u16| {
-        (1..=12)
+        (1..=MOST as u8)
             .filter(|cause| bits >> (cause - 1) & 1 == 1)
             .collect()
     };
-    (0..1 << 12).map(set).collect()
+    (0..1 << MOST).map(set).collect()
 }
 
 /// The tables that may be short: each in turn with cause 8, none without.
@@ -195,7 +203,7 @@ fn short_tables(operation: Operation, causes: &[u8]) -> Vec<Option<usize>> {
 
 #[test]
 fn every_set_of_causes_gives_its_first() {
-    let mut calls = [0; 13];
+    let mut calls = [0; MOST + 1];
     for causes in sets_of_causes() {
         let arguments = Arguments::with(&causes);
         let offered = if causes.contains(&10) {
@@ -257,6 +265,7 @@ fn exact_lengths_are_accepted() {
     assert!(owned.pair(u64::MAX, 0, 4).is_ok());
     assert!(owned.loads(u64::MAX).is_ok());
     assert!(owned.busiest(u64::MAX).is_ok());
+    assert!(owned.partial_loads(u64::MAX, 2).is_ok());
     assert!(owned.through_set(u64::MAX, (0, 4), &[1; 5]).is_ok());
     assert!(owned.foremost(u64::MAX, (0, 4)).is_ok());
     let (mut buffer, mut scratch) = ([9; 4], [9; 100]);
@@ -298,27 +307,35 @@ fn none_and_last_leave_the_way_buffer() {
     assert!(scratch[..100].iter().all(|entry| *entry == 0));
 }
 
+/// Numbers around the limits of g and of k on plan A, and far ones; some are inside the limits in their low
+/// bits alone.
+const EDGES: [usize; 19] = [
+    0,
+    1,
+    2,
+    4,
+    5,
+    6,
+    7,
+    15,
+    16,
+    17,
+    255,
+    256,
+    257,
+    65535,
+    65536,
+    65537,
+    1 << 32,
+    1 << 63,
+    usize::MAX,
+];
+
 /// Every operation on plan A with a turnaround: 12 outside of its limits, and nothing is written then. Check
 /// and row do not look at it.
 #[test]
 fn turnarounds_outside_of_their_limits_are_12() {
-    let edges = [
-        0,
-        1,
-        2,
-        15,
-        16,
-        17,
-        255,
-        256,
-        257,
-        65535,
-        65536,
-        65537,
-        1 << 32,
-        usize::MAX,
-    ];
-    for turnaround in edges {
+    for turnaround in EDGES {
         let arguments = Arguments {
             turnaround,
             ..Arguments::with(&[])
@@ -332,6 +349,32 @@ fn turnarounds_outside_of_their_limits_are_12() {
             assert_eq!(number == 12, refused, "{operation:?} {turnaround}");
             assert!(!refused || before == after, "{operation:?} {turnaround}");
         }
+    }
+}
+
+/// Partial loads on plan A: 13 above n, and nothing is written then.
+#[test]
+fn sources_above_n_are_13() {
+    for sources in EDGES {
+        let arguments = Arguments {
+            sources,
+            ..Arguments::with(&[])
+        };
+        let before = lend(Operation::PartialLoads, None, &[], 1);
+        let mut after = before.clone();
+        let (number, _) = run(Operation::PartialLoads, &arguments, &mut after);
+        assert_eq!(number, if sources > 5 { 13 } else { 0 }, "{sources}");
+        assert_eq!(before == after, sources > 5, "{sources}");
+    }
+}
+
+#[test]
+fn partial_loads_alone_takes_a_number_of_sources() {
+    for operation in OPERATIONS {
+        let causes = operation.causes();
+        let takes = causes.contains(&13);
+        assert_eq!(takes, operation == Operation::PartialLoads);
+        assert!(!takes || causes.windows(3).any(|three| three == [12, 13, 8]));
     }
 }
 

@@ -77,11 +77,27 @@ impl Owned {
 
     /// Loads on tables of exactly the named lengths.
     pub fn loads(&self, limit: u64) -> Answer<Vec<Load>> {
+        let listed = LISTED.within(limit);
+        self.loaded(|pairs, loads, scratch| listed.loads(self.input(), pairs, loads, scratch))
+    }
+
+    /// Partial loads on tables of exactly the named lengths.
+    pub fn partial_loads(&self, limit: u64, sources: usize) -> Answer<Vec<Load>> {
+        let (listed, input) = (LISTED.within(limit), self.input());
+        self.loaded(|pairs, loads, scratch| {
+            listed.partial_loads(input, sources, pairs, loads, scratch)
+        })
+    }
+
+    /// A call that fills a table of pairs and one of loads.
+    fn loaded(
+        &self,
+        call: impl Fn(&mut [u64], &mut [u64], &mut [u64]) -> Answer<()>,
+    ) -> Answer<Vec<Load>> {
         let mut pairs = vec![7; self.stations];
         let mut loads = vec![7; self.stations];
         let mut scratch = vec![7; self.scratch_length()];
-        let listed = LISTED.within(limit);
-        listed.loads(self.input(), &mut pairs, &mut loads, &mut scratch)?;
+        call(&mut pairs, &mut loads, &mut scratch)?;
         assert!(scratch.iter().all(|entry| *entry == 0));
         let entry = |(pairs, load)| Load { pairs, load };
         Ok(pairs.into_iter().zip(loads).map(entry).collect())

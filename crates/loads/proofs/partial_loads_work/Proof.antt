@@ -1,12 +1,12 @@
--- `loads::loads_work` meets its contract: too many clears all three; else the tallies are copied to the tables before the
+-- `loads::partial_loads_work` meets its contract: too many clears all three; else the tallies are copied to the tables before the
 -- work area is cleared.
 -- Assumes nothing.
 use native.Mathlib.Omega.{arith}
 use Rattle.temporal.proofs.Accepted.{accepted}
 use Rattle.loads.proofs.LoadLaws.{tally-room, loaded-refused, loaded-filled}
 use borrow.Author.Needs.{needs}
-use Rattle.loads.proofs.loads_work.Statement.{statement}
-use Rattle.loads.proofs.loads_work.Tie as tie
+use Rattle.loads.proofs.partial_loads_work.Statement.{statement}
+use Rattle.loads.proofs.partial_loads_work.Tie as tie
 
 tally-requires : tie.Need-tally-requires
 tally-requires c κs = search needs
@@ -40,7 +40,7 @@ same-length-3 c = search needs
 
 returns : tie.Need-returns
 returns c =
-    loaded-refused _ _ _ _ _ _ _ (c .before .before .before .before .before .before .before .before .before .before .before .before .before .before .before .before .before .before .before .before .before .pre) _ _ (c .before .before .before .before .before .before .before .before .before .before .before .before .before .before .before .tally .ensures) (c .before .before .before .before .before .before .before .before .before .before .before .before .if1 .taken) _ _ _ (c .before .before .before .before .before .before .before .before .before .before .clear .ensures)
+    loaded-refused _ _ _ _ _ _ _ _ (c .before .before .before .before .before .before .before .before .before .before .before .before .before .before .before .before .before .before .before .before .before .pre) _ _ (c .before .before .before .before .before .before .before .before .before .before .before .before .before .before .before .tally .ensures) (c .before .before .before .before .before .before .before .before .before .before .before .before .if1 .taken) _ _ _ (c .before .before .before .before .before .before .before .before .before .before .clear .ensures)
     (c .before .before .before .before .before .before .clear2 .ensures) (c .before .before .clear3 .ensures)
 
 base-of-requires : tie.Need-base-of-requires
@@ -87,11 +87,11 @@ same-length-6 c = search needs
 
 returns-2 : tie.Need-returns-2
 returns-2 c =
-    loaded-filled _ _ _ _ _ _ _ (c .before .before .before .before .before .before .before .before .before .before .before .before .before .before .before .before .before .before .before .before .before .before .before .before .pre) _ _ (c .before .before .before .before .before .before .before .before .before .before .before .before .before .before .before .before .before .before .tally .ensures) (c .before .before .before .before .before .before .before .before .before .before .before .before .before .before .before .if1 .left) _ _ _ _ (c .before .before .before .before .before .before .before .before .before .before .before .before .before .before .base-of .ensures)
+    loaded-filled _ _ _ _ _ _ _ _ (c .before .before .before .before .before .before .before .before .before .before .before .before .before .before .before .before .before .before .before .before .before .before .before .before .pre) _ _ (c .before .before .before .before .before .before .before .before .before .before .before .before .before .before .before .before .before .before .tally .ensures) (c .before .before .before .before .before .before .before .before .before .before .before .before .before .before .before .if1 .left) _ _ _ _ (c .before .before .before .before .before .before .before .before .before .before .before .before .before .before .base-of .ensures)
     (c .before .before .before .before .before .before .before .before .before .before .before .copy .ensures) (c .before .before .before .before .before .before .copy2 .ensures) (c .before .before .clear4 .ensures)
 
-pub loads-work-spec : {M : Type 1} → statement M
-loads-work-spec =
+pub partial-loads-work-spec : {M : Type 1} → statement M
+partial-loads-work-spec =
     tie.close
     (tie.spec
     tally-requires
