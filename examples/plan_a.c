@@ -1,8 +1,8 @@
 /*
  * Plan A of document 01, doubled, through the C interface: check, reach from 0, the row of station 3, the pairs 0 to 4 and 0
  * to 3 with their ways one by one, 0 to 3 again where stations need two slots between hearing and sending on, how many ways
- * of 0 to 4 stations 2 and 3 touch together, the earliest ways of 0 to 3, the loads source by source and as a whole, and the
- * busiest station. The callers lend all memory; the example stops at a refusal.
+ * of 0 to 4 stations 2 and 3 touch together, verdicts on lists of these ways, the earliest ways of 0 to 3, the loads source by
+ * source and as a whole, and the busiest station. The callers lend all memory; the example stops at a refusal.
  */
 #include <inttypes.h>
 #include <stdio.h>
@@ -127,6 +127,53 @@ static void print_set(size_t destination, uint64_t *work)
     printf("set 2 3 count %" PRIu64 "\n", count);
 }
 
+/* The word of a verdict. */
+static const char *verdict_word(uint32_t verdict)
+{
+    switch (verdict) {
+    case JOFTAKI_COMPLETE:
+        return "complete";
+    case JOFTAKI_BEGINNING:
+        return "beginning";
+    default:
+        return "wrong";
+    }
+}
+
+/* Prints the verdict on a list of positions for a pair. */
+static void print_verdict(size_t destination, const uint16_t *list, size_t length, uint64_t *work)
+{
+    uint32_t verdict;
+
+    accept_or_stop(joftaki_verdict(plan, sizeof plan, STATIONS, SLOTS, USUAL, SOURCE, destination, &verdict,
+                                   list, length, work, JOFTAKI_WORK_LENGTH(STATIONS, SLOTS)));
+    printf("verdict %s\n", verdict_word(verdict));
+}
+
+/* Verdicts on the ways of 0 to 4, one behind another as first way and next way give them: on all three, on the first two, and
+ * on all with the last leg cut off. */
+static void print_verdicts(uint64_t *work)
+{
+    uint16_t list[3 * SLOTS];
+    uint16_t way[SLOTS];
+    size_t length = 0;
+    size_t hops;
+    uint32_t number = joftaki_first_way(plan, sizeof plan, STATIONS, SLOTS, USUAL, SOURCE, 4, &hops, way, SLOTS,
+                                        work, JOFTAKI_WORK_LENGTH(STATIONS, SLOTS));
+    while (number == JOFTAKI_ACCEPTED && length + hops <= 3 * SLOTS) {
+        size_t i;
+        for (i = 0; i < hops; i++)
+            list[length++] = way[i];
+        number = joftaki_next_way(plan, sizeof plan, STATIONS, SLOTS, USUAL, SOURCE, 4, &hops, way, SLOTS,
+                                  work, JOFTAKI_WORK_LENGTH(STATIONS, SLOTS));
+    }
+    if (number != JOFTAKI_LAST)
+        accept_or_stop(number);
+    print_verdict(4, list, length, work);
+    print_verdict(4, list, 6, work);
+    print_verdict(4, list, length - 1, work);
+}
+
 /* Foremost: the slot in which a reading arrives first, the fewest legs then, and the count and the through counts of these
  * ways. Of the three least ways from 0 to 3 two arrive in slot 2; the third arrives in slot 3. */
 static void print_foremost(size_t destination, uint64_t *work)
@@ -195,6 +242,7 @@ int main(void)
     print_pair(USUAL, 4, work);
     print_ways(USUAL, 4, work);
     print_set(4, work);
+    print_verdicts(work);
     print_pair(USUAL, 3, work);
     print_ways(USUAL, 3, work);
     print_pair(SLOW, 3, work);

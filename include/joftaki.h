@@ -18,10 +18,10 @@
  *
  * Answers. Every function gives a number: 0 where the call is accepted, else the number of the papers' first cause that
  * holds, in their order: 1, 2, then 3, 4, 5 record by record, then 12, 13, 6, 7, 8, 11, 9, 10. First way and next way have two
- * more numbers, JOFTAKI_NONE and JOFTAKI_LAST, which are acceptances. A slot (arrival, hops, count, station, offset, length)
- * is always written: its value on acceptance; 0 on every refusal, and 0 beside JOFTAKI_NONE and JOFTAKI_LAST.
+ * more numbers, JOFTAKI_NONE and JOFTAKI_LAST, which are acceptances. A slot (arrival, hops, count, station, verdict, offset,
+ * length) is always written: its value on acceptance; 0 on every refusal, and 0 beside JOFTAKI_NONE and JOFTAKI_LAST.
  *
- * Lent memory. Tables, buffers, sets and work areas may hold anything at entry. Numbers 1 to 8 and 11 to 13 leave all of them
+ * Lent memory. Tables, buffers, sets, lists and work areas may hold anything at entry. Numbers 1 to 8 and 11 to 13 leave all of them
  * as they were. 9 sets the named parts of the tables and of the work area to 0 and leaves the way buffer. 10 sets the named
  * part of the work area to 0 and leaves the way buffer. Every acceptance leaves the named part of the work area 0. The named
  * part is the length said at each prototype, whatever g is; entries past it are never touched, and longer is always fine.
@@ -41,7 +41,7 @@
  *     not const for writing;
  *   - it is aligned for its type;
  *   - it is not null, also where the length is 0;
- *   - no slot, table, buffer, set, work area or plan overlaps another that is lent to the same call;
+ *   - no slot, table, buffer, set, list, work area or plan overlaps another that is lent to the same call;
  *   - nothing else reads or writes what is lent as not const, or writes what is lent as const, until the call returns;
  *   - an area takes at most PTRDIFF_MAX bytes.
  *
@@ -79,6 +79,11 @@ extern "C" {
 /* First way and next way: acceptances that give no way. */
 #define JOFTAKI_NONE 100u /* the pair has no way */
 #define JOFTAKI_LAST 101u /* there is no way after the one in the buffer */
+
+/* The verdicts. Beside a refusal there is none: 0. */
+#define JOFTAKI_COMPLETE 1u  /* all least ways of the pair, one behind another */
+#define JOFTAKI_BEGINNING 2u /* the first few whole ways, fewer than all, possibly none */
+#define JOFTAKI_WRONG 3u     /* anything else */
 
 /* The limits of n, of t, of g and of the records of a plan. */
 #define JOFTAKI_MOST_STATIONS 256
@@ -300,6 +305,27 @@ uint32_t joftaki_next_way(const uint8_t *plan, size_t plan_length, size_t n, siz
                           size_t *hops,
                           uint16_t *way, size_t way_length,
                           uint64_t *work, size_t work_length);
+
+/*
+ * The verdict on a list of positions that somebody else wrote for the pair s, z (document 02, C-19), in *verdict. The list is
+ * held against the least ways of the pair in their order, the positions of one behind those of the one before:
+ * JOFTAKI_COMPLETE where it is exactly these; JOFTAKI_BEGINNING where it is the first few whole ways, fewer than all, possibly
+ * none; JOFTAKI_WRONG where it is neither, as a list cut inside a way, with a way missing or twice, in another order, or with
+ * anything behind the last way. Where the pair has no way the empty list is complete, and every other list is wrong. An entry
+ * that is no position makes the list wrong.
+ *
+ * Lend: list any length, also 0 entries (the pointer is not null), only read; work JOFTAKI_WORK_LENGTH(n, t) entries.
+ * Gives 0, or the first of 1, 2, 3, 4, 5, 12, 6, 7, 8, 9. 8 is for work alone: no list is too short. 9 sets the named part of
+ * work to 0.
+ * Proved: the number, the slot, and every entry of work at exit. That what a listing gives from one accepted first way until
+ * just before the next is complete where all ways are out, and a beginning otherwise, is a theorem (crates/demands/specs/Verdicts.antt).
+ * Not covered: each pointer is valid for its length, aligned and not null, also where its length is 0; verdict is valid,
+ * aligned and not null; the slot, list, work and the plan do not overlap.
+ */
+uint32_t joftaki_verdict(const uint8_t *plan, size_t plan_length, size_t n, size_t t, size_t g, size_t s, size_t z,
+                         uint32_t *verdict,
+                         const uint16_t *list, size_t list_length,
+                         uint64_t *work, size_t work_length);
 
 #ifdef __cplusplus
 }

@@ -19,9 +19,10 @@
 #define MARK 0xa5
 
 static uint8_t plan[T * JOFTAKI_RECORD_BYTES], set[N];
-static uint16_t hops_table[TABLE], near_hops[N], way[T];
+static uint16_t hops_table[TABLE], near_hops[N], way[T], list[T];
 static uint64_t counts[TABLE], near_counts[N], through[N], pairs[N], loads[N], work[WORK], count;
 static size_t offset, length, arrival, hops, station;
+static uint32_t verdict;
 
 static uint32_t run_check(void) { return joftaki_check(plan, sizeof plan, N, T); }
 static uint32_t run_reach(void)
@@ -56,6 +57,10 @@ static uint32_t run_next_way(void)
 {
     return joftaki_next_way(plan, sizeof plan, N, T, 1, 0, 255, &hops, way, T, work, WORK);
 }
+static uint32_t run_verdict(void)
+{
+    return joftaki_verdict(plan, sizeof plan, N, T, 1, 0, 255, &verdict, list, T, work, WORK);
+}
 
 static const struct {
     const char *name;
@@ -68,6 +73,7 @@ static const struct {
     {"joftaki_busiest", run_busiest, 0},     {"joftaki_first_way", run_first_way, 0},
     {"joftaki_next_way", run_next_way, JOFTAKI_LAST}, {"joftaki_through_set", run_through_set, 0},
     {"joftaki_foremost", run_foremost, 0},   {"joftaki_partial_loads", run_partial_loads, 0},
+    {"joftaki_verdict", run_verdict, 0},
 };
 
 static unsigned char stack[STACK];
@@ -92,6 +98,7 @@ int main(void)
         record[1] = (unsigned char)(i + 1);
         record[3] = (unsigned char)i;
         record[5] = (unsigned char)(i + 1);
+        list[i] = (uint16_t)i;
     }
     for (i = 0; i < sizeof calls / sizeof calls[0]; i++) {
         unsigned char *lowest = stack;

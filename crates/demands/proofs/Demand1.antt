@@ -6,6 +6,7 @@ use mathlib.Core.Path.{_≡_, refl, sym, ap, subst, _∙_}
 use mathlib.Core.Bool.{Bool, true, false}
 use mathlib.Core.List.{List, [], _∷_, append-assoc}
 use mathlib.Core.Logic.{_↔_, _≢_}
+use mathlib.Core.Option.{none}
 use borrow.Author.Tests.{le-ltb}
 use lib.ListN.{length, take, drop, length-take, length-drop}
 use Rattle.temporal.specs.Plan.{Terms}
@@ -15,6 +16,7 @@ use Rattle.temporal.specs.Outcome.{cleared, workSize, ReachTables, reached, rea
 use Rattle.temporal.specs.OutcomePair.{PairBuffers, paired, pair, LoadBuffers, partlyLoaded, partialLoads, loads, compared, busiest}
 use Rattle.temporal.specs.OutcomeSet.{setCounted, throughSet}
 use Rattle.temporal.specs.OutcomeForemost.{foremostPaired, foremost}
+use Rattle.temporal.specs.OutcomeVerdict.{judged, verdict}
 use Rattle.plan.specs.Fault.{checkNumber}
 use Rattle.plan.specs.declared.CheckAnswer.{CheckAnswer}
 use Rattle.plan.specs.declared.CheckAnswer.the-variants as check-answer
@@ -33,6 +35,7 @@ use Rattle.demands.specs.Causes.{
   busiestCauses,
   throughSetCauses,
   foremostCauses,
+  verdictCauses,
   firstWayCauses,
   nextWayCauses,
   wayEmptied,
@@ -89,17 +92,17 @@ row-judged n t v table part k number is-row =
     record {
       numbered = numbered (rowCauses n t v table) k number;
       empty = (
-        λ e none. full (sym number ∙ none) e,
+        λ e free. full (sym number ∙ free) e,
         λ some. let positive = pos-of-ne-zero some in is-row ∙ row-refused n t v table (omega arith),
       );
     }
   where
     -- an accepted row has t + 1 entries
     full : rowNumber n t v table ≡ 0 → part ≡ [] → ⊥
-    full none e =
-        let inside = row-within n t v table none in
+    full free e =
+        let inside = row-within n t v table free in
         let fits = row-end v n (t + 1) (length table) (inside .0) (inside .2) in
-        let entries : part ≡ take (t + 1) (drop (v * (t + 1)) table) = is-row ∙ row-part n t v table none in
+        let entries : part ≡ take (t + 1) (drop (v * (t + 1)) table) = is-row ∙ row-part n t v table free in
         let size : length part ≡ t + 1 = ap length entries ∙ simp (length-take, length-drop) (omega arith) in
         let nothing : length part ≡ 0 = ap length e in
         omega arith
@@ -154,6 +157,13 @@ foremost-judged bs n t terms s z old =
     judged-entered (record { slot = 0; hops = 0; count = 0 }) old (pairEmptied n t old) _ _ _ (plain-pair bs n t terms _ s z)
     (judged-work (record { slot = 0; hops = 0; count = 0 }) old (pairEmptied n t old) (appearanceTooMany (planOf bs n t terms) s) _ refl)
 
+verdict-judged : (bs : List ℕ) (n t : ℕ) (terms : Terms) (s z : ℕ) (list old : List ℕ)
+    → Judged (verdictCauses bs n t terms s z old) none old (cleared (workSize n t) old) (verdict bs n t terms s z list old)
+unfolding verdict judged verdictCauses planOf
+verdict-judged bs n t terms s z list old =
+    judged-entered none old (cleared (workSize n t) old) _ _ _ (plain-pair bs n t terms _ s z)
+    (judged-work none old (cleared (workSize n t) old) (tooMany (planOf bs n t terms) s) _ refl)
+
 -- ---- the theorem
 
 pub demand1 : Demand1
@@ -181,6 +191,9 @@ demand1 =
           subst
           (Judged (foremostCauses bs n t terms s z old) (record { slot = 0; hops = 0; count = 0 }) old (pairEmptied n t old))
           (sym e) (foremost-judged bs n t terms s z old);
+      of-verdict = λ bs n t terms s z list old x r e.
+          subst (Judged (verdictCauses bs n t terms s z old) none old (cleared (workSize n t) old)) (sym e)
+          (verdict-judged bs n t terms s z list old);
       of-first-way = λ bs n t g s z old x r e.
           subst (Judged (firstWayCauses (question bs n t g s z) old) 0 old (wayEmptied n t old)) (sym (ap outcomeOf e))
           (first-way-judged (question bs n t g s z) old);

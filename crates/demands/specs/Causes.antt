@@ -101,6 +101,12 @@ foremostCauses bs n t terms s z old =
     pairCauses terms n s z (short n (old .throughTable) || short (workSize n t) (old .work)) ++
     cause 9 (appearanceTooMany (planOf bs n t terms) s) ∷ []
 
+-- ---- The verdict on a list (document 02, C-19): 1 to 5, 12, 6 to 9; 8 is for the work area alone, and of what is lent it writes that alone
+
+unfoldable pub verdictCauses : List ℕ → ℕ → ℕ → Terms → ℕ → ℕ → List ℕ → List ℕ
+verdictCauses bs n t terms s z old =
+    planCauses bs n t ++ pairCauses terms n s z (short (workSize n t) old) ++ cause 9 (tooMany (planOf bs n t terms) s) ∷ []
+
 -- ---- Operation 7, first way: 1 to 5, 12, 6 to 9; operation 8, next way: the same, then 10
 
 -- the two lent buffers of first way and next way

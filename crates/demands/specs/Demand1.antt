@@ -6,6 +6,7 @@ use Prim.Native.Nat.{ℕ}
 use mathlib.Core.Path.{_≡_}
 use mathlib.Core.Logic.{_↔_, _≢_}
 use mathlib.Core.List.{List, [], _∷_}
+use mathlib.Core.Option.{none}
 use denote.Ref.{RefT}
 use Rattle.temporal.specs.Plan.{Terms}
 use Rattle.temporal.specs.Cause.{first, planCauses, planFault}
@@ -13,6 +14,7 @@ use Rattle.temporal.specs.Outcome.{Outcome, cleared, workSize, ReachTables, rea
 use Rattle.temporal.specs.OutcomePair.{PairBuffers, pair, LoadBuffers, partialLoads, loads, busiest}
 use Rattle.temporal.specs.OutcomeSet.{throughSet}
 use Rattle.temporal.specs.OutcomeForemost.{foremost}
+use Rattle.temporal.specs.OutcomeVerdict.{verdict}
 use Rattle.temporal.specs.Cursor.{Reply, path, no-path, last-path, refused, first-way, next-way}
 use Rattle.temporal.specs.FirstNext.{WayContract}
 use Rattle.plan.specs.Fault.{checkNumber}
@@ -30,6 +32,8 @@ use Rattle.sets.specs.Answer.{setOutcome}
 use Rattle.sets.specs.declared.SetAnswer.{SetAnswer}
 use Rattle.foremost.specs.Answer.{foremostOutcome}
 use Rattle.foremost.specs.declared.ForemostAnswer.{ForemostAnswer}
+use Rattle.verdicts.specs.Answer.{verdictOutcome}
+use Rattle.verdicts.specs.declared.VerdictAnswer.{VerdictAnswer}
 use Rattle.listing.specs.Answer.{replyOf, question}
 use Rattle.listing.specs.declared.WayAnswer.{WayAnswer}
 use Rattle.demands.specs.Limits.{WithinLimits}
@@ -45,6 +49,7 @@ use Rattle.demands.specs.Causes.{
   busiestCauses,
   throughSetCauses,
   foremostCauses,
+  verdictCauses,
   WayBuffers,
   firstWayCauses,
   nextWayCauses,
@@ -125,6 +130,9 @@ pub record Demand1 : Type 0 where
       → foremostOutcome r x ≡ foremost bs n t terms s z old
       → Judged (foremostCauses bs n t terms s z old) (record { slot = 0; hops = 0; count = 0 }) old (pairEmptied n t old)
       (foremostOutcome r x)
+  pub of-verdict : (bs : List ℕ) (n t : ℕ) (terms : Terms) (s z : ℕ) (list old x : List ℕ) (r : VerdictAnswer)
+      → verdictOutcome r x ≡ verdict bs n t terms s z list old
+      → Judged (verdictCauses bs n t terms s z old) none old (cleared (workSize n t) old) (verdictOutcome r x)
   pub of-first-way : (bs : List ℕ) (n t g s z : ℕ) (old x : WayBuffers) (r : WayAnswer)
       → WayContract first-way (question bs n t g s z) (old .way) (old .work) (replyOf r) (x .way) (x .work)
       → Judged (firstWayCauses (question bs n t g s z) old) 0 old (wayEmptied n t old) (wayResult r x)

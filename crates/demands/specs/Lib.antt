@@ -19,3 +19,5 @@ pub mod Foremost
 pub mod Account
 -- C-18: partial loads
 pub mod Partial
+-- C-19: verdicts on lists
+pub mod Verdicts

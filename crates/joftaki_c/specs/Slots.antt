@@ -1,14 +1,16 @@
--- What the lent slots of reach, row, pair, loads, busiest, through_set and foremost hold at exit, beside the number given.
+-- What the lent slots of reach, row, pair, loads, busiest, through_set, foremost and verdict hold at exit, beside the number given.
 -- Definitions only.
 -- Assumes nothing.
 use Prim.Native.Nat.{ℕ, _+_, _*_}
 use mathlib.Core.Path.{_≡_}
 use mathlib.Core.List.{List}
+use mathlib.Core.Option.{Option, none, some}
 use lib.ListN.{take, drop}
 use Rattle.temporal.specs.Cause.{unless}
 use Rattle.temporal.specs.Outcome.{Outcome, rowNumber, row}
 use Rattle.temporal.specs.OutcomePair.{PairValues, PairBuffers}
 use Rattle.temporal.specs.OutcomeForemost.{ForemostValues}
+use Rattle.temporal.specs.Verdict.{Verdict, complete, beginning, wrong}
 
 -- a number with the lent buffers at exit
 abbrev pub answered : {Buffers : Type 0} → ℕ → Buffers → Outcome (Unit {0}) Buffers
@@ -37,3 +39,18 @@ setGiven r count work = record { number = r; values = count; buffers = work }
 abbrev pub foremostGiven : ℕ → ℕ → ℕ → ℕ → PairBuffers → Outcome ForemostValues PairBuffers
 foremostGiven r arrival hops count b =
     record { number = r; values = record { slot = arrival; hops = hops; count = count }; buffers = b }
+
+-- the number behind the name of a verdict in the header; 0 where there is none
+unfoldable pub verdictCode : Option Verdict → ℕ
+verdictCode none = 0
+verdictCode (some complete) = 1
+verdictCode (some beginning) = 2
+verdictCode (some wrong) = 3
+
+-- a number with verdict's slot and the work area at exit
+abbrev pub verdictTold : ℕ → ℕ → List ℕ → Outcome ℕ (List ℕ)
+verdictTold r told work = record { number = r; values = told; buffers = work }
+
+-- what the operation answers, with the verdict by its number
+unfoldable pub verdictCoded : Outcome (Option Verdict) (List ℕ) → Outcome ℕ (List ℕ)
+verdictCoded o = record { number = o .number; values = verdictCode (o .values); buffers = o .buffers }

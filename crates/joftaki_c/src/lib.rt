@@ -1,18 +1,21 @@
 // The operations for C: numbers as themselves, a slice as pointer and length, the papers' number as the answer (0: accepted),
 // and the values beside it in lent slots, 0 on refusal. include/joftaki.h declares them.
 ghost use mathlib.Core.Path.{_≡_};
+ghost use mathlib.Core.Option.{some};
 ghost use Rattle.temporal.specs.Plan.{turning};
 ghost use Rattle.temporal.specs.Cause.{planFault};
 ghost use Rattle.temporal.specs.Outcome.{reach, rowNumber};
 ghost use Rattle.temporal.specs.OutcomePair.{pair, partialLoads, loads, busiest};
 ghost use Rattle.temporal.specs.OutcomeSet.{throughSet};
 ghost use Rattle.temporal.specs.OutcomeForemost.{foremost};
+ghost use Rattle.temporal.specs.OutcomeVerdict.{verdict};
 ghost use Rattle.temporal.specs.Cursor.{first-way, next-way};
 ghost use Rattle.temporal.specs.FirstNext.{wayAnswer};
 ghost use Rattle.plan.specs.Fault.{faultNumber};
 ghost use Rattle.reach.specs.Pass.{lentTables};
 ghost use Rattle.pair.specs.Answer.{pairBuffers};
 ghost use Rattle.loads.specs.Answer.{loadsNumber, loadBuffers};
+ghost use Rattle.judging.specs.Judge.{verdictOf};
 ghost use Rattle.listing.specs.Answer.{replyOf, question};
 ghost use Rattle.joftaki_c.specs.Slots.{
   answered,
@@ -21,9 +24,13 @@ ghost use Rattle.joftaki_c.specs.Slots.{
   busiestGiven,
   setGiven,
   foremostGiven,
+  verdictCode,
+  verdictTold,
+  verdictCoded,
 };
 ghost use Rattle.joftaki_c.specs.Code.{replyCode, replyHops, wayGiven, wayExit};
 use foremost::ForemostAnswer;
+use judging::Judgement;
 use listing::WayAnswer;
 use loads::BusiestAnswer;
 use loads::LoadsAnswer;
@@ -31,6 +38,7 @@ use pair::PairAnswer;
 use plan::Fault;
 use reach::ReachAnswer;
 use sets::SetAnswer;
+use verdicts::VerdictAnswer;
 
 // The papers' number of a fault, in 32 bits.
 fn fault_code(fault: Fault) -> u32
@@ -218,6 +226,44 @@ pub extern "C" fn joftaki_through_set(
         }
         SetAnswer::Refused(fault) => {
             *count = 0;
+            fault_code(fault)
+        }
+    }
+}
+
+// The number behind the name of a verdict.
+fn verdict_code(judgement: Judgement) -> u32
+    ensures { λ r. ⌜ r ≡ verdictCode (some (verdictOf judgement)) ⌝ }
+{
+    match judgement {
+        Judgement::Complete => 1,
+        Judgement::Beginning => 2,
+        Judgement::Wrong => 3,
+    }
+}
+
+// Document 02's operation that judges a list of positions: its number, and the verdict's number in a slot; 0 on refusal.
+#[no_mangle]
+pub extern "C" fn joftaki_verdict(
+    plan: &[u8],
+    n: usize,
+    t: usize,
+    g: usize,
+    s: usize,
+    z: usize,
+    told: &mut u32,
+    list: &[u16],
+    work: &mut [u64],
+) -> u32
+    ensures { λ r. ⌜ verdictTold r (now (told .exit)) (now (work .exit)) ≡ verdictCoded (verdict (now (plan .entry)) n t (turning g) s z (now (list .entry)) (now (work .entry))) ⌝ }
+{
+    match verdicts::verdict(plan, n, t, g, s, z, list, work) {
+        VerdictAnswer::Judged(judgement) => {
+            *told = verdict_code(judgement);
+            0
+        }
+        VerdictAnswer::Refused(fault) => {
+            *told = 0;
             fault_code(fault)
         }
     }

@@ -1,3 +1,3 @@
 -- how the operations begin, and what their work does
-mod CallLaws
-mod WorkLaws
+pub mod CallLaws
+pub mod WorkLaws

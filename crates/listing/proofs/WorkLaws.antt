@@ -137,7 +137,7 @@ module _ (q : Question) (way work : List ℕ) (ready : WayReady q way work) wher
       }
 
   module _ (mid : List ℕ) (r : Bool) (passed : Passed (q .bytes) (q .stations) (q .slots) (q .terms) (q .source) 0 0 work mid r) where
-    pass-beyond : drop (workSize (q .stations) (q .slots)) mid ≡ drop (workSize (q .stations) (q .slots)) work
+    pub pass-beyond : drop (workSize (q .stations) (q .slots)) mid ≡ drop (workSize (q .stations) (q .slots)) work
     pass-beyond =
         later-drop (areaSize (q .stations) (waiting (q .slots) (q .terms)) 0) (workSize (q .stations) (q .slots)) mid work
         within-area (passed .beyond)
@@ -167,10 +167,13 @@ module _ (q : Question) (way work : List ℕ) (ready : WayReady q way work) wher
       read-hops = read ∙ passed .counted fits .station-hops (q .destination) (ready .asked .destination)
 
       -- an empty list
+      pub list-empty : h ≡ 65535 → listOf q ≡ []
+      list-empty e = empty-hops (listOf q) few-list (sym read-hops ∙ e)
+
       pub worked-no-path : h ≡ 65535 → Worked first-way q way work no-path way mid
       unfolding go goFirst stay
       worked-no-path e =
-          let none = empty-hops (listOf q) few-list (sym read-hops ∙ e) in
+          let none = list-empty e in
           let m = goes first-way in
           record {
             reply = rw (m, none) refl;
@@ -182,7 +185,7 @@ module _ (q : Question) (way work : List ℕ) (ready : WayReady q way work) wher
       pub worked-no-offer : h ≡ 65535 → Worked next-way q way work (refused 10) way mid
       unfolding go goNext stay indexIn
       worked-no-offer e =
-          let none = empty-hops (listOf q) few-list (sym read-hops ∙ e) in
+          let none = list-empty e in
           let m = goes next-way in
           record {
             reply = rw (m, none) refl;
@@ -224,7 +227,7 @@ module _ (q : Question) (way work : List ℕ) (ready : WayReady q way work) wher
 
         module _ (done : List ℕ)
             (completed : Completed (q .bytes) (q .stations) (q .slots) (q .terms) (q .destination) mid done) where
-          done-beyond : drop (workSize (q .stations) (q .slots)) done ≡ drop (workSize (q .stations) (q .slots)) work
+          pub done-beyond : drop (workSize (q .stations) (q .slots)) done ≡ drop (workSize (q .stations) (q .slots)) work
           done-beyond =
               later-drop (q .stations * (q .slots + 1)) (workSize (q .stations) (q .slots)) done mid (omega arith)
               (completed .beyond) ∙ pass-beyond

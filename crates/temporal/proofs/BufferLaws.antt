@@ -1,8 +1,12 @@
--- What is written to the beginning of a buffer, as whole lists. Assumes nothing.
+-- What is written to the beginning of a buffer, as whole lists; and when two lists of numbers are the same. Assumes nothing.
 use Prim.Native.Nat.{ℕ, zero, suc, _+_, _-_, _<_, _≤_}
 use native.Mathlib.Omega.{arith}
 use mathlib.Core.Path.{_≡_, refl, sym, ap, ap₂, _∙_}
+use mathlib.Core.Bool.{true, and-eq-true-iff}
 use mathlib.Core.List.{List, [], _∷_, _++_, map}
+use mathlib.Core.Logic.{_↔_}
+use borrow.Author.Tests.{eqb-true, eq-eqb}
+use lib.Dec.{eqb}
 use lib.ListN.{
   length,
   getD,
@@ -20,7 +24,8 @@ use lib.ListN.{
 use lib.Seq.{ext-getD, getD-take, length-take-le, drop-drop}
 use Rattle.temporal.specs.Lists.{below}
 use Rattle.temporal.specs.Outcome.{over}
-use Rattle.temporal.proofs.ListLaws.{length-below, getD-below}
+use Rattle.temporal.specs.Cursor.{sameNumbers}
+use Rattle.temporal.proofs.ListLaws.{not-both, length-below, getD-below}
 
 -- a list whose first k entries are new, and whose others are the old ones
 pub over-by :
@@ -74,3 +79,19 @@ pub later-drop : (a b : ℕ) (x y : List ℕ) → a ≤ b → drop a x ≡ drop 
 later-drop a b x y h e =
     let place : b ≡ a + (b - a) = omega arith in
     rw place (sym (drop-drop (b - a) a x) ∙ ap (drop (b - a)) e ∙ drop-drop (b - a) a y)
+
+-- two lists of numbers are the same where the test says so
+pub same-numbers : (u w : List ℕ) → (sameNumbers u w ≡ true) ↔ (u ≡ w)
+unfolding sameNumbers
+same-numbers [] [] = (λ e. refl, λ e. refl)
+same-numbers [] (y ∷ w) = (λ e. absurd (not-both e refl), λ e. absurd (let z : _≡_ {A = ℕ} 0 1 = cc in omega arith))
+same-numbers (x ∷ u) [] = (λ e. absurd (not-both e refl), λ e. absurd (let z : _≡_ {A = ℕ} 0 1 = cc in omega arith))
+same-numbers (x ∷ u) (y ∷ w) = (
+  λ e. let (a, b) = and-eq-true-iff (eqb x y) (sameNumbers u w) .0 e in
+      let first = eqb-true x y a in
+      let rest = same-numbers u w .0 b in
+      cc,
+  λ e. let first : x ≡ y = cc in
+      let rest : u ≡ w = cc in
+      and-eq-true-iff (eqb x y) (sameNumbers u w) .1 (eq-eqb x y first, same-numbers u w .1 rest),
+)

@@ -21,6 +21,8 @@ use Rattle.temporal.specs.Bytes.{records, planOf}
 use Rattle.temporal.specs.Cause.{cause, first, unless, outside, wrongLength, planCauses, planFault, wrongTurnaround, pairCauses, tooMany}
 use Rattle.temporal.specs.Outcome.{entered, short, workSize}
 use Rattle.temporal.specs.OutcomePair.{partialLoads}
+use Rattle.temporal.specs.Cursor.{sameNumbers}
+use Rattle.temporal.specs.Verdict.{complete, beginning, wrong, joined, verdictOn}
 use Rattle.temporal.specs.OutcomeSet.{wrongSet, setCauses, setCounted, throughSet}
 use Rattle.temporal.proofs.CauseLaws.{first-append-none}
 
@@ -161,11 +163,24 @@ foremost-fewest-hops : foremostTold detours 0 3 ≡ 4 ∷ 2 ∷ 2 ∷ []
 unfolding foremostTold detours from below firstWhere select any member distinct tuples leadsTo mayFollow along step run lastOr holds endsIn isWalk isPath orElse firstNonempty ofHops shortest shortestWalks shortestPaths hops arrival foremostPaths flatMap bind
 foremost-fewest-hops = refl
 
+-- ---- verdicts (document 02, C-19)
+
+-- Two ways of two positions each: none and one of them are beginnings, both are complete; cut inside a way, without the first, in
+-- another order, with one way twice, or with an entry behind, a list is wrong. Where there is no way the empty list is complete.
+verdicts-on-lists :
+    map (verdictOn ((0 ∷ 2 ∷ []) ∷ (1 ∷ 2 ∷ []) ∷ []))
+    ([] ∷ (0 ∷ 2 ∷ []) ∷ (0 ∷ 2 ∷ 1 ∷ 2 ∷ []) ∷ (0 ∷ 2 ∷ 1 ∷ []) ∷ (1 ∷ 2 ∷ []) ∷ (1 ∷ 2 ∷ 0 ∷ 2 ∷ []) ∷ (0 ∷ 2 ∷ 0 ∷ 2 ∷ []) ∷
+    (0 ∷ 2 ∷ 1 ∷ 2 ∷ 0 ∷ []) ∷ []) ∷
+    map (verdictOn []) ([] ∷ (0 ∷ []) ∷ []) ∷ [] ≡
+    (beginning ∷ beginning ∷ complete ∷ wrong ∷ wrong ∷ wrong ∷ wrong ∷ wrong ∷ []) ∷ (complete ∷ wrong ∷ []) ∷ []
+unfolding from below any sameNumbers joined verdictOn flatMap
+verdicts-on-lists = refl
+
 -- Where 1 to 8 and 12 do not hold, and both 9 and 11 do, 11 is told (document 02, C-12).
 pub eleven-before-nine :
     (bs : List ℕ) (n t : ℕ) (terms : Terms) (s z : ℕ) (set old : List ℕ) → planFault bs n t ≡ 0 →
     first (pairCauses terms n s z (short n set || short (workSize n t) old)) ≡ 0 → wrongSet n set ≡ true →
     tooMany (planOf bs n t terms) s ≡ true → throughSet bs n t terms s z set old .number ≡ 11
 unfolding throughSet setCounted entered setCauses planFault first cause unless
-eleven-before-nine bs n t terms s z set old ok free wrong many =
-    rw (wrong, many, first-append-none (planCauses bs n t) _ ok, first-append-none (pairCauses terms n s z _) _ free)
+eleven-before-nine bs n t terms s z set old ok free byte many =
+    rw (byte, many, first-append-none (planCauses bs n t) _ ok, first-append-none (pairCauses terms n s z _) _ free)

@@ -23,6 +23,7 @@ pub mod CheckLaws
 pub mod ListLaws
 pub mod OptionLaws
 pub mod BufferLaws
+pub mod VerdictLaws
 pub mod ShortestLaws
 pub mod GrownLaws
 pub mod FewLaws

@@ -14,6 +14,8 @@ pub mod OutcomePair
 pub mod OutcomeSet
 pub mod OutcomeForemost
 pub mod Cursor
+pub mod Verdict
+pub mod OutcomeVerdict
 pub mod FirstNext
 pub mod Trace
 pub mod TraceGiven

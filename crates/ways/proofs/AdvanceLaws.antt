@@ -47,10 +47,15 @@ module _ (bs : List ℕ) (q : Pair) (l : List ℕ) (k from : ℕ) (b : List ℕ)
   unfolding putAt foundAt endOf bind
   placed-nowhere e = rw (← ends, e)
 
+  pub found-nowhere : r ≡ end.Nowhere → foundOf found.Nothing ≡ foundAt bs q l k from b
+  unfolding foundAt endOf foundOf bind
+  found-nowhere e = rw (← ends, e)
+
   module _ (x : Spot) (at : r ≡ end.At x) (f : Found)
       (search : foundOf f ≡ firstFrom (servesAt (planIn bs q) l (q .slots + 1) (spotOf x) (q .hops - (k + 1))) from
       (records bs - from)) where
-    found-there : foundAt bs q l k from b ≡ foundOf f
+    -- the search goes on from where they lead
+    pub found-there : foundAt bs q l k from b ≡ foundOf f
     unfolding foundAt endOf bind
     found-there = rw (← ends, at) (sym search)
 

@@ -8,6 +8,6 @@ mod PassLaws
 -- the order of lists, searches, buffers, and what the code's tests decide
 pub mod OrderLaws
 mod SearchLaws
-mod ListingLaws
+pub mod ListingLaws
 mod CodeLaws
 mod AdvanceLaws

@@ -33,7 +33,7 @@ use Rattle.ways.proofs.SearchLaws.{FirstAt, first-some, first-none, lea
 use Rattle.ways.proofs.SearchLaws.{none-behind}
 use Rattle.ways.proofs.PrefixLaws.{shifted, step-inside, completes-inv, completes-nil, completes-snoc}
 use Rattle.ways.proofs.PrefixLaws.{hops-within}
-use Rattle.ways.proofs.PrefixLaws.{completes-front, completes-onward, completes-bounded, completes-walk}
+use Rattle.ways.proofs.PrefixLaws.{completes-rise, completes-front, completes-onward, completes-bounded, completes-walk}
 use Rattle.ways.proofs.PrefixLaws.{mem-complete}
 use Rattle.ways.proofs.PrefixLaws.{ends-end}
 
@@ -112,14 +112,20 @@ module _ (bs : List ℕ) (q : Pair) (b₀ : List ℕ) (g : Listable bs q b₀) w
       (q .hops) (g .source) (g .fewest) (g .path)
 
   -- what completes has a front that completes, and can be gone on with
-  front : (w : List ℕ) (i : ℕ) → begins bs q (w ++ i ∷ []) ≡ true → begins bs q w ≡ true
+  pub front : (w : List ℕ) (i : ℕ) → begins bs q (w ++ i ∷ []) ≡ true → begins bs q w ≡ true
   front =
       completes-front bs (q .stations) (q .slots) (termsIn q) (g .accepted) (q .source) (q .destination)
       (q .hops) (g .source) (g .fewest) (g .path)
 
-  onward : (w : List ℕ) → begins bs q w ≡ true → length w < q .hops → (i : ℕ) × (begins bs q (w ++ i ∷ []) ≡ true)
+  pub onward : (w : List ℕ) → begins bs q w ≡ true → length w < q .hops → (i : ℕ) × (begins bs q (w ++ i ∷ []) ≡ true)
   onward =
       completes-onward bs (q .stations) (q .slots) (termsIn q) (g .accepted) (q .source) (q .destination)
+      (q .hops) (g .source) (g .fewest) (g .path)
+
+  -- the positions of a beginning rise
+  pub rise : (w : List ℕ) (i m : ℕ) → begins bs q ((w ++ i ∷ []) ++ m ∷ []) ≡ true → i < m
+  rise =
+      completes-rise bs (q .stations) (q .slots) (termsIn q) (g .accepted) (q .source) (q .destination)
       (q .hops) (g .source) (g .fewest) (g .path)
 
   -- a position that completes is one of the plan's
@@ -150,11 +156,11 @@ module _ (bs : List ℕ) (q : Pair) (b₀ : List ℕ) (g : Listable bs q b₀) w
       empty [] e = refl
       empty (x ∷ u) e = absurd (omega arith)
 
-  rises : Rising (listIn bs q)
+  pub rises : Rising (listIn bs q)
   rises = complete-list-rises p (q .source) (q .destination)
 
   -- its members are the lists of the pair's hops that complete
-  mem-list : {w : List ℕ} → List·Memᴰ w (listIn bs q) ↔ ((length w ≡ q .hops) × (begins bs q w ≡ true))
+  pub mem-list : {w : List ℕ} → List·Memᴰ w (listIn bs q) ↔ ((length w ≡ q .hops) × (begins bs q w ≡ true))
   mem-list =
       mem-complete bs (q .stations) (q .slots) (termsIn q) (g .accepted) (q .source) (q .destination)
       (q .hops) (g .source) (g .fewest) (g .path)

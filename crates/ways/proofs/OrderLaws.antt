@@ -17,12 +17,13 @@ use lib.Seq.{take-suc, take-all, length-take-le}
 use Rattle.temporal.specs.Lists.{Before, Rising}
 use Rattle.temporal.specs.Walk.{holds}
 use Rattle.temporal.specs.Cursor.{sameNumbers, indexIn}
-use Rattle.temporal.proofs.ListLaws.{not-both, before-irrefl, rising-getD, mem-getD}
+use Rattle.temporal.proofs.ListLaws.{before-irrefl, rising-getD, mem-getD}
+use Rattle.temporal.proofs.BufferLaws.{same-numbers}
 
 -- ---- order
 
 -- of two lists not each stands before the other
-before-asym : (u w : List ℕ) → Before u w → Before w u → ⊥
+pub before-asym : (u w : List ℕ) → Before u w → Before w u → ⊥
 unfolding Before
 before-asym [] w h g = h
 before-asym (i ∷ u) [] h g = h
@@ -82,7 +83,7 @@ snoc k u e =
 -- ---- places in a list
 
 -- a member stands at a place
-place-of : {l : List (List ℕ)} {w : List ℕ} → List·Memᴰ w l → (i : ℕ) × (i < length l) × (getD l i [] ≡ w)
+pub place-of : {l : List (List ℕ)} {w : List ℕ} → List·Memᴰ w l → (i : ℕ) × (i < length l) × (getD l i [] ≡ w)
 place-of (List·Memᴰ·head e) = (0, omega arith, sym e)
 place-of (List·Memᴰ·tail m) = let (i, h, e) = place-of m in (suc i, omega arith, e)
 
@@ -135,22 +136,6 @@ module _ (l : List (List ℕ)) (rises : Rising l) where
         (rising-getD l rises i (i + 1) [] (omega arith) (omega arith))))
 
 -- ---- the member with which a buffer begins
-
--- two lists of numbers are the same where the test says so
-same-numbers : (u w : List ℕ) → (sameNumbers u w ≡ true) ↔ (u ≡ w)
-unfolding sameNumbers
-same-numbers [] [] = (λ e. refl, λ e. refl)
-same-numbers [] (y ∷ w) = (λ e. absurd (not-both e refl), λ e. absurd (let z : _≡_ {A = ℕ} 0 1 = cc in omega arith))
-same-numbers (x ∷ u) [] = (λ e. absurd (not-both e refl), λ e. absurd (let z : _≡_ {A = ℕ} 0 1 = cc in omega arith))
-same-numbers (x ∷ u) (y ∷ w) = (
-  λ e. let (a, b) = and-eq-true-iff (eqb x y) (sameNumbers u w) .0 e in
-      let first = eqb-true x y a in
-      let rest = same-numbers u w .0 b in
-      cc,
-  λ e. let first : x ≡ y = cc in
-      let rest : u ≡ w = cc in
-      and-eq-true-iff (eqb x y) (sameNumbers u w) .1 (eq-eqb x y first, same-numbers u w .1 rest),
-)
 
 -- the index is the place of a member with which the buffer begins
 pub index-inv : (l : List (List ℕ)) (b : List ℕ) (i : ℕ) → indexIn l b ≡ some i

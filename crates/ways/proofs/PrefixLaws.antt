@@ -6,26 +6,26 @@ use mathlib.Core.Path.{_≡_, refl, sym, ap, _∙_, subst}
 use mathlib.Core.Bool.{Bool, true, false}
 use mathlib.Core.List.{List, [], _∷_, _++_, List·Memᴰ, append-nil, append-assoc}
 use mathlib.Core.Logic.{⊎-elim, by-cases, _↔_}
-use mathlib.Core.Option.{Option, none, some, Option·map, bind, map-eq-some-iff}
+use mathlib.Core.Option.{Option, none, some, Option·map, bind, map-eq-some-iff, bind-eq-some-iff}
 use native.Mathlib.Omega.{arith}
 use native.Mathlib.Decide.{decLe}
 use borrow.Author.Tests.{eqb-true, eqb-false, eq-eqb, ne-eqb}
 use lib.Dec.{eqb}
 use lib.ListN.{length, length-append}
 use Rattle.temporal.specs.Lists.{tuples}
-use Rattle.temporal.specs.Plan.{Plan, Terms, Appearance, start}
+use Rattle.temporal.specs.Plan.{Contact, Plan, Terms, Appearance, start}
 use Rattle.temporal.specs.Walk.{step, run, lastOr, holds, endsIn, isAt, isWalkTo}
 use Rattle.temporal.specs.Shortest.{ofHops, shortestPaths, hops}
-use Rattle.temporal.specs.Bytes.{planOf}
+use Rattle.temporal.specs.Bytes.{contactAt, planOf}
 use Rattle.temporal.specs.Cause.{planFault}
 use Rattle.temporal.proofs.ListLaws.{not-both, select-ext, mem-tuples}
 use Rattle.temporal.proofs.OptionLaws.{holds-inv}
-use Rattle.temporal.proofs.RuleLaws.{leads-below}
+use Rattle.temporal.proofs.RuleLaws.{leads-below, follows-later}
 use Rattle.temporal.proofs.ShortestLaws.{Bounded, hops-bound, mem-ofHops-bounded, hops-empty}
 use Rattle.temporal.proofs.WalkLaws.{step-inv, run-append, run-join, last-append, run-within, run-positions}
 use Rattle.temporal.proofs.WalkLaws.{ends-inv, ends-intro, ends-nil, ends-step, ends-after}
 use Rattle.temporal.proofs.Accepted.{accepted}
-use Rattle.temporal.proofs.PlanLaws.{contact-within, slots-within}
+use Rattle.temporal.proofs.PlanLaws.{contact-inv, contact-within, slots-within, slots-sorted}
 use Rattle.temporal.proofs.Adequacy.{bounded-ends, shortest-walks-are-paths, walk-ends-within}
 use Rattle.counting.proofs.Fewest.{shortest-ofHops}
 use Rattle.ways.specs.Home.{homeFrom}
@@ -221,6 +221,27 @@ module _ (bs : List ℕ) (n t : ℕ) (terms : Terms) (ok : planFault bs n t ≡ 
             let saves = home-step z x i (end-slot s w inside q) steps in
             let most = start-fewest w q in
             completes-intro w q (omega (arith, length-append w (i ∷ [])))
+
+    -- positions that complete rise: slots do, and the records stand by slots
+    pub completes-rise : (w : List ℕ) (i m : ℕ) → completes p s z k ((w ++ i ∷ []) ++ m ∷ []) ≡ true → i < m
+    completes-rise w i m e =
+        let (y, there, sum) = completes-inv ((w ++ i ∷ []) ++ m ∷ []) e in
+        let (x, before, steps) = bind-eq-some-iff (endAfter p (start s) (w ++ i ∷ [])) _ .0
+        (sym (end-snoc p (start s) (w ++ i ∷ []) m) ∙ there) in
+        let (x₀, front, came) = bind-eq-some-iff (endAfter p (start s) w) _ .0 (sym (end-snoc p (start s) w i) ∙ before) in
+        let a = step-inv p x₀ i came in
+        let b = step-inv p x m steps in
+        let later = follows-later p (x .slot) (b .contact .slot) (b .follows) in
+        let here = contact-inv bs n t terms i (a .contact) (a .at-position) in
+        let there = contact-inv bs n t terms m (b .contact) (b .at-position) in
+        let slot = a .same-slot in
+        by-cases (decLe m i)
+        (λ h.
+        let sorted = slots-sorted bs n t terms ok m (i - m) (let inside = here .0 in omega arith) in
+        let place : m + (i - m) ≡ i = omega arith in
+        let fall : contactAt bs m .slot ≤ contactAt bs i .slot = rw place at sorted in
+        absurd (omega (arith, ap (λ (c : Contact). c .slot) (here .1), ap (λ (c : Contact). c .slot) (there .1))))
+        (λ h. omega arith)
 
     -- fewer positions than the pair's hops can be gone on with
     pub completes-onward : (w : List ℕ) → completes p s z k w ≡ true → length w < k

@@ -211,7 +211,7 @@ pub fn complete(work: &mut [u64], plan: &[u8], n: usize, t: usize, g: usize, z: 
 }
 
 // A 16-bit entry as a number.
-fn wide(x: u16) -> usize
+pub fn wide(x: u16) -> usize
     ensures { λ r. ⌜ (r ≡ x) × (r < 65536) ⌝ }
 {
     x as usize
@@ -301,6 +301,19 @@ fn find(work: &[u64], plan: &[u8], q: Pair, x: Spot, need: u64, from: usize) -> 
         i += 1;
     };
     found
+}
+
+// The first position from a given one on that leads home behind the first k entries of a buffer.
+pub fn found_behind(way: &[u16], work: &[u64], plan: &[u8], q: Pair, k: usize, from: usize) -> Found
+    requires { ⌜ Placeable (now plan) q (now work) k (now way) ⌝ }
+    ensures { λ r. ⌜ foundOf r ≡ foundAt (now (plan .entry)) q (now (work .entry)) k from (now (way .entry)) ⌝ }
+{
+    let end = end_of(way, plan, q, k);
+    let End::At(x) = end else {
+        return Found::Nothing;
+    };
+    let need = (q.hops - (k + 1)) as u64;
+    find(work, plan, q, x, need, from)
 }
 
 // Puts the first position from a given one on that leads home behind the first k entries. False where there is none.

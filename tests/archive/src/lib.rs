@@ -145,6 +145,20 @@ extern "C" {
         work: *mut u64,
         work_length: usize,
     ) -> u32;
+    fn joftaki_verdict(
+        plan: *const u8,
+        plan_length: usize,
+        n: usize,
+        t: usize,
+        g: usize,
+        s: usize,
+        z: usize,
+        verdict: *mut u32,
+        list: *const u16,
+        list_length: usize,
+        work: *mut u64,
+        work_length: usize,
+    ) -> u32;
     way_function!(joftaki_first_way);
     way_function!(joftaki_next_way);
 }
@@ -321,6 +335,27 @@ pub fn foremost(
         count,
         through.as_mut_ptr(),
         through.len(),
+        work.as_mut_ptr(),
+        work.len()
+    )
+}
+
+/// Document 02's verdict on a list of positions.
+pub fn verdict(
+    input: PlanInput,
+    (source, destination): Ends,
+    verdict: &mut u32,
+    list: &[u16],
+    work: &mut [u64],
+) -> u32 {
+    on_plan!(
+        joftaki_verdict,
+        input,
+        source,
+        destination,
+        verdict,
+        list.as_ptr(),
+        list.len(),
         work.as_mut_ptr(),
         work.len()
     )

@@ -31,7 +31,7 @@ pub fn serve(name: &str, plan: &str) -> Result<(), String> {
     let (n, t, records) = (plan.stations, plan.slots, plan.records());
     let (source, destination) = question.ends();
     println!("{name} from {source} to {destination}, n {n}, T {t}, records {records}");
-    let mut lent = Lent::new(&plan);
+    let mut lent = Lent::new(&plan, question);
     for line in io::stdin().lines() {
         line.map_err(|error| error.to_string())?;
         let start = thread_time();

@@ -27,7 +27,7 @@ pub fn once(side: &str, question: &str, plan: &str) -> Result<(), String> {
     let side = side_of(side)?;
     let plan = plan_of(plan)?;
     let question = question_of(question, &plan)?;
-    ask(&side, &plan, question, &mut Lent::new(&plan));
+    ask(&side, &plan, question, &mut Lent::new(&plan, question));
     Ok(())
 }
 
@@ -68,7 +68,7 @@ pub fn table() -> Result<(), String> {
         "ratio",
     ];
     print_head("Instructions", &columns);
-    for question in QUESTIONS {
+    for question in QUESTIONS.into_iter().chain(["verdict"]) {
         for plan in named() {
             print_row(&row(question, &plan.name)?);
         }

@@ -27,3 +27,10 @@ pub fn way(
     let number = archive::way(way, input, ends, &mut hops, buffer, work);
     (number, hops as usize)
 }
+
+/// Document 02's verdict: the number, and that of the verdict.
+pub fn verdict(input: PlanInput, ends: Ends, list: &[u16], work: &mut [u64]) -> (u32, u32) {
+    let mut verdict = 0;
+    let number = archive::verdict(input, ends, &mut verdict, list, work);
+    (number, verdict)
+}

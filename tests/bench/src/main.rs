@@ -1,4 +1,4 @@
-//! Times loads, pair and whole listings of libjoftaki_c.a beside the same passes in Rust, or beside
+//! Times loads, pair, whole listings and verdicts of libjoftaki_c.a beside the same passes in Rust, or beside
 //! another archive, and prints the tables of docs/PERFORMANCE.md.
 
 mod against;

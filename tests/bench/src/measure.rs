@@ -3,6 +3,8 @@
 use std::convert::Infallible;
 use std::time::Duration;
 
+use lister::plan::Ends;
+
 use crate::clock::thread_time;
 use crate::plans::Plan;
 use crate::question::{ask, compare, Lent, Question};
@@ -66,7 +68,7 @@ pub fn measure_plans(plans: [&Plan; 2], question: Question, effort: Effort) -> T
     for plan in plans {
         compare(plan, question);
     }
-    let mut lent = Lent::new(plans[0]);
+    let mut lent = Lent::new(plans[0], question);
     let Ok(times) = in_turn(effort, |side| {
         let start = thread_time();
         let calls = ask(&LIBRARY, plans[side], question, &mut lent);
@@ -78,10 +80,25 @@ pub fn measure_plans(plans: [&Plan; 2], question: Question, effort: Effort) -> T
 /// Compares the results, then times the library and Rust in turn on the same lent memory.
 pub fn measure(plan: &Plan, question: Question, effort: Effort) -> Times {
     compare(plan, question);
-    let mut lent = Lent::new(plan);
+    let mut lent = Lent::new(plan, question);
     let Ok(times) = in_turn(effort, |side| {
         let start = thread_time();
         ask(&[LIBRARY, RUST][side], plan, question, &mut lent);
+        Ok::<Duration, Infallible>(thread_time() - start)
+    });
+    times
+}
+
+/// Compares the results, then times the library's verdict on a whole listing and the listing itself in turn.
+pub fn measure_verdict(plan: &Plan, ends: Ends, effort: Effort) -> Times {
+    let questions = [Question::Verdict(ends), Question::Listing(ends)];
+    for question in questions {
+        compare(plan, question);
+    }
+    let mut lent = Lent::new(plan, questions[0]);
+    let Ok(times) = in_turn(effort, |asked| {
+        let start = thread_time();
+        ask(&LIBRARY, plan, questions[asked], &mut lent);
         Ok::<Duration, Infallible>(thread_time() - start)
     });
     times

@@ -16,6 +16,8 @@ pub enum Question {
     Pair(Ends),
     /// All paths of a pair, by first way and then next way until it answers last.
     Listing(Ends),
+    /// The verdict on a whole listing of a pair.
+    Verdict(Ends),
 }
 
 impl Question {
@@ -23,12 +25,12 @@ impl Question {
     pub fn ends(self) -> Ends {
         match self {
             Question::Loads => (0, 0),
-            Question::Pair(ends) | Question::Listing(ends) => ends,
+            Question::Pair(ends) | Question::Listing(ends) | Question::Verdict(ends) => ends,
         }
     }
 }
 
-/// The names of the questions.
+/// The names of the questions that are also asked of other archives and with other turnarounds.
 pub const QUESTIONS: [&str; 3] = ["loads", "pair", "listing"];
 
 /// The most paths of a listing.
@@ -46,11 +48,29 @@ pub fn question_of(name: &str, plan: &Plan) -> Result<Question, String> {
         "loads" => Ok(Question::Loads),
         "pair" => Ok(Question::Pair(ends())),
         "listing" => Ok(Question::Listing(ends())),
+        "verdict" => Ok(Question::Verdict(ends())),
         _ => Err(format!("no question {name}")),
     }
 }
 
-/// Lent memory, of exactly the named lengths.
+/// The positions of all paths of a pair, one path behind another.
+pub fn whole_listing(plan: &Plan, ends: Ends) -> Vec<u16> {
+    let input = plan.input();
+    let mut buffer = vec![0; plan.slots];
+    let mut work = vec![0; work_length(input)];
+    let mut list = Vec::new();
+    let mut way = Way::First;
+    while let (0, hops) = (RUST.way)(way, input, ends, &mut buffer, &mut work) {
+        list.extend_from_slice(&buffer[..hops]);
+        way = Way::Next;
+    }
+    list
+}
+
+/// The C interface's number of the verdict "complete".
+const COMPLETE: u32 = 1;
+
+/// Lent memory, of exactly the named lengths, and the list that is judged.
 #[derive(Clone, Debug, PartialEq, Eq)]
 pub struct Lent {
     pairs: Vec<u64>,
@@ -58,23 +78,30 @@ pub struct Lent {
     through: Vec<u64>,
     buffer: Vec<u16>,
     work: Vec<u64>,
+    /// Empty where no verdict is asked.
+    list: Vec<u16>,
 }
 
 impl Lent {
-    pub fn new(plan: &Plan) -> Lent {
+    pub fn new(plan: &Plan, question: Question) -> Lent {
         let n = plan.stations;
+        let list = match question {
+            Question::Verdict(ends) => whole_listing(plan, ends),
+            _ => Vec::new(),
+        };
         Lent {
             pairs: vec![0; n],
             loads: vec![0; n],
             through: vec![0; n],
             buffer: vec![0; plan.slots],
             work: vec![0; work_length(plan.input())],
+            list,
         }
     }
 
     /// Memory that holds something everywhere.
-    fn marked(plan: &Plan) -> Lent {
-        let mut lent = Lent::new(plan);
+    fn marked(plan: &Plan, question: Question) -> Lent {
+        let mut lent = Lent::new(plan, question);
         for table in [&mut lent.pairs, &mut lent.loads, &mut lent.through] {
             table.fill(4321);
         }
@@ -106,6 +133,10 @@ pub fn ask(side: &Side, plan: &Plan, question: Question, lent: &mut Lent) -> u32
             }
             assert_eq!(number, LAST);
         }
+        Question::Verdict(ends) => {
+            let answer = (side.verdict)(input, ends, &lent.list, &mut lent.work);
+            assert_eq!(answer, (0, COMPLETE));
+        }
     }
     calls
 }
@@ -135,8 +166,8 @@ impl Both<'_> {
 pub fn compare(plan: &Plan, question: Question) {
     let mut both = Both {
         plan,
-        library: Lent::marked(plan),
-        rust: Lent::marked(plan),
+        library: Lent::marked(plan, question),
+        rust: Lent::marked(plan, question),
     };
     let input = plan.input();
     match question {
@@ -152,6 +183,11 @@ pub fn compare(plan: &Plan, question: Question) {
             assert_eq!(number, 0);
         }
         Question::Listing(ends) => compare_listing(&mut both, ends),
+        Question::Verdict(ends) => {
+            let answer =
+                both.step(|side, lent| (side.verdict)(input, ends, &lent.list, &mut lent.work));
+            assert_eq!(answer, (0, COMPLETE));
+        }
     }
 }
 

@@ -13,6 +13,9 @@ type PairOf = fn(PlanInput, Ends, &mut [u64], &mut [u64]) -> (u32, u64, u64);
 /// First way or next way: the number and the hops.
 type WayOf = fn(Way, PlanInput, Ends, &mut [u16], &mut [u64]) -> (u32, usize);
 
+/// Verdict: the number, and that of the verdict, 0 on refusal.
+type VerdictOf = fn(PlanInput, Ends, &[u16], &mut [u64]) -> (u32, u32);
+
 /// One implementation of the operations, answering as the C interface does.
 #[derive(Clone, Copy, Debug)]
 pub struct Side {
@@ -20,6 +23,7 @@ pub struct Side {
     pub loads: fn(PlanInput, &mut [u64], &mut [u64], &mut [u64]) -> u32,
     pub pair: PairOf,
     pub way: WayOf,
+    pub verdict: VerdictOf,
 }
 
 /// libjoftaki_c.a
@@ -28,6 +32,7 @@ pub const LIBRARY: Side = Side {
     loads: archive::loads,
     pair: library::pair,
     way: library::way,
+    verdict: library::verdict,
 };
 
 /// The module `native`.
@@ -36,6 +41,7 @@ pub const RUST: Side = Side {
     loads: rust_loads,
     pair: rust_pair,
     way: rust_way,
+    verdict: rust_verdict,
 };
 
 #[inline(never)]
@@ -65,4 +71,11 @@ fn rust_way(
 ) -> (u32, usize) {
     let answer = native::listing::way(way, input, ends, buffer, work);
     (way_number(&answer), way_hops(&answer) as usize)
+}
+
+#[inline(never)]
+fn rust_verdict(input: PlanInput, ends: Ends, list: &[u16], work: &mut [u64]) -> (u32, u32) {
+    let answer = native::verdict::verdict(input, ends, list, work);
+    let verdict = answer.map_or(0, |verdict| verdict.number());
+    (number(&answer).into(), verdict)
 }

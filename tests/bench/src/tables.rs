@@ -4,7 +4,7 @@ use std::time::Duration;
 
 use lister::plan::Ends;
 
-use crate::measure::{measure, measure_plans, Effort, Times, WHOLE};
+use crate::measure::{measure, measure_plans, measure_verdict, Effort, Times, WHOLE};
 use crate::plans::{by_records, by_slots, by_stations, named, turned, Plan};
 use crate::question::{question_of, timed_pair, Question, QUESTIONS};
 
@@ -13,6 +13,7 @@ fn questions(effort: Effort) {
     loads(effort, &named());
     of_pairs("Pair", effort, &named(), Question::Pair);
     of_pairs("A whole listing", effort, &named(), Question::Listing);
+    verdicts(effort, &named());
 }
 
 /// All tables.
@@ -92,6 +93,35 @@ fn of_pairs(title: &str, effort: Effort, plans: &[Plan], question: impl Fn(Ends)
         let mut cells = vec![plan.name.clone(), pair, paths.to_string()];
         cells.extend(timed(&times));
         print_row(&cells);
+    }
+    println!();
+}
+
+/// The verdict on a whole listing of a pair of each of the named plans, beside the listing itself.
+fn verdicts(effort: Effort, plans: &[Plan]) {
+    let columns = [
+        "plan",
+        "pair",
+        "paths",
+        "listing, ms",
+        "verdict, ms",
+        "ratio",
+    ];
+    print_head("Verdict", &columns);
+    for plan in plans {
+        let (ends, paths) = timed_pair(plan);
+        let times = measure_verdict(plan, ends, effort);
+        let [verdict, listing] = times.sides.map(milliseconds);
+        let pair = format!("{} to {}", ends.0, ends.1);
+        let ratio = format!("{:.3}", times.ratio());
+        print_row(&[
+            plan.name.clone(),
+            pair,
+            paths.to_string(),
+            listing,
+            verdict,
+            ratio,
+        ]);
     }
     println!();
 }

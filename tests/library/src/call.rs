@@ -21,6 +21,7 @@ pub fn function(operation: Operation) -> &'static str {
         Operation::ThroughSet => "joftaki_through_set",
         Operation::Foremost => "joftaki_foremost",
         Operation::PartialLoads => "joftaki_partial_loads",
+        Operation::Verdict => "joftaki_verdict",
     }
 }
 
@@ -82,6 +83,9 @@ impl fmt::Display for Call<'_> {
         writeln!(to, ", 64-bit tables {:?}", lengths(&self.lent.wide))?;
         for set in &self.lent.sets {
             writeln!(to, "set: {set:?}")?;
+        }
+        if self.operation.takes_list() {
+            writeln!(to, "list: {:?}", self.lent.list)?;
         }
         if self.operation.takes_way_buffer() {
             writeln!(to, "way buffer before: {:?}", self.lent.narrow[0])?;

@@ -1,5 +1,5 @@
-//! Numbers against each other: every number of through set and of foremost against every other, 12 against every
-//! other number of each operation, and 13 against every other number of partial loads.
+//! Numbers against each other: every number of through set, of foremost and of the verdict against every other, 12
+//! against every other number of each operation, and 13 against every other number of partial loads.
 
 use lister::cases::{plan_bytes, Record};
 use lister::means::COUNTED;
@@ -53,8 +53,15 @@ fn plans_with_causes() -> (Vec<Owned>, [[usize; 2]; 5]) {
     (plans.map(plan).to_vec(), ends)
 }
 
-/// Through set and foremost with each set of causes of which one is of the plan, and any of the call: 6
-/// and 7 by the stations, 8 by the set or the table and the work area, 11, and 9 by a ladder of 65
+/// The operations whose numbers are set against each other.
+const ASKED: [Operation; 3] = [
+    Operation::ThroughSet,
+    Operation::Foremost,
+    Operation::Verdict,
+];
+
+/// Through set, foremost and the verdict with each set of causes of which one is of the plan, and any of the call:
+/// 6 and 7 by the stations, 8 by the set or the table and the work area, 11, and 9 by a ladder of 65
 /// layers.
 fn every_two_causes(comparison: &mut Comparison, random: &mut Random) -> Result<(), Difference> {
     let (plans, ends) = plans_with_causes();
@@ -63,7 +70,7 @@ fn every_two_causes(comparison: &mut Comparison, random: &mut Random) -> Result<
         let input = owned.input();
         for ends in ends {
             for change in all_changes() {
-                for operation in [Operation::ThroughSet, Operation::Foremost] {
+                for operation in ASKED {
                     let mut call = lend::call(random, operation, input, ends, Lengths::Named);
                     if change.made(random, ladder, &mut call) {
                         comparison.compare(&call, COUNTED)?;
@@ -84,8 +91,8 @@ struct Change {
 }
 
 impl Change {
-    /// Makes the change in what a call lends for a plan; false where it asks for a set, and the call has
-    /// none.
+    /// Makes the change in what a call lends for a plan; false where it asks for a set, or for another part than the
+    /// work area, and the call has none.
     fn made(&self, random: &mut Random, owned: &Owned, Call { lent, .. }: &mut Call) -> bool {
         let first = owned.stations + 1 - self.first;
         let work = lend::wide(random, owned.scratch_length() + 1 - self.work);
@@ -102,6 +109,10 @@ impl Change {
                 *table = lend::wide(random, first);
                 *area = work;
                 true
+            }
+            ([], [area], None) => {
+                *area = work;
+                self.first == 0
             }
             _ => false,
         }

@@ -6,6 +6,7 @@ use std::fmt::{Debug, Write};
 use lister::means::Means;
 use lister::operation::{Answered, Operation, LAST, NONE, OPERATIONS};
 use lister::shortest::NO_WALK;
+use lister::verdicts::VERDICTS;
 
 use crate::call::{function, Call};
 use crate::native::{self, Seen};
@@ -14,11 +15,13 @@ use crate::native::{self, Seen};
 pub type Difference = String;
 
 /// The comparisons so far: how often each operation answered each number, how often its through counts were
-/// added up, and how often partial loads were held to the loads and to those of fewer sources.
+/// added up, how often each verdict was given, and how often partial loads were held to the loads and to those
+/// of fewer sources.
 #[derive(Clone, Debug, Default)]
 pub struct Comparison {
     answers: BTreeMap<(Operation, u32), u64>,
     added_up: BTreeMap<Operation, u64>,
+    verdicts: BTreeMap<u64, u64>,
     pub spans: [u64; 2],
 }
 
@@ -31,6 +34,7 @@ impl Comparison {
         told += &tables_text("16-bit", &lent.narrow, &seen.lent.narrow);
         told += &tables_text("64-bit", &lent.wide, &seen.lent.wide);
         told += &tables_text("8-bit", &lent.sets, &seen.lent.sets);
+        told += &tables_text("list, 16-bit", &[lent.list], &[seen.lent.list.clone()]);
         if told.is_empty() {
             told += &self.every_hop_accounted(call, &seen);
         }
@@ -39,6 +43,9 @@ impl Comparison {
             let asked = answer_text(call.operation, expected.number, &expected.values);
             let name = means.name();
             return Err(format!("{call}{name}: {asked}\nlibrary: {given}\n{told}"));
+        }
+        if (call.operation, seen.number) == (Operation::Verdict, 0) {
+            *self.verdicts.entry(seen.values[0]).or_default() += 1;
         }
         let answer = (call.operation, seen.number);
         *self.answers.entry(answer).or_default() += 1;
@@ -73,7 +80,12 @@ impl Comparison {
         self.answers.get(&(operation, number)).copied().unwrap_or(0)
     }
 
-    /// The numbers that an operation knows and never answered.
+    /// How often the verdict of a number was given.
+    fn given(&self, number: u32) -> u64 {
+        self.verdicts.get(&number.into()).copied().unwrap_or(0)
+    }
+
+    /// The numbers that an operation knows and never answered, and the verdicts never given.
     pub fn never_answered(&self) -> Vec<(&'static str, u32)> {
         let mut never = Vec::new();
         for operation in OPERATIONS {
@@ -81,6 +93,11 @@ impl Comparison {
             let unseen = numbers.filter(|number| self.answered(operation, *number) == 0);
             never.extend(unseen.map(|number| (function(operation), number)));
         }
+        let numbers = VERDICTS.map(|verdict| u32::from(verdict.number()));
+        let unseen = numbers
+            .into_iter()
+            .filter(|number| self.given(*number) == 0);
+        never.extend(unseen.map(|number| ("verdict", number)));
         never
     }
 
@@ -103,6 +120,10 @@ impl Comparison {
         for (operation, times) in &self.added_up {
             let name = function(*operation);
             let _ = writeln!(text, "through counts added up after {name}: {times}");
+        }
+        for verdict in VERDICTS {
+            let (word, times) = (verdict.word(), self.given(verdict.number().into()));
+            let _ = writeln!(text, "verdict {word}: {times}");
         }
         let [of_loads, of_fewer] = self.spans;
         let _ = writeln!(text, "partial loads held to the loads: {of_loads}");

@@ -1,5 +1,5 @@
 //! Plans at the edges of the limits: most stations, slots and records, counts around 2^64, the smallest and the
-//! largest turnarounds, and numbers of sources around n and around a source with too many walks.
+//! largest turnarounds, numbers of sources around n and around a source with too many walks, and long lists.
 
 use lister::cases::{Record, PLAN_A};
 use lister::means::COUNTED;
@@ -16,6 +16,7 @@ use lister::turned::spaced_row;
 use crate::call::Call;
 use crate::compare::{Comparison, Difference};
 use crate::lend::{self, Lengths};
+use crate::lists;
 use crate::partial::{self, arguments};
 use crate::rounds::{draw_loads, some_calls};
 
@@ -35,7 +36,9 @@ pub fn compare(comparison: &mut Comparison, seed: u64) -> Result<(), Difference>
     }
     turnarounds(comparison, random)?;
     sources(comparison, random)?;
-    sources_with_many_walks(comparison, random)
+    sources_with_many_walks(comparison, random)?;
+    verdicts(comparison, random)?;
+    lists::long(comparison, random)
 }
 
 /// So many records in the first slots, each slot's between the first 64 stations.
@@ -258,6 +261,21 @@ fn sources_with_many_walks(
         for (sources, number) in numbers {
             stated_sources(comparison, random, &owned, sources, number)?;
         }
+    }
+    Ok(())
+}
+
+/// The listing of some pairs with up to 2^63 paths, at most 3 of them asked for, and of pairs with none and with
+/// the last position.
+fn verdicts(comparison: &mut Comparison, random: &mut Random) -> Result<(), Difference> {
+    let spaced = spaced_ladder(4, 64, 2);
+    for owned in [ladder(64, 2), sent_ladder(41, 3), spaced].map(|builder| Owned::built(&builder)) {
+        let stations = [0, owned.stations - 1];
+        lists::listing(comparison, random, &owned, stations, (COUNTED, 3))?;
+    }
+    for owned in [line(), line_back(), last_heard()] {
+        lists::listing(comparison, random, &owned, [0, 255], (COUNTED, 2))?;
+        lists::listing(comparison, random, &owned, [0, 255], (COUNTED, 3))?;
     }
     Ok(())
 }

@@ -73,7 +73,8 @@ pub fn set(random: &mut Random, stations: usize, length: usize) -> Vec<u8> {
     set
 }
 
-/// Memory of given lengths for a call, with arbitrary contents; sets are for so many stations.
+/// Memory of given lengths for a call, with arbitrary contents; sets are for so many stations. The list is
+/// empty.
 pub fn of_lengths(random: &mut Random, lengths: &[Vec<usize>; 3], stations: usize) -> Lent {
     let [narrow_lengths, wide_lengths, set_lengths] = lengths;
     Lent {
@@ -86,10 +87,11 @@ pub fn of_lengths(random: &mut Random, lengths: &[Vec<usize>; 3], stations: usiz
         sets: (set_lengths.iter())
             .map(|length| set(random, stations, *length))
             .collect(),
+        list: Vec::new(),
     }
 }
 
-/// A call on arbitrary contents.
+/// A call on arbitrary contents; a list has up to 5 entries.
 pub fn call<'a>(
     random: &mut Random,
     operation: Operation,
@@ -102,11 +104,16 @@ pub fn call<'a>(
         let named = named.into_iter();
         named.map(|named| length(random, lengths, named)).collect()
     });
+    let mut lent = of_lengths(random, &tables, input.stations);
+    if operation.takes_list() {
+        let length = random.below(6);
+        lent.list = narrow(random, length);
+    }
     Call {
         operation,
         input,
         arguments,
-        lent: of_lengths(random, &tables, input.stations),
+        lent,
         values: wide(random, operation.values().len()),
     }
 }

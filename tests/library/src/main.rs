@@ -5,6 +5,7 @@ mod causes;
 mod compare;
 mod edges;
 mod lend;
+mod lists;
 mod native;
 mod partial;
 mod plans;

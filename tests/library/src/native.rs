@@ -74,20 +74,23 @@ pub fn run(call: &Call) -> Seen {
         bytes: plan.lent(),
         ..call.input
     };
+    let mut list = Guarded::new(&call.lent.list, 0x5AC3);
     let tables = (&mut narrow[..], &mut wide[..], &mut sets[..]);
-    let number = answer(call, input, tables, values.lent());
+    let number = answer(call, input, tables, list.lent(), values.lent());
     let outside_kept = plan.entries() == call.input.bytes
         && plan.kept()
         && values.kept()
         && narrow.iter().all(Guarded::kept)
         && wide.iter().all(Guarded::kept)
-        && sets.iter().all(Guarded::kept);
+        && sets.iter().all(Guarded::kept)
+        && list.kept();
     Seen {
         number,
         lent: Lent {
             narrow: entries_of(&narrow),
             wide: entries_of(&wide),
             sets: entries_of(&sets),
+            list: list.entries().to_vec(),
         },
         values: values.entries().to_vec(),
         outside_kept,
@@ -108,7 +111,13 @@ type Tables<'a> = (
 );
 
 /// The number that the library answers.
-fn answer(call: &Call, input: PlanInput, (narrow, wide, sets): Tables, values: &mut [u64]) -> u32 {
+fn answer(
+    call: &Call,
+    input: PlanInput,
+    (narrow, wide, sets): Tables,
+    list: &[u16],
+    values: &mut [u64],
+) -> u32 {
     let [s, z] = call.arguments;
     match (call.operation, narrow, wide, values) {
         (Operation::Check, [], [], []) => archive::check(input),
@@ -151,6 +160,14 @@ fn answer(call: &Call, input: PlanInput, (narrow, wide, sets): Tables, values: &
         (Operation::PartialLoads, [], [pairs, loads, work], []) => {
             let [k, _] = call.arguments;
             archive::partial_loads(input, k, pairs.lent(), loads.lent(), work.lent())
+        }
+        (Operation::Verdict, [], [work], [verdict]) => {
+            let mut slot = Guarded::new(&[*verdict as u32], 0x5A3C_F096);
+            let given = &mut slot.lent()[0];
+            let number = archive::verdict(input, (s, z), given, list, work.lent());
+            assert!(slot.kept(), "the library wrote beside the verdict");
+            *verdict = slot.entries()[0].into();
+            number
         }
         (operation, ..) => panic!("{operation:?} lends other tables"),
     }

@@ -13,6 +13,7 @@ use lister::ways::Way;
 use crate::call::Call;
 use crate::compare::{Comparison, Difference};
 use crate::lend::{self, Lengths};
+use crate::lists;
 use crate::partial::{arguments, every_number};
 use crate::plans;
 
@@ -64,7 +65,8 @@ fn taking(arguments: usize) -> impl Iterator<Item = Operation> {
     operations.filter(move |operation| operation.arguments() == arguments)
 }
 
-/// A small plan: every pair and every number of sources if the plan is accepted, and traces.
+/// A small plan: every pair, with the verdict on what its listing gives, and every number of sources if the plan is
+/// accepted, and traces.
 fn small_plan(
     comparison: &mut Comparison,
     random: &mut Random,
@@ -83,6 +85,8 @@ fn small_plan(
             let stations = [source, destination];
             one_call(comparison, random, owned, operation, stations, LISTED)?;
         }
+        let listed = (LISTED, MOST_LISTED);
+        lists::listing(comparison, random, owned, [source, destination], listed)?;
     }
     for source in 0..owned.stations {
         for operation in taking(1) {
@@ -93,6 +97,9 @@ fn small_plan(
     trace(comparison, random, owned)?;
     trace(comparison, random, owned)
 }
+
+/// The most paths of a pair that are asked for one by one.
+const MOST_LISTED: usize = 8;
 
 /// A station that a call names, mostly of the plan, often the first or the last.
 fn station(random: &mut Random, stations: usize) -> usize {
@@ -142,7 +149,8 @@ pub fn some_calls(
     Ok(())
 }
 
-/// One call on lengths and contents drawn; next way is mostly offered a path.
+/// One call on lengths and contents drawn; next way is mostly offered a path, and the verdict is mostly on a
+/// list near the complete one.
 fn one_call(
     comparison: &mut Comparison,
     random: &mut Random,
@@ -152,8 +160,10 @@ fn one_call(
     means: Means,
 ) -> Result<(), Difference> {
     let mut call = lend::call(random, operation, owned.input(), arguments, Lengths::Any);
-    if operation == Operation::NextWay {
-        offer(random, &mut call, means);
+    match operation {
+        Operation::NextWay => offer(random, &mut call, means),
+        Operation::Verdict => lists::draw(random, &mut call, means),
+        _ => {}
     }
     comparison.compare(&call, means)?;
     Ok(())

@@ -16,6 +16,7 @@ use lister::turned::{rows_around, two_links, TURNED_PLANS};
 
 use crate::compare::{Comparison, Difference};
 use crate::lend::{self, Lengths};
+use crate::lists;
 use crate::partial::{arguments, every_number};
 
 /// Compares all of them; the seed is of what the tables hold before.
@@ -42,6 +43,7 @@ pub fn compare(comparison: &mut Comparison, seed: u64) -> Result<(), Difference>
     }
     for plan in ONE_WAY_PLANS {
         every_call(comparison, random, &plan.owned())?;
+        lists::every_near(comparison, random, &plan.owned())?;
     }
     for tied in TIED_PLANS {
         every_call(comparison, random, &tied.owned())?;
@@ -89,6 +91,7 @@ fn turned(comparison: &mut Comparison, random: &mut Random) -> Result<(), Differ
     }
     for plan in TURNED_PLANS {
         every_call(comparison, random, &plan.owned())?;
+        lists::every_near(comparison, random, &plan.owned())?;
     }
     Ok(())
 }
@@ -100,7 +103,8 @@ fn one_way(random: &mut Random, stations: usize, slots: usize) -> Owned {
     Owned::new(stations, slots, &records)
 }
 
-/// Every operation with every station up to n, every way buffer and every set.
+/// Every operation with every station up to n, every way buffer, every set, every list of up to two positions and
+/// every list near a complete one.
 fn every_argument(
     comparison: &mut Comparison,
     random: &mut Random,
@@ -108,11 +112,13 @@ fn every_argument(
 ) -> Result<(), Difference> {
     every_call(comparison, random, owned)?;
     every_buffer(comparison, random, owned)?;
+    lists::every_list(comparison, random, owned, 2)?;
+    lists::every_near(comparison, random, owned)?;
     every_set(comparison, random, owned)
 }
 
 /// Every operation that reads a plan, from every station, for every pair; next way is offered the
-/// first path.
+/// first path, and the verdict is on the complete list.
 fn every_pair(
     comparison: &mut Comparison,
     random: &mut Random,
@@ -136,6 +142,9 @@ fn every_pair(
         for operation in [Operation::Pair, Operation::ThroughSet, Operation::Foremost] {
             comparison.compare(&call(random, operation), LISTED)?;
         }
+        let mut verdict = call(random, Operation::Verdict);
+        verdict.lent.list = owned.list(source, destination).concat();
+        comparison.compare(&verdict, LISTED)?;
         let first = comparison.compare(&call(random, Operation::FirstWay), LISTED)?;
         let mut next = call(random, Operation::NextWay);
         next.lent.narrow = first.lent.narrow;

@@ -9,11 +9,11 @@ use lister::load_program::load_text;
 use lister::means::LISTED;
 use lister::plan::PlanInput;
 use lister::show::{
-    foremost_text, loads_text, pair_text, partial_text, reach_text, set_text, text_of,
+    foremost_text, loads_text, pair_text, partial_text, reach_text, set_text, text_of, verdict_text,
 };
 use lister::{
     cases, foremost_cases, load_cases, pair_cases, partial_cases, program, reach_cases, set_cases,
-    way_cases,
+    verdict_cases, way_cases,
 };
 
 const USAGE: &str = "usage:
@@ -26,6 +26,7 @@ const USAGE: &str = "usage:
   lister set-cases DIR           write DIR/stdin and DIR/stdout, cases of through set
   lister foremost-cases DIR      write DIR/stdin and DIR/stdout, cases of foremost
   lister partial-cases DIR       write DIR/stdin and DIR/stdout, cases of partial loads
+  lister verdict-cases DIR       write DIR/stdin and DIR/stdout, cases of the verdict
   lister show n T g s z < plan
       hops, count, through counts and shortest paths of s, z with turnaround g
   lister foremost n T g s z < plan
@@ -34,7 +35,9 @@ const USAGE: &str = "usage:
   lister loads n T g < plan      pairs and load of each station
   lister partial n T g k < plan  the same over the sources below k, and what the loads may be more
   lister set n T g s z V.. < plan
-      how many shortest paths of s, z have one of the stations V interior";
+      how many shortest paths of s, z have one of the stations V interior
+  lister verdict n T g s z P.. < plan
+      the verdict on the list of positions P";
 
 fn main() -> ExitCode {
     program::exit(run)
@@ -54,6 +57,7 @@ fn run(words: &[&str]) -> Result<(), String> {
         ["set-cases", directory] => write_files(directory, &set_cases::all_cases()),
         ["foremost-cases", directory] => write_files(directory, &foremost_cases::all_cases()),
         ["partial-cases", directory] => write_files(directory, &partial_cases::all_cases()),
+        ["verdict-cases", directory] => write_files(directory, &verdict_cases::all_cases()),
         [word @ ("show" | "foremost"), n, t, g, source, destination] => {
             let ends = (decimal(source)?, decimal(destination)?);
             let text = match *word {
@@ -67,11 +71,17 @@ fn run(words: &[&str]) -> Result<(), String> {
             let sources = decimal(sources)?;
             print_for_plan([n, t, g], |input| text_of(partial_text(input, sources)))
         }
-        ["set", n, t, g, source, destination, members @ ..] => {
+        [word @ ("set" | "verdict"), n, t, g, source, destination, further @ ..] => {
             let ends = (decimal(source)?, decimal(destination)?);
-            let members = members.iter().map(|member| decimal(member));
-            let members: Vec<usize> = members.collect::<Result<_, _>>()?;
-            print_for_plan([n, t, g], |input| text_of(set_text(input, ends, &members)))
+            let further: Vec<usize> = further
+                .iter()
+                .map(|number| decimal(number))
+                .collect::<Result<_, _>>()?;
+            let text = match *word {
+                "set" => set_text,
+                _ => verdict_text,
+            };
+            print_for_plan([n, t, g], |input| text_of(text(input, ends, &further)))
         }
         ["reach", n, t, g, source] => {
             let source = decimal(source)?;

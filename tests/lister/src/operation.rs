@@ -8,6 +8,7 @@ use crate::pair::PairValues;
 use crate::plan::{check, PlanInput};
 use crate::reach::ReachTables;
 use crate::row::{row, row_number};
+use crate::verdicts::verdict_beside;
 use crate::ways::{hops_beside, Found, Way};
 
 /// The operations, row's sister and document 02's among them.
@@ -25,12 +26,13 @@ pub enum Operation {
     ThroughSet,
     Foremost,
     PartialLoads,
+    Verdict,
 }
 
 use Operation::*;
 
 /// All operations.
-pub const OPERATIONS: [Operation; 12] = [
+pub const OPERATIONS: [Operation; 13] = [
     Check,
     Reach,
     Row,
@@ -43,6 +45,7 @@ pub const OPERATIONS: [Operation; 12] = [
     ThroughSet,
     Foremost,
     PartialLoads,
+    Verdict,
 ];
 
 /// The C interface's number of first way's answer "none".
@@ -57,7 +60,7 @@ impl Operation {
             Check => &[1, 2, 3, 4, 5],
             Reach => &[1, 2, 3, 4, 5, 12, 6, 8, 9],
             Row | RowNumber => &[1, 6, 8],
-            Pair | FirstWay | Foremost => &[1, 2, 3, 4, 5, 12, 6, 7, 8, 9],
+            Pair | FirstWay | Foremost | Verdict => &[1, 2, 3, 4, 5, 12, 6, 7, 8, 9],
             Loads | Busiest => &[1, 2, 3, 4, 5, 12, 8, 9],
             NextWay => &[1, 2, 3, 4, 5, 12, 6, 7, 8, 9, 10],
             ThroughSet => &[1, 2, 3, 4, 5, 12, 6, 7, 8, 11, 9],
@@ -81,7 +84,7 @@ impl Operation {
         match self {
             Check | Loads | Busiest => 0,
             Reach | Row | RowNumber | PartialLoads => 1,
-            Pair | FirstWay | NextWay | ThroughSet | Foremost => 2,
+            Pair | FirstWay | NextWay | ThroughSet | Foremost | Verdict => 2,
         }
     }
 
@@ -104,7 +107,7 @@ impl Operation {
             Row | RowNumber => vec![table],
             Pair | Foremost => vec![stations, scratch],
             Loads | PartialLoads => vec![stations, stations, scratch],
-            Busiest | FirstWay | NextWay | ThroughSet => vec![scratch],
+            Busiest | FirstWay | NextWay | ThroughSet | Verdict => vec![scratch],
         }
     }
 
@@ -114,6 +117,11 @@ impl Operation {
             ThroughSet => vec![stations],
             _ => Vec::new(),
         }
+    }
+
+    /// Whether it takes a list of positions, which may have any length.
+    pub fn takes_list(self) -> bool {
+        self == Verdict
     }
 
     /// Whether a 16-bit table is the way buffer, which only a path given is written to.
@@ -131,17 +139,20 @@ impl Operation {
             FirstWay | NextWay => &["hops"],
             ThroughSet => &["count"],
             Foremost => &["slot", "hops", "count"],
+            Verdict => &["verdict"],
         }
     }
 }
 
-/// What a call lends: tables by the width of their entries, and sets.
+/// What a call lends: tables by the width of their entries, sets, and a list.
 #[derive(Clone, Debug, PartialEq, Eq)]
 pub struct Lent {
     pub narrow: Vec<Vec<u16>>,
     pub wide: Vec<Vec<u64>>,
     /// The sets of stations, which are only read.
     pub sets: Vec<Vec<u8>>,
+    /// The list of positions, which is only read; empty where the operation takes none.
+    pub list: Vec<u16>,
 }
 
 /// The number of a call, and the values beside it.
@@ -247,6 +258,10 @@ impl Means {
                     &self.partial_loads(input, sources, pairs, loads, scratch),
                     &[],
                 )
+            }
+            (Verdict, [], [scratch]) => {
+                let answer = self.verdict(input, ends, &lent.list, scratch);
+                Answered::new(&answer, &[verdict_beside(&answer).into()])
             }
             (operation, _, _) => panic!("{operation:?} lends other tables"),
         }

@@ -25,6 +25,8 @@ use crate::plan::{Ends, PlanInput};
 use crate::reach_cases::counts_text;
 use crate::sets::set_of;
 
+pub use refusals::UNKNOWN_PAIRS;
+
 /// The longest label, in bytes.
 pub const LONGEST_LABEL: usize = 80;
 /// The most bytes of a set that the program lends.

@@ -1,4 +1,4 @@
-//! The texts of the subcommands show, foremost, loads, partial, reach and set.
+//! The texts of the subcommands show, foremost, loads, partial, reach, set and verdict.
 
 use crate::answer::Answer;
 use crate::foremost::ForemostValues;
@@ -74,6 +74,16 @@ pub fn set_text(input: PlanInput, ends: Ends, members: &[usize]) -> Answer<Strin
         "set{} count {count}\n",
         members.collect::<String>()
     ))
+}
+
+/// The verdict on a list of positions; one that has no 16 bits stands as 65535, which is none.
+pub fn verdict_text(input: PlanInput, ends: Ends, positions: &[usize]) -> Answer<String> {
+    let plan = read(input)?;
+    let mut scratch = vec![0; scratch_length(plan.stations, plan.slots)];
+    let entry = |position: &usize| u16::try_from(*position).unwrap_or(u16::MAX);
+    let list: Vec<u16> = positions.iter().map(entry).collect();
+    let verdict = LISTED.verdict(input, ends, &list, &mut scratch)?;
+    Ok(format!("verdict {}\n", verdict.word()))
 }
 
 /// The loads as document 01 prints them for plan A.

@@ -67,7 +67,7 @@ pub fn accepted_plan(call: &PathCall) -> Answer<Plan> {
 }
 
 /// The positions of the pair's shortest paths in order, or cause 9.
-fn path_positions(limit: u64, plan: &Plan, ends: Ends) -> Answer<Vec<Vec<u16>>> {
+pub fn path_positions(limit: u64, plan: &Plan, ends: Ends) -> Answer<Vec<Vec<u16>>> {
     let walks = walks_within(limit, plan, ends.0)?;
     Ok(positions_of(&shortest_paths(&walks, ends.1)))
 }

@@ -9,7 +9,7 @@ use super::plan::{check, check_pair, work_length};
 use super::ways::{complete, first_path, next_path, offered, Pair};
 
 /// The pair with its hops, or none where it has no path.
-fn question<'a>(
+pub fn question<'a>(
     input: PlanInput<'a>,
     (source, destination): Ends,
     work: &mut [u64],

@@ -7,4 +7,5 @@ pub mod pass;
 pub mod plan;
 pub mod share;
 pub mod tally;
+pub mod verdict;
 pub mod ways;

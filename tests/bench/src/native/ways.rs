@@ -66,12 +66,17 @@ fn find(table: &[u64], pair: Pair, spot: Appearance, need: u64, from: usize) -> 
     Some(from + found)
 }
 
+/// The first position from a given one on that leads home behind the first k entries.
+pub fn found(way: &[u16], table: &[u64], pair: Pair, k: usize, from: usize) -> Option<usize> {
+    let need = (pair.hops - (k + 1)) as u64;
+    let spot = end_of(&way[..k], pair)?;
+    find(table, pair, spot, need, from)
+}
+
 /// Puts the first position from a given one on that leads home behind the first k entries. False
 /// where there is none.
 fn place(way: &mut [u16], table: &[u64], pair: Pair, k: usize, from: usize) -> bool {
-    let need = (pair.hops - (k + 1)) as u64;
-    let spot = end_of(&way[..k], pair);
-    let found = spot.and_then(|spot| find(table, pair, spot, need, from));
+    let found = found(way, table, pair, k, from);
     if let Some(position) = found {
         way[k] = position as u16;
     }

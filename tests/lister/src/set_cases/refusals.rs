@@ -81,24 +81,26 @@ fn plan_before_call() -> Vec<Case> {
     cases
 }
 
-/// Cause 6: either station, both, and both equal.
+/// Pairs in which a station is not one of plan A's: either, both, and both equal.
+pub const UNKNOWN_PAIRS: [(u16, u16); 9] = [
+    (5, 0),
+    (0, 5),
+    (5, 6),
+    (4, 256),
+    (256, 4),
+    (65535, 4),
+    (0, 65535),
+    (5, 5),
+    (65535, 65535),
+];
+
+/// Cause 6.
 fn stations() -> Vec<Case> {
-    let pairs = [
-        (5, 0),
-        (0, 5),
-        (5, 6),
-        (4, 256),
-        (256, 4),
-        (65535, 4),
-        (0, 65535),
-        (5, 5),
-        (65535, 65535),
-    ];
     let case = |ends: (u16, u16)| {
         let case = plan_a("6 for stations of plan A").through(ends, &[1]);
         case.behind(&[1, 1]).marked(998, 1).stating(6)
     };
-    pairs.into_iter().map(case).collect()
+    UNKNOWN_PAIRS.into_iter().map(case).collect()
 }
 
 /// Cause 7: each station of plan A, one without contacts, and the only one.

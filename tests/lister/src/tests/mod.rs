@@ -27,5 +27,7 @@ mod tiny;
 mod traces;
 mod turnarounds;
 mod two_way;
+mod verdict_cases;
+mod verdicts;
 mod walks;
 mod way_cases;

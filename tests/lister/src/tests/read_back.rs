@@ -2,6 +2,36 @@
 
 use std::collections::BTreeSet;
 
+use crate::files::{stdout_text, Filed};
+
+/// Cases with what their calls answer and leave.
+pub fn with_outcomes<C, O>(cases: Vec<C>, outcome: fn(&C) -> O) -> Vec<(C, O)> {
+    let with_outcome = |case: C| {
+        let outcome = outcome(&case);
+        (case, outcome)
+    };
+    cases.into_iter().map(with_outcome).collect()
+}
+
+/// Asserts that the expected output has a line for each of the first cases.
+pub fn assert_stdout<C: Filed + Clone, O>(made: &[(C, O)], line: fn(&C, &O) -> String) {
+    let (first, lines): (Vec<C>, Vec<String>) = made[..40]
+        .iter()
+        .map(|(case, outcome)| (case.clone(), line(case, outcome)))
+        .unzip();
+    assert_eq!(stdout_text(&first), lines.join("\n") + "\n");
+}
+
+/// The largest of each of some lengths.
+pub fn longest<const LENGTHS: usize>(
+    all: impl Iterator<Item = [usize; LENGTHS]>,
+) -> [usize; LENGTHS] {
+    let larger = |most: [usize; LENGTHS], lengths: [usize; LENGTHS]| {
+        std::array::from_fn(|place| most[place].max(lengths[place]))
+    };
+    all.fold([0; LENGTHS], larger)
+}
+
 /// Takes `length` bytes off the front.
 pub fn take<'a>(bytes: &mut &'a [u8], length: usize) -> &'a [u8] {
     let (front, rest) = bytes.split_at(length);

@@ -41,6 +41,7 @@ fn named_lengths_of_plan_a() {
         (Operation::ThroughSet, vec![], vec![100], vec![5]),
         (Operation::Foremost, vec![], vec![5, 100], vec![]),
         (Operation::PartialLoads, vec![], vec![5, 5, 100], vec![]),
+        (Operation::Verdict, vec![], vec![100], vec![]),
     ] {
         assert_eq!(operation.named(), [narrow, wide, sets], "{operation:?}");
     }
@@ -121,7 +122,7 @@ impl Arguments {
 }
 
 /// Memory with 3 entries past each named part; `short` names a table or set that lacks one entry. A
-/// set begins with the byte given, and has a wrong byte past its named part.
+/// set begins with the byte given, and has a wrong byte past its named part. A list has the entries offered.
 fn lend(operation: Operation, short: Option<usize>, offered: &[u16], byte: u8) -> Lent {
     let [narrow, wide, sets] = operation.named();
     let length = |table: usize, named: &usize| match short {
@@ -142,6 +143,11 @@ fn lend(operation: Operation, short: Option<usize>, offered: &[u16], byte: u8) -
         sets: (sets.iter().enumerate())
             .map(|(table, named)| set(length(sets_from + table, named)))
             .collect(),
+        list: if operation.takes_list() {
+            offered.to_vec()
+        } else {
+            Vec::new()
+        },
     };
     if operation.takes_way_buffer() {
         lent.narrow[0][..offered.len()].copy_from_slice(offered);
@@ -240,7 +246,7 @@ fn accepted_calls_leave_unnamed_parts() {
         let before = lend(operation, None, &[0, 4, 10], 1);
         let mut after = before.clone();
         assert_eq!(run(operation, &arguments, &mut after).0, 0);
-        assert_eq!(after.sets, before.sets);
+        assert_eq!((&after.sets, &after.list), (&before.sets, &before.list));
         let [narrow, wide, _] = operation.named();
         for (table, named) in narrow.into_iter().enumerate() {
             assert_eq!(after.narrow[table][named..], before.narrow[table][named..]);

@@ -2,8 +2,10 @@
 
 use std::sync::OnceLock;
 
-use super::read_back::{assert_labels, entries_of, take, take_number};
-use crate::files::{stdin_bytes, stdout_text};
+use super::read_back::{
+    assert_labels, assert_stdout, entries_of, longest, take, take_number, with_outcomes,
+};
+use crate::files::stdin_bytes;
 use crate::means::{Counting, COUNTED};
 use crate::reach_cases::LONGEST_PLAN;
 use crate::set_cases::{all_cases, Case, Outcome, LONGEST_LABEL, LONGEST_SCRATCH, LONGEST_SET};
@@ -11,13 +13,7 @@ use crate::set_cases::{all_cases, Case, Outcome, LONGEST_LABEL, LONGEST_SCRATCH,
 /// All cases with their outcomes, made once.
 fn cases() -> &'static [(Case, Outcome)] {
     static CASES: OnceLock<Vec<(Case, Outcome)>> = OnceLock::new();
-    CASES.get_or_init(|| {
-        let with_outcome = |case: Case| {
-            let outcome = case.outcome();
-            (case, outcome)
-        };
-        all_cases().into_iter().map(with_outcome).collect()
-    })
+    CASES.get_or_init(|| with_outcomes(all_cases(), Case::outcome))
 }
 
 #[test]
@@ -147,22 +143,13 @@ fn lines_read_back_give_the_outcomes() {
 
 #[test]
 fn stdout_has_a_line_a_case() {
-    let (all, lines): (Vec<Case>, Vec<String>) = cases()[..40]
-        .iter()
-        .map(|(case, outcome)| (case.clone(), case.line(outcome)))
-        .unzip();
-    assert_eq!(stdout_text(&all), lines.join("\n") + "\n");
+    assert_stdout(cases(), Case::line);
 }
 
 #[test]
 fn cases_fit_the_program() {
-    let mut longest = [0; 3];
-    for (case, _) in cases() {
-        let lengths = [case.bytes.len(), case.set.len(), case.scratch];
-        for (most, length) in longest.iter_mut().zip(lengths) {
-            *most = length.max(*most);
-        }
-    }
+    let lengths = |(case, _): &(Case, _)| [case.bytes.len(), case.set.len(), case.scratch];
+    let longest = longest(cases().iter().map(lengths));
     assert!(longest[0] <= LONGEST_PLAN, "{longest:?}");
     assert_eq!(longest[1..], [LONGEST_SET, LONGEST_SCRATCH]);
 }

@@ -1,0 +1,25 @@
+-- `judging::none_found` meets its contract: whether the search finds anything.
+-- Assumes nothing.
+use Rattle.judging.proofs.LegLaws.{search-ready, tells-none, tells-some}
+use borrow.Author.Needs.{needs}
+use Rattle.judging.proofs.none_found.Statement.{statement}
+use Rattle.judging.proofs.none_found.Tie as tie
+
+found-behind-requires : tie.Need-found-behind-requires
+found-behind-requires c κs = search needs
+
+enum-known-found : tie.Need-enum-known-found
+enum-known-found c = search needs
+
+enum-told : tie.Need-enum-told
+enum-told c = search needs
+
+returns : tie.Need-returns
+returns c = tells-none _ _ _ _ _ (c .before .before .before .before .before .before .pre) _ _ (c .before .before .found-behind .ensures) (c .enum-told .given .1)
+
+returns-2 : tie.Need-returns-2
+returns-2 c = tells-some _ _ _ _ _ (c .before .before .before .before .before .before .before .pre) _ _ (c .before .before .before .found-behind .ensures) _ (c .before .found .given .1)
+
+pub none-found-spec : {M : Type 1} → statement M
+none-found-spec =
+    tie.close (tie.spec found-behind-requires enum-known-found enum-told returns returns-2)
