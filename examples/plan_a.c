@@ -12,8 +12,8 @@
 
 #define STATIONS 5
 #define SLOTS 4
-#define USUAL 1 /* the turnaround of units that send on in the slot after hearing */
-#define SLOW 2  /* and of units that need a slot more */
+#define ONE_SLOT 1  /* the turnaround of units sold before, which send on in the slot after hearing */
+#define TWO_SLOTS 2 /* the turnaround of units sold now, which need a slot more */
 #define CONTACTS 12
 #define SOURCE 0
 #define STATION_OF_ROW 3
@@ -64,7 +64,7 @@ static void print_reach(void)
     size_t length;
     size_t v;
 
-    accept_or_stop(joftaki_reach(plan, sizeof plan, STATIONS, SLOTS, USUAL, SOURCE,
+    accept_or_stop(joftaki_reach(plan, sizeof plan, STATIONS, SLOTS, ONE_SLOT, SOURCE,
                                  hops, JOFTAKI_TABLE_LENGTH(STATIONS, SLOTS),
                                  counts, JOFTAKI_TABLE_LENGTH(STATIONS, SLOTS),
                                  station_hops, STATIONS, station_counts, STATIONS));
@@ -122,7 +122,7 @@ static void print_set(size_t destination, uint64_t *work)
     static const uint8_t set[STATIONS] = {0, 0, 1, 1, 0};
     uint64_t count;
 
-    accept_or_stop(joftaki_through_set(plan, sizeof plan, STATIONS, SLOTS, USUAL, SOURCE, destination, &count,
+    accept_or_stop(joftaki_through_set(plan, sizeof plan, STATIONS, SLOTS, ONE_SLOT, SOURCE, destination, &count,
                                        set, STATIONS, work, JOFTAKI_WORK_LENGTH(STATIONS, SLOTS)));
     printf("set 2 3 count %" PRIu64 "\n", count);
 }
@@ -145,7 +145,7 @@ static void print_verdict(size_t destination, const uint16_t *list, size_t lengt
 {
     uint32_t verdict;
 
-    accept_or_stop(joftaki_verdict(plan, sizeof plan, STATIONS, SLOTS, USUAL, SOURCE, destination, &verdict,
+    accept_or_stop(joftaki_verdict(plan, sizeof plan, STATIONS, SLOTS, ONE_SLOT, SOURCE, destination, &verdict,
                                    list, length, work, JOFTAKI_WORK_LENGTH(STATIONS, SLOTS)));
     printf("verdict %s\n", verdict_word(verdict));
 }
@@ -158,13 +158,13 @@ static void print_verdicts(uint64_t *work)
     uint16_t way[SLOTS];
     size_t length = 0;
     size_t hops;
-    uint32_t number = joftaki_first_way(plan, sizeof plan, STATIONS, SLOTS, USUAL, SOURCE, 4, &hops, way, SLOTS,
+    uint32_t number = joftaki_first_way(plan, sizeof plan, STATIONS, SLOTS, ONE_SLOT, SOURCE, 4, &hops, way, SLOTS,
                                         work, JOFTAKI_WORK_LENGTH(STATIONS, SLOTS));
     while (number == JOFTAKI_ACCEPTED && length + hops <= 3 * SLOTS) {
         size_t i;
         for (i = 0; i < hops; i++)
             list[length++] = way[i];
-        number = joftaki_next_way(plan, sizeof plan, STATIONS, SLOTS, USUAL, SOURCE, 4, &hops, way, SLOTS,
+        number = joftaki_next_way(plan, sizeof plan, STATIONS, SLOTS, ONE_SLOT, SOURCE, 4, &hops, way, SLOTS,
                                   work, JOFTAKI_WORK_LENGTH(STATIONS, SLOTS));
     }
     if (number != JOFTAKI_LAST)
@@ -183,7 +183,7 @@ static void print_foremost(size_t destination, uint64_t *work)
     uint64_t count;
     uint64_t through[STATIONS];
 
-    accept_or_stop(joftaki_foremost(plan, sizeof plan, STATIONS, SLOTS, USUAL, SOURCE, destination,
+    accept_or_stop(joftaki_foremost(plan, sizeof plan, STATIONS, SLOTS, ONE_SLOT, SOURCE, destination,
                                     &arrival, &hops, &count, through, STATIONS, work, JOFTAKI_WORK_LENGTH(STATIONS, SLOTS)));
     printf("slot %zu\nhops %zu\ncount %" PRIu64 "\n", arrival, hops, count);
     print_counts("through", through, STATIONS);
@@ -199,7 +199,7 @@ static void print_partial_loads(uint64_t *work)
 
     for (sources = 1; sources <= STATIONS; sources++) {
         uint64_t span = (uint64_t)(STATIONS - sources) * (STATIONS - 1) << 32;
-        accept_or_stop(joftaki_partial_loads(plan, sizeof plan, STATIONS, SLOTS, USUAL, sources, pairs, STATIONS,
+        accept_or_stop(joftaki_partial_loads(plan, sizeof plan, STATIONS, SLOTS, ONE_SLOT, sources, pairs, STATIONS,
                                              loads, STATIONS, work, JOFTAKI_WORK_LENGTH(STATIONS, SLOTS)));
         printf("sources %zu span %" PRIu64 "\n", sources, span);
         print_counts("pairs", pairs, STATIONS);
@@ -214,7 +214,7 @@ static void print_loads(uint64_t *work)
     uint64_t loads[STATIONS];
     size_t v;
 
-    accept_or_stop(joftaki_loads(plan, sizeof plan, STATIONS, SLOTS, USUAL, pairs, STATIONS, loads, STATIONS,
+    accept_or_stop(joftaki_loads(plan, sizeof plan, STATIONS, SLOTS, ONE_SLOT, pairs, STATIONS, loads, STATIONS,
                                  work, JOFTAKI_WORK_LENGTH(STATIONS, SLOTS)));
     printf("stations %d slots %d contacts %d\n", STATIONS, SLOTS, CONTACTS);
     for (v = 0; v < STATIONS; v++)
@@ -226,7 +226,7 @@ static void print_busiest(uint64_t *work)
 {
     size_t station;
 
-    accept_or_stop(joftaki_busiest(plan, sizeof plan, STATIONS, SLOTS, USUAL, &station,
+    accept_or_stop(joftaki_busiest(plan, sizeof plan, STATIONS, SLOTS, ONE_SLOT, &station,
                                    work, JOFTAKI_WORK_LENGTH(STATIONS, SLOTS)));
     printf("busiest %zu\n", station);
 }
@@ -239,14 +239,14 @@ int main(void)
     accept_or_stop(number);
     printf("check %" PRIu32 "\n", number);
     print_reach();
-    print_pair(USUAL, 4, work);
-    print_ways(USUAL, 4, work);
+    print_pair(ONE_SLOT, 4, work);
+    print_ways(ONE_SLOT, 4, work);
     print_set(4, work);
     print_verdicts(work);
-    print_pair(USUAL, 3, work);
-    print_ways(USUAL, 3, work);
-    print_pair(SLOW, 3, work);
-    print_ways(SLOW, 3, work);
+    print_pair(ONE_SLOT, 3, work);
+    print_ways(ONE_SLOT, 3, work);
+    print_pair(TWO_SLOTS, 3, work);
+    print_ways(TWO_SLOTS, 3, work);
     print_foremost(3, work);
     print_partial_loads(work);
     print_loads(work);

@@ -1,13 +1,14 @@
-// What the load program prints, on cases from standard input. A case is two 16-bit numbers, high byte first: the length of a
-// label and the length of the input; then the label and the input. For each case the label, a colon, a line feed, and the text.
+// What load programs print, on cases from standard input. A case is three 16-bit numbers, high byte first: the length of a label,
+// the length of the input, and the turnaround; then the label and the input. For each case the label, a colon, a line feed, and
+// the text.
 
-// Writes the text of an input.
-fn write_text(input: &[u8]) {
+// Writes the text of an input for units with a turnaround.
+fn write_text(input: &[u8], g: usize) {
     let mut out = [0u8; 697];
     let mut pairs = [0u64; 32];
     let mut sums = [0u64; 32];
     let mut work = [0u64; 8192];
-    let size = report::report(input, &mut out, &mut pairs, &mut sums, &mut work);
+    let size = report::report(input, g, &mut out, &mut pairs, &mut sums, &mut work);
     cases::write_part(&out[..size], size);
 }
 
@@ -19,12 +20,12 @@ fn run_case(head: &mut [u8], label: &mut [u8], input: &mut [u8]) -> bool {
     cases::write_part(label, cases::word(head, 0));
     cases::write_part(b":\n", 2);
     let size = cases::least(cases::word(head, 2), input.len());
-    write_text(&input[..size]);
+    write_text(&input[..size], cases::word(head, 4));
     true
 }
 
 fn main() {
-    let mut head = [0u8; 4];
+    let mut head = [0u8; 6];
     let mut label = [0u8; 64];
     let mut input = [0u8; 6200];
     let mut left = cases::MOST;

@@ -15,8 +15,8 @@ pub mod Demand3
 pub mod Demand2
 mod ListedLaws
 mod BetweenLaws
--- what the load program prints for plan A
-pub mod PlanAText
+-- what the load programs print (C-20)
+pub mod LoadText
 -- C-12: a set of stations
 pub mod Sets
 -- C-14: shortest foremost paths

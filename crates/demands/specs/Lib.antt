@@ -9,8 +9,8 @@ pub mod PairLoads
 pub mod Demand3
 -- demand 2
 pub mod Demand2
--- what the load program prints for plan A
-pub mod PlanAText
+-- what the load programs print (C-20)
+pub mod LoadText
 -- C-12: a set of stations
 pub mod Sets
 -- C-14: shortest foremost paths

@@ -148,6 +148,10 @@ in-time : right (complete slowA 0 3 ((1 ∷ 8 ∷ []) ∷ [])) ≡ true
 unfolding from below sum select any member distinct leadsTo mayFollow along step run lastOr holds endsIn isWalk isPath isInterior orElse firstNonempty hops endsBelow wordAt contactAt records planOf cause first outside wrongLength wrongSlot wrongEnds isAbove wrongOrder recordCauses planCauses planFault wrongTurnaround pairCauses stationCauses unless over sameNumbers indexIn stay give goFirst goNext go move wayCauses sameLists sameReply flatMap bind grown grownShortest onward grownWalks grownPaths pairsBy loadBy
 in-time = complete-right slowA 0 3 _ refl
 
+loads-of-slow : right (loadsOf slowA (0 ∷ 0 ∷ 1 ∷ 2 ∷ 0 ∷ []) (0 ∷ 0 ∷ 4294967296 ∷ 8589934592 ∷ 0 ∷ [])) ≡ true
+unfolding from below sum select any member distinct leadsTo mayFollow along step run lastOr holds endsIn isWalk isPath isInterior orElse firstNonempty hops endsBelow wordAt contactAt records planOf cause first outside wrongLength wrongSlot wrongEnds isAbove wrongOrder recordCauses planCauses planFault wrongTurnaround pairCauses stationCauses unless over sameNumbers indexIn stay give goFirst goNext go move wayCauses sameLists sameReply flatMap bind grown grownShortest onward grownWalks grownPaths pairsBy loadBy
+loads-of-slow = loads-right slowA few-slow _ _ refl refl
+
 first-leg : right (gives first-way slowest 0 1 (9 ∷ []) (path 1) (0 ∷ [])) ≡ true
 unfolding from below sum select any member distinct leadsTo mayFollow along step run lastOr holds endsIn isWalk isPath isInterior orElse firstNonempty hops endsBelow wordAt contactAt records planOf cause first outside wrongLength wrongSlot wrongEnds isAbove wrongOrder recordCauses planCauses planFault wrongTurnaround pairCauses stationCauses unless over sameNumbers indexIn stay give goFirst goNext go move wayCauses sameLists sameReply flatMap bind grown grownShortest onward grownWalks grownPaths pairsBy loadBy
 first-leg = gives-right slowest few-slowest first-way 0 1 (9 ∷ []) (path 1) (0 ∷ []) refl refl
@@ -194,6 +198,7 @@ examples =
     (next-right _ _ no-way-back
     (next-right _ _ no-time
     (next-right _ _ in-time
+    (next-right _ _ loads-of-slow
     (next-right _ _ first-leg
     (next-right _ _ none-refused
-    (next-right _ _ seventeen-refused none-right)))))))))))))))))))))))))
+    (next-right _ _ seventeen-refused none-right))))))))))))))))))))))))))

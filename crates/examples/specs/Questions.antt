@@ -18,7 +18,8 @@ pub record PlanBytes : Type 0 where
   pub slots : ℕ
   pub turnaround : ℕ
 
--- plan A of document 01, doubled (document 02, C-16): each contact is a record for each direction, in the plan's order
+-- plan A of document 01, doubled (document 02, C-16): each contact is a record for each direction, in the plan's order. Its units
+-- turn round in one slot, as P1 to P10 have it
 abbrev pub planA : PlanBytes
 planA =
     record {
@@ -34,7 +35,7 @@ planA =
       turnaround = 1;
     }
 
--- plan A where a station needs two slots between hearing and sending on (document 02, C-17)
+-- plan A where a station needs two slots between hearing and sending on (document 02, C-17 and C-20)
 abbrev pub slowA : PlanBytes
 slowA = record { bytes = planA .bytes; stations = 5; slots = 4; turnaround = 2 }
 

@@ -98,12 +98,13 @@ table =
     checks planA 0 ∷
     checks repeated 5 ∷  -- P8
     checks withItself 4 ∷
-    loadsOf planA (0 ∷ 2 ∷ 2 ∷ 4 ∷ 0 ∷ []) (0 ∷ 2863311530 ∷ 5726623060 ∷ 17179869184 ∷ 0 ∷ []) ∷  -- P9
+    loadsOf planA (0 ∷ 2 ∷ 2 ∷ 4 ∷ 0 ∷ []) (0 ∷ 2863311530 ∷ 5726623060 ∷ 17179869184 ∷ 0 ∷ []) ∷  -- P9, g = 1
     gives first-way sameSlot 0 2 (9 ∷ 9 ∷ []) no-path (9 ∷ 9 ∷ []) ∷  -- P10
     gives first-way single 0 1 (9 ∷ []) (path 1) (0 ∷ []) ∷  -- C-16
     gives first-way single 1 0 (9 ∷ []) no-path (9 ∷ []) ∷
     gives first-way slowA 0 4 (9 ∷ 9 ∷ 9 ∷ 9 ∷ []) no-path (9 ∷ 9 ∷ 9 ∷ 9 ∷ []) ∷  -- C-17
     complete slowA 0 3 ((1 ∷ 8 ∷ []) ∷ []) ∷
+    loadsOf slowA (0 ∷ 0 ∷ 1 ∷ 2 ∷ 0 ∷ []) (0 ∷ 0 ∷ 4294967296 ∷ 8589934592 ∷ 0 ∷ []) ∷  -- C-20, g = 2
     gives first-way slowest 0 1 (9 ∷ []) (path 1) (0 ∷ []) ∷
     gives first-way without 0 9 [] (refused 12) [] ∷
     gives next-way tooSlow 0 9 [] (refused 12) [] ∷ []

@@ -9,7 +9,7 @@ use lib.Dec.{eqb, ltb}
 use lib.ListN.{length, getD, drop, length-append}
 use borrow.Author.Tests.{ltb-false}
 use Rattle.temporal.specs.Lists.{from, below}
-use Rattle.temporal.specs.Plan.{Plan}
+use Rattle.temporal.specs.Plan.{Plan, Terms}
 use Rattle.temporal.specs.Load.{pairs, load}
 use Rattle.temporal.specs.Bytes.{planOf, records}
 use Rattle.temporal.specs.Cause.{cause, first, unless, planCauses, planFault, tooManyAnywhere, wrongTurnaround}
@@ -24,10 +24,11 @@ use Rattle.temporal.proofs.CauseLaws.{
   first-append-left,
   first-append-right,
   first-head,
+  first-tail,
   or-false-left,
   or-false-right,
 }
-use Rattle.temporal.proofs.EnteredLaws.{unless-some, unless-none, entered-plan}
+use Rattle.temporal.proofs.EnteredLaws.{unless-some, unless-none, entered-plan, entered-call, entered-cause}
 use Rattle.temporal.proofs.PlanLaws.{contacts-length}
 use Rattle.plan.specs.Fault.{planNumber, callNumber, faultNumber}
 use Rattle.plan.specs.declared.Fault.{Fault}
@@ -47,7 +48,6 @@ use Rattle.report.specs.Report.{
   line,
   ascii,
   lineFeed,
-  usual,
   loadsText,
   refusalText,
   inputCauses,
@@ -55,6 +55,7 @@ use Rattle.report.specs.Report.{
   refusalOf,
   printed,
   lentAfter,
+  Texted,
   Reported,
 }
 use Rattle.report.specs.Work.{linesOf, tableOf, Printable, Within}
@@ -74,13 +75,15 @@ refusal-room k size e = omega (arith, refusal-length k, decimal-most k)
 -- ---- from a text written at the beginning to the contract
 
 pub report-text :
-    (bs out : List ℕ) (old : LoadBuffers) (r : ℕ) (now : List ℕ) (new : LoadBuffers) (t : List ℕ) →
-    text.Put 0 t out r now → t ≡ printed bs → new ≡ lentAfter bs old → Reported bs out old r now new
+    (bs : List ℕ) (terms : Terms) (out : List ℕ) (old : LoadBuffers) (r : ℕ) (now : List ℕ) (new : LoadBuffers) (t : List ℕ) →
+    text.Put 0 t out r now → t ≡ printed bs terms → new ≡ lentAfter bs terms old → Reported bs terms out old r now new
 unfolding text.written over
-report-text bs out old r now new t p e l =
+report-text bs terms out old r now new t p e l =
     record {
-      length-is = p .place ∙ zero-add (length t) ∙ ap length e;
-      text-is = p .contents ∙ ap (λ k. t ++ drop k out) (zero-add (length t)) ∙ ap (λ x. x ++ drop (length x) out) e;
+      texted = record {
+        length-is = p .place ∙ zero-add (length t) ∙ ap length e;
+        text-is = p .contents ∙ ap (λ k. t ++ drop k out) (zero-add (length t)) ∙ ap (λ x. x ++ drop (length x) out) e;
+      };
       lent-is = l;
     }
 
@@ -90,10 +93,10 @@ unfolding over
 length-over new old = omega (arith, length-append new (drop (length new) old))
 
 -- the text lies within the output buffer
-pub reported-within :
-    {bs out : List ℕ} {old : LoadBuffers} {size : ℕ} {now : List ℕ} {new : LoadBuffers} →
-    Reported bs out old size now new → size ≤ length now
-reported-within {bs} {out} r = omega (arith, r .length-is, ap length (r .text-is), length-over (printed bs) out)
+pub texted-within :
+    {bs : List ℕ} {terms : Terms} {out : List ℕ} {size : ℕ} {now : List ℕ} → Texted bs terms out size now → size ≤ length now
+texted-within {bs} {terms} {out} r =
+    omega (arith, r .length-is, ap length (r .text-is), length-over (printed bs terms) out)
 
 -- ---- the lines of stations whose entries are the same
 
@@ -105,16 +108,16 @@ flatMap-ext f g i (suc k) h = ap₂ _++_ (h i (omega arith)) (flatMap-ext f g (s
 
 -- ---- an input that is refused before the plan is looked at
 
-module _ (bs : List ℕ) (k : ℕ) (e : first (inputCauses bs) ≡ suc k) where
-  refused-input : refusalOf bs ≡ suc k
+module _ (bs : List ℕ) (terms : Terms) (k : ℕ) (e : first (inputCauses bs) ≡ suc k) where
+  refused-input : refusalOf bs terms ≡ suc k
   unfolding refusalOf
   refused-input = first-append-some (inputCauses bs) _ (omega arith) ∙ e
 
-  pub printed-input : refusalText (suc k) ≡ printed bs
+  pub printed-input : refusalText (suc k) ≡ printed bs terms
   unfolding printed
-  printed-input = sym (unless-some (refusalOf bs) _ _ (omega (arith, refused-input)) ∙ ap refusalText refused-input)
+  printed-input = sym (unless-some (refusalOf bs terms) _ _ (omega (arith, refused-input)) ∙ ap refusalText refused-input)
 
-  pub lent-input : (old : LoadBuffers) → old ≡ lentAfter bs old
+  pub lent-input : (old : LoadBuffers) → old ≡ lentAfter bs terms old
   unfolding lentAfter
   lent-input old = sym (unless-some (first (inputCauses bs)) _ _ (omega arith))
 
@@ -139,12 +142,12 @@ pub limit-stations : (n t : ℕ) → overLimits n t ≡ false → n ≤ 32
 unfolding overLimits
 limit-stations n t e = ltb-false 32 n (or-false-left (ltb 32 n) (ltb 63 t) e)
 
-module _ (bs : List ℕ) (n t : ℕ) (out ps ls area : List ℕ) (w : Within bs n t out ps ls area) where
+module _ (bs : List ℕ) (n t : ℕ) (terms : Terms) (out ps ls area : List ℕ) (w : Within bs n t out ps ls area) where
   abbrev old : LoadBuffers
   old = loadBuffers ps ls area
 
   abbrev plan : Plan
-  plan = planOf bs n t usual
+  plan = planOf bs n t terms
 
   few-stations : n ≤ 32
   few-stations = limit-stations n t (w .limits)
@@ -161,9 +164,9 @@ module _ (bs : List ℕ) (n t : ℕ) (out ps ls area : List ℕ) (w : Within bs 
   passes : first (inputCauses bs) ≡ 0
   passes = no-input-cause bs (w .right-input) (rw (← w .stations, ← w .slots) (w .limits))
 
-  -- the numbers of the program's own causes, the plan's and 9 are what loads answers
+  -- the numbers of the plan's causes, 12 and 9 are what loads answers
   unfoldable causes : List ℕ
-  causes = planCauses bs n t ++ cause 9 (tooManyAnywhere plan) ∷ []
+  causes = planCauses bs n t ++ cause 12 (wrongTurnaround terms) ∷ cause 9 (tooManyAnywhere plan) ∷ []
 
   work-room : workSize n t ≤ length area
   work-room = omega (arith, w .work-size, mul-le-mul few-stations (slots-more few-slots))
@@ -179,57 +182,58 @@ module _ (bs : List ℕ) (n t : ℕ) (out ps ls area : List ℕ) (w : Within bs 
       decide true e = rw e
       decide false e = rw e
 
-  right : wrongTurnaround usual ≡ false
-  unfolding wrongTurnaround
-  right = refl
-
-  works : planFault bs n t ≡ 0 → loads bs n t usual old ≡ partlyLoaded plan n old
-  works ok =
-      loads-works bs n t usual n ps ls area ok right (omega arith) (omega (arith, few-stations, w .pairs-size))
+  works : planFault bs n t ≡ 0 → wrongTurnaround terms ≡ false → loads bs n t terms old ≡ partlyLoaded plan n old
+  works ok right =
+      loads-works bs n t terms n ps ls area ok right (omega arith) (omega (arith, few-stations, w .pairs-size))
       (omega (arith, few-stations, w .loads-size)) work-room
 
-  loads-number : loads bs n t usual old .number ≡ first causes
+  loads-number : loads bs n t terms old .number ≡ first causes
   unfolding causes planFault partialLoads
-  loads-number = decide (planFault bs n t) refl
+  loads-number = decide (planFault bs n t) (wrongTurnaround terms) refl refl
     where
-      decide : (k : ℕ) → planFault bs n t ≡ k → loads bs n t usual old .number ≡ first causes
-      decide zero e =
-          ap (λ o. o .number) (works e) ∙ loaded-number ∙ sym (first-append-none (planCauses bs n t) _ e)
-      decide (suc k) e =
+      decide :
+          (k : ℕ) (b : Bool) → planFault bs n t ≡ k → wrongTurnaround terms ≡ b → loads bs n t terms old .number ≡ first causes
+      decide (suc k) b e _ =
           ap (λ o. o .number) (entered-plan tt old _ bs n t _ (omega arith)) ∙
           sym (first-append-some (planCauses bs n t) _ (omega arith))
+      decide zero true e q =
+          ap (λ o. o .number) (entered-call tt old _ bs n t _ e ∙ entered-cause tt old _ 11 _ _ q) ∙
+          sym (first-append-none (planCauses bs n t) _ e ∙ first-true 11 (wrongTurnaround terms) _ q)
+      decide zero false e q =
+          ap (λ o. o .number) (works e q) ∙ loaded-number ∙
+          sym (first-append-none (planCauses bs n t) _ e ∙ first-false 12 (wrongTurnaround terms) _ q)
 
-  refusal-number : refusalOf bs ≡ loads bs n t usual old .number
+  refusal-number : refusalOf bs terms ≡ loads bs n t terms old .number
   unfolding refusalOf causes
   refusal-number =
       first-append-none (inputCauses bs) _ passes ∙ rw (← w .stations, ← w .slots) (sym loads-number)
 
   module _ (b : LoadBuffers) (k : ℕ)
-      (answer : _≡_ {A = Outcome (Unit {0}) LoadBuffers} (record { number = k; values = tt; buffers = b }) (loads bs n t usual old)) where
+      (answer : _≡_ {A = Outcome (Unit {0}) LoadBuffers} (record { number = k; values = tt; buffers = b }) (loads bs n t terms old)) where
     -- the lent tables are as loads leaves them
-    lent-by : b ≡ lentAfter bs old
+    lent-by : b ≡ lentAfter bs terms old
     unfolding lentAfter
     lent-by =
         ap (λ o. o .buffers) answer ∙
         sym (unless-none (first (inputCauses bs)) _ _ passes ∙ rw (← w .stations, ← w .slots) refl)
 
-    number-is : refusalOf bs ≡ k
+    number-is : refusalOf bs terms ≡ k
     number-is = refusal-number ∙ sym (ap (λ o. o .number) answer)
 
   -- a refusal
   printed-by :
       (f : Fault) (b : LoadBuffers) →
-      _≡_ {A = Outcome (Unit {0}) LoadBuffers} (record { number = faultNumber f; values = tt; buffers = b }) (loads bs n t usual old) →
-      refusalText (faultNumber f) ≡ printed bs
+      _≡_ {A = Outcome (Unit {0}) LoadBuffers} (record { number = faultNumber f; values = tt; buffers = b }) (loads bs n t terms old) →
+      refusalText (faultNumber f) ≡ printed bs terms
   unfolding printed
   printed-by f b answer =
       let e = number-is b (faultNumber f) answer in
-      sym (unless-some (refusalOf bs) _ _ (omega (arith, e, fault-number-within f)) ∙ ap refusalText e)
+      sym (unless-some (refusalOf bs terms) _ _ (omega (arith, e, fault-number-within f)) ∙ ap refusalText e)
 
   -- loads: the tables have the pairs and the loads
   module _ (ps′ ls′ area′ : List ℕ)
       (answer : _≡_ {A = Outcome (Unit {0}) LoadBuffers}
-      (record { number = 0; values = tt; buffers = loadBuffers ps′ ls′ area′ }) (loads bs n t usual old)) where
+      (record { number = 0; values = tt; buffers = loadBuffers ps′ ls′ area′ }) (loads bs n t terms old)) where
     none : first causes ≡ 0
     none = sym (ap (λ o. o .number) answer ∙ loads-number)
 
@@ -237,13 +241,19 @@ module _ (bs : List ℕ) (n t : ℕ) (out ps ls area : List ℕ) (w : Within bs 
     unfolding causes planFault
     no-fault = first-append-left (planCauses bs n t) _ none
 
+    right : wrongTurnaround terms ≡ false
+    unfolding causes
+    right = first-head 11 (wrongTurnaround terms) _ (first-append-right (planCauses bs n t) _ none)
+
     not-many : tooManyAnywhere plan ≡ false
     unfolding causes
-    not-many = first-head 8 (tooManyAnywhere plan) [] (first-append-right (planCauses bs n t) _ none)
+    not-many =
+        first-head 8 (tooManyAnywhere plan) []
+        (first-tail 11 (wrongTurnaround terms) _ (first-append-right (planCauses bs n t) _ none))
 
     tables :
         loadBuffers ps′ ls′ area′ ≡ partlyLoaded plan n old .buffers
-    tables = ap (λ o. o .buffers) (answer ∙ works no-fault)
+    tables = ap (λ o. o .buffers) (answer ∙ works no-fault right)
 
     pairs-table : ps′ ≡ over (map (pairs plan) (below n)) ps
     unfolding partlyLoaded planOf
@@ -262,12 +272,12 @@ module _ (bs : List ℕ) (n t : ℕ) (out ps ls area : List ℕ) (w : Within bs 
 
     table-same : tableOf ps′ ls′ n t (length bs / 6) ≡ loadsText plan
     unfolding tableOf loadsText planOf records
-    table-same = ap₂ (λ m x. heading n t m ++ x) (sym (contacts-length bs n t usual)) lines-same
+    table-same = ap₂ (λ m x. heading n t m ++ x) (sym (contacts-length bs n t terms)) lines-same
 
-    printed-table : tableOf ps′ ls′ n t (length bs / 6) ≡ printed bs
+    printed-table : tableOf ps′ ls′ n t (length bs / 6) ≡ printed bs terms
     unfolding printed
     printed-table =
-        table-same ∙ sym (unless-none (refusalOf bs) _ _ (number-is (loadBuffers ps′ ls′ area′) 0 answer) ∙
+        table-same ∙ sym (unless-none (refusalOf bs terms) _ _ (number-is (loadBuffers ps′ ls′ area′) 0 answer) ∙
         rw (← w .stations, ← w .slots) refl)
 
     -- the tables have an entry for each station, and the text has room
@@ -282,7 +292,7 @@ module _ (bs : List ℕ) (n t : ℕ) (out ps ls area : List ℕ) (w : Within bs 
                 arith,
                 w .out-size,
                 ap length table-same,
-                text-length plan few-stations few-slots (omega (arith, contacts-length bs n t usual, few-records)),
+                text-length plan few-stations few-slots (omega (arith, contacts-length bs n t terms, few-records)),
               );
         }
       where
@@ -291,23 +301,23 @@ module _ (bs : List ℕ) (n t : ℕ) (out ps ls area : List ℕ) (w : Within bs 
 
   -- the same of an answer of the code
   module _ (r : LoadsAnswer) (ps′ ls′ area′ : List ℕ)
-      (e : loadsOutcome r (loadBuffers ps′ ls′ area′) ≡ loads bs n t usual (loadBuffers ps ls area)) where
-    pub lent-within : loadBuffers ps′ ls′ area′ ≡ lentAfter bs (loadBuffers ps ls area)
+      (e : loadsOutcome r (loadBuffers ps′ ls′ area′) ≡ loads bs n t terms (loadBuffers ps ls area)) where
+    pub lent-within : loadBuffers ps′ ls′ area′ ≡ lentAfter bs terms (loadBuffers ps ls area)
     lent-within = lent-by (loadBuffers ps′ ls′ area′) (loadsNumber r) e
 
     module _ (told : r ≡ loads-answer.Loaded) where
       answer :
           _≡_ {A = Outcome (Unit {0}) LoadBuffers}
-          (record { number = 0; values = tt; buffers = loadBuffers ps′ ls′ area′ }) (loads bs n t usual old)
+          (record { number = 0; values = tt; buffers = loadBuffers ps′ ls′ area′ }) (loads bs n t terms old)
       answer = ap (λ a. loadsOutcome a (loadBuffers ps′ ls′ area′)) (sym told) ∙ e
 
       pub loads-printable : Printable 0 n ps′ ls′ (tableOf ps′ ls′ n t (length bs / 6)) out
       loads-printable = printable ps′ ls′ area′ answer
 
-      pub printed-loads : tableOf ps′ ls′ n t (length bs / 6) ≡ printed bs
+      pub printed-loads : tableOf ps′ ls′ n t (length bs / 6) ≡ printed bs terms
       printed-loads = printed-table ps′ ls′ area′ answer
 
-    pub printed-refused : (f : Fault) (k : ℕ) → r ≡ loads-answer.Refused f → k ≡ faultNumber f → refusalText k ≡ printed bs
+    pub printed-refused : (f : Fault) (k : ℕ) → r ≡ loads-answer.Refused f → k ≡ faultNumber f → refusalText k ≡ printed bs terms
     printed-refused f k told number =
         ap refusalText number ∙
         printed-by f (loadBuffers ps′ ls′ area′) (ap (λ a. loadsOutcome a (loadBuffers ps′ ls′ area′)) (sym told) ∙ e)

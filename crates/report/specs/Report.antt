@@ -8,10 +8,10 @@ use mathlib.Core.Path.{_≡_}
 use mathlib.Core.List.{List, [], _∷_, _++_, flatMap}
 use lib.ListN.{length}
 use Rattle.temporal.specs.Lists.{below}
-use Rattle.temporal.specs.Plan.{Plan, Terms, turning}
+use Rattle.temporal.specs.Plan.{Plan, Terms}
 use Rattle.temporal.specs.Load.{pairs, load}
 use Rattle.temporal.specs.Bytes.{planOf}
-use Rattle.temporal.specs.Cause.{cause, first, unless, planCauses, tooManyAnywhere}
+use Rattle.temporal.specs.Cause.{cause, first, unless, planCauses, wrongTurnaround, tooManyAnywhere}
 use Rattle.temporal.specs.Outcome.{over}
 use Rattle.temporal.specs.OutcomePair.{LoadBuffers, loads}
 use Rattle.text.specs.Decimal.{decimal}
@@ -55,33 +55,34 @@ refusalText k = ascii "refused " ++ field k lineFeed
 unfoldable pub inputCauses : List ℕ → List ℕ
 inputCauses bs = cause 2 (wrongInput bs) ∷ cause 1 (overLimits (inputStations bs) (inputSlots bs)) ∷ []
 
--- the turnaround of the program's units is 1 (document 02, C-17)
-abbrev pub usual : Terms
-usual = turning 1
+-- the plan that the input is, for units with these terms
+abbrev pub inputPlan : List ℕ → Terms → Plan
+inputPlan bs terms = planOf bs (inputStations bs) (inputSlots bs) terms
 
--- the plan that the input is
-abbrev pub inputPlan : List ℕ → Plan
-inputPlan bs = planOf bs (inputStations bs) (inputSlots bs) usual
-
--- the number of the refusal, 0 where the loads are printed: the input's causes, the plan's, then 9
-unfoldable pub refusalOf : List ℕ → ℕ
-refusalOf bs =
+-- the number of the refusal, 0 where the loads are printed: the input's causes, the plan's, 12, then 9
+unfoldable pub refusalOf : List ℕ → Terms → ℕ
+refusalOf bs terms =
     first
-    (inputCauses bs ++ (planCauses bs (inputStations bs) (inputSlots bs) ++ cause 9 (tooManyAnywhere (inputPlan bs)) ∷ []))
+    (inputCauses bs ++
+    (planCauses bs (inputStations bs) (inputSlots bs) ++
+    cause 12 (wrongTurnaround terms) ∷ cause 9 (tooManyAnywhere (inputPlan bs terms)) ∷ []))
 
--- The whole text that the load program prints for an input.
-unfoldable pub printed : List ℕ → List ℕ
-printed bs = unless (refusalOf bs) refusalText (loadsText (inputPlan bs))
+-- The whole text that a load program prints for an input, for units with these terms.
+unfoldable pub printed : List ℕ → Terms → List ℕ
+printed bs terms = unless (refusalOf bs terms) refusalText (loadsText (inputPlan bs terms))
 
 -- the lent tables and the work area afterwards: as they were where the input is refused before the plan is looked at,
 -- else as operation 5, loads, leaves them
-unfoldable pub lentAfter : List ℕ → LoadBuffers → LoadBuffers
-lentAfter bs old =
-    unless (first (inputCauses bs)) (λ _. old) (loads bs (inputStations bs) (inputSlots bs) usual old .buffers)
+unfoldable pub lentAfter : List ℕ → Terms → LoadBuffers → LoadBuffers
+lentAfter bs terms old =
+    unless (first (inputCauses bs)) (λ _. old) (loads bs (inputStations bs) (inputSlots bs) terms old .buffers)
 
--- What the report function promises for every input: the text's length, the text at the beginning of the output buffer, whose
--- other bytes stay, and the lent tables afterwards.
-pub record Reported (bs out : List ℕ) (old : LoadBuffers) (size : ℕ) (now : List ℕ) (new : LoadBuffers) : Type 0 where
-  pub length-is : size ≡ length (printed bs)
-  pub text-is : now ≡ over (printed bs) out
-  pub lent-is : new ≡ lentAfter bs old
+-- What an output buffer then holds: the text at its beginning, whose length is told; its other bytes stay.
+pub record Texted (bs : List ℕ) (terms : Terms) (out : List ℕ) (size : ℕ) (now : List ℕ) : Type 0 where
+  pub length-is : size ≡ length (printed bs terms)
+  pub text-is : now ≡ over (printed bs terms) out
+
+-- What the report function promises for every input and all terms: the text, and the lent tables afterwards.
+pub record Reported (bs : List ℕ) (terms : Terms) (out : List ℕ) (old : LoadBuffers) (size : ℕ) (now : List ℕ) (new : LoadBuffers) : Type 0 where
+  pub texted : Texted bs terms out size now
+  pub lent-is : new ≡ lentAfter bs terms old

@@ -1,8 +1,9 @@
-// What the load program prints, as one function from its input to the whole text, over operation 5, loads.
+// What the load programs print, as one function from the input to the whole text, over operation 5, loads.
 ghost use mathlib.Core.Path.{_≡_};
 ghost use Prim.Native.Nat.{_+_, _*_, _<_, _≤_, max};
 ghost use lib.ListN.{length};
 ghost use Rattle.text.specs.Written.{Put};
+ghost use Rattle.temporal.specs.Plan.{turning};
 ghost use Rattle.loads.specs.Answer.{loadBuffers};
 ghost use Rattle.report.specs.Sizes.{topStation, inputStations, inputSlots, wrongInput, overLimits};
 ghost use Rattle.report.specs.Report.{field, heading, line, refusalText, Reported};
@@ -141,29 +142,32 @@ fn report_within(
     input: &[u8],
     n: usize,
     t: usize,
+    g: usize,
     out: &mut [u8],
     pairs: &mut [u64],
     sums: &mut [u64],
     work: &mut [u64],
 ) -> usize
     requires { ⌜ Within (now input) n t (now out) (now pairs) (now sums) (now work) ⌝ }
-    ensures { λ r. ⌜ Reported (now (input .entry)) (now (out .entry)) (loadBuffers (now (pairs .entry)) (now (sums .entry)) (now (work .entry))) r (now (out .exit)) (loadBuffers (now (pairs .exit)) (now (sums .exit)) (now (work .exit))) ⌝ }
+    ensures { λ r. ⌜ Reported (now (input .entry)) (turning g) (now (out .entry)) (loadBuffers (now (pairs .entry)) (now (sums .entry)) (now (work .entry))) r (now (out .exit)) (loadBuffers (now (pairs .exit)) (now (sums .exit)) (now (work .exit))) ⌝ }
 {
-    let LoadsAnswer::Refused(fault) = loads::loads(input, n, t, 1, pairs, sums, work) else {
+    let LoadsAnswer::Refused(fault) = loads::loads(input, n, t, g, pairs, sums, work) else {
         return put_table(out, n, t, input.len() / 6, pairs, sums);
     };
     put_refusal(out, 0, plan::fault_number(fault) as u64)
 }
 
-// The whole text that the load program prints for an input, at the beginning of the output buffer; its length.
+// The whole text that a load program prints for an input and units with turnaround g, at the beginning of the output buffer; its
+// length.
 pub fn report(
     input: &[u8],
+    g: usize,
     out: &mut [u8; 697],
     pairs: &mut [u64; 32],
     sums: &mut [u64; 32],
     work: &mut [u64; 8192],
 ) -> usize
-    ensures { λ r. ⌜ Reported (now (input .entry)) (now (out .entry)) (loadBuffers (now (pairs .entry)) (now (sums .entry)) (now (work .entry))) r (now (out .exit)) (loadBuffers (now (pairs .exit)) (now (sums .exit)) (now (work .exit))) ⌝ }
+    ensures { λ r. ⌜ Reported (now (input .entry)) (turning g) (now (out .entry)) (loadBuffers (now (pairs .entry)) (now (sums .entry)) (now (work .entry))) r (now (out .exit)) (loadBuffers (now (pairs .exit)) (now (sums .exit)) (now (work .exit))) ⌝ }
 {
     if wrong_input(input) {
         return put_refusal(out, 0, 2);
@@ -173,5 +177,5 @@ pub fn report(
     if over_limits(top, t) {
         return put_refusal(out, 0, 1);
     }
-    report_within(input, top + 1, t, out, pairs, sums, work)
+    report_within(input, top + 1, t, g, out, pairs, sums, work)
 }

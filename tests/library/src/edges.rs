@@ -265,15 +265,20 @@ fn sources_with_many_walks(
     Ok(())
 }
 
-/// The listing of some pairs with up to 2^63 paths, at most 3 of them asked for, and of pairs with none and with
-/// the last position.
+/// The listing of some pairs with up to 2^63 paths, at most 3 of them asked for, with g = 1 and g = 4; and of pairs with
+/// none and with the last position, with g = 1.
 fn verdicts(comparison: &mut Comparison, random: &mut Random) -> Result<(), Difference> {
-    let spaced = spaced_ladder(4, 64, 2);
-    for owned in [ladder(64, 2), sent_ladder(41, 3), spaced].map(|builder| Owned::built(&builder)) {
+    for builder in [
+        spaced_ladder(1, 64, 2),
+        spaced_sent_ladder(1, 41, 3),
+        spaced_ladder(4, 64, 2),
+    ] {
+        let owned = Owned::built(&builder);
         let stations = [0, owned.stations - 1];
         lists::listing(comparison, random, &owned, stations, (COUNTED, 3))?;
     }
     for owned in [line(), line_back(), last_heard()] {
+        let owned = owned.turning(1);
         lists::listing(comparison, random, &owned, [0, 255], (COUNTED, 2))?;
         lists::listing(comparison, random, &owned, [0, 255], (COUNTED, 3))?;
     }

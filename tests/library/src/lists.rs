@@ -149,10 +149,10 @@ pub fn draw(random: &mut Random, call: &mut Call, means: Means) {
     }
 }
 
-/// Lists of more than 65,535 entries: a plan with 2^16 paths of 17 hops, all of them, all but one, with the last entry
+/// Lists of more than 65,535 entries: a plan with 2^16 paths of 17 hops with g = 1, all of them, all but one, with the last entry
 /// changed, and with one entry more.
 pub fn long(comparison: &mut Comparison, random: &mut Random) -> Result<(), Difference> {
-    let owned = Owned::built(&lister::reach_cases::sent_ladder(17, 2));
+    let owned = Owned::built(&lister::reach_cases::spaced_sent_ladder(1, 17, 2));
     let stations = [0, 34];
     let all = owned.list(0, 34).concat();
     assert_eq!(all.len(), 17 << 16);

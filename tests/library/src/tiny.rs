@@ -288,7 +288,7 @@ fn every_sequence(comparison: &mut Comparison, random: &mut Random) -> Result<()
     Ok(())
 }
 
-/// Plan A with every number of bytes, and with every length of each table up to two entries more.
+/// Plan A with every number of bytes, and, with g = 1, with every length of each table up to two entries more.
 fn every_length(comparison: &mut Comparison, random: &mut Random) -> Result<(), Difference> {
     let bytes = plan_bytes(&PLAN_A);
     for length in 0..=bytes.len() {
@@ -300,7 +300,7 @@ fn every_length(comparison: &mut Comparison, random: &mut Random) -> Result<(), 
         };
         each_operation(comparison, random, input)?;
     }
-    let owned = Owned::new(5, 4, &PLAN_A);
+    let owned = Owned::new(5, 4, &PLAN_A).turning(1);
     for operation in OPERATIONS {
         let named = lend::named(operation, owned.input());
         for width in 0..named.len() {

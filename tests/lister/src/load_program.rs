@@ -1,4 +1,5 @@
-//! What the load program of document 01 prints, for any input.
+//! What a load program prints, for any input and any turnaround g. Document 02's C-20 has two programs: g is 2 in
+//! one and 1 in the other.
 
 use crate::answer::{Answer, PlanFault};
 use crate::means::{Means, COUNTED, LISTED};
@@ -6,22 +7,19 @@ use crate::numbers::Appearances;
 use crate::plan::{contacts, read, whole_records, Plan, PlanInput};
 use crate::show::{loads_text, text_of};
 
-/// The load program's largest n.
+/// The load programs' largest n.
 pub const MOST_STATIONS: usize = 32;
-/// The load program's largest T.
+/// The load programs' largest T.
 pub const MOST_SLOTS: usize = 63;
-/// The load program's largest number of records.
+/// The load programs' largest number of records.
 pub const MOST_CONTACTS: usize = 1024;
-
-/// The load program's g.
-pub const TURNAROUND: usize = 1;
 
 /// The most walks, from all sources together, that are listed.
 const MOST_LISTED: u128 = 10_000;
 
-/// The plan that an input names, or the first of causes 2 and 1. n is one more than the largest
-/// station number, T the slot of the last record; both are 1 for an empty input.
-fn named_plan(bytes: &[u8]) -> Answer<PlanInput<'_>> {
+/// The plan that an input names, with a turnaround, or the first of causes 2 and 1. n is one more than the
+/// largest station number, T the slot of the last record; both are 1 for an empty input.
+fn named_plan(turnaround: usize, bytes: &[u8]) -> Answer<PlanInput<'_>> {
     whole_records(bytes, MOST_CONTACTS)?;
     let largest = contacts(bytes).map(|contact| contact.sender.max(contact.hearer));
     let stations = largest.max().map_or(1, |station| station + 1);
@@ -33,7 +31,7 @@ fn named_plan(bytes: &[u8]) -> Answer<PlanInput<'_>> {
         bytes,
         stations,
         slots,
-        turnaround: TURNAROUND,
+        turnaround,
     })
 }
 
@@ -58,20 +56,21 @@ fn means_for(plan: &Plan) -> Means {
     }
 }
 
-/// The plan of an input that the load program accepts.
-pub fn accepted_plan(bytes: &[u8]) -> Answer<Plan> {
-    read(named_plan(bytes)?)
+/// The plan of an input that a load program with this turnaround accepts, or the first of causes 2, 1, 3 to 5 and
+/// 12.
+pub fn accepted_plan(turnaround: usize, bytes: &[u8]) -> Answer<Plan> {
+    read(named_plan(turnaround, bytes)?)
 }
 
 /// The whole output for an input, with loads by the given means.
-pub fn load_text_by(means: Means, bytes: &[u8]) -> String {
-    text_of(named_plan(bytes).and_then(|input| loads_text(means, input)))
+pub fn load_text_by(means: Means, turnaround: usize, bytes: &[u8]) -> String {
+    text_of(named_plan(turnaround, bytes).and_then(|input| loads_text(means, input)))
 }
 
 /// The whole output for an input.
-pub fn load_text(bytes: &[u8]) -> String {
-    match accepted_plan(bytes) {
-        Ok(plan) => load_text_by(means_for(&plan), bytes),
+pub fn load_text(turnaround: usize, bytes: &[u8]) -> String {
+    match accepted_plan(turnaround, bytes) {
+        Ok(plan) => load_text_by(means_for(&plan), turnaround, bytes),
         Err(refusal) => text_of(Err(refusal)),
     }
 }

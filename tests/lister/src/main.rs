@@ -19,8 +19,9 @@ use lister::{
 const USAGE: &str = "usage:
   lister check-cases DIR         write DIR/stdin and DIR/stdout, cases of check
   lister reach-cases DIR         write DIR/stdin and DIR/stdout, cases of reach and row
-  lister load-cases DIR          write DIR/stdin and DIR/stdout, cases of the load program
-  lister load-text < input       what the load program prints
+  lister load-cases DIR          write DIR/stdin and DIR/stdout, cases of the load programs
+  lister one-slot-cases DIR      write DIR/stdin and DIR/stdout, cases of the load program with g = 1
+  lister load-text g < input     what the load program with turnaround g prints
   lister pair-cases DIR          write DIR/stdin and DIR/stdout, cases of pair, loads and busiest
   lister way-cases DIR           write DIR/stdin and DIR/stdout, cases of first way and next way
   lister set-cases DIR           write DIR/stdin and DIR/stdout, cases of through set
@@ -48,8 +49,9 @@ fn run(words: &[&str]) -> Result<(), String> {
         ["check-cases", directory] => write_files(directory, &cases::all_cases()),
         ["reach-cases", directory] => write_files(directory, &reach_cases::all_cases()),
         ["load-cases", directory] => write_files(directory, &load_cases::all_cases()),
-        ["load-text"] => {
-            print!("{}", load_text(&standard_input()?));
+        ["one-slot-cases", directory] => write_files(directory, &load_cases::one_slot_cases()),
+        ["load-text", g] => {
+            print!("{}", load_text(decimal(g)?, &standard_input()?));
             Ok(())
         }
         ["pair-cases", directory] => write_files(directory, &pair_cases::all_cases()),

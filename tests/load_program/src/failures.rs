@@ -10,9 +10,8 @@ use std::process::{Child, Command, Stdio};
 use std::time::Duration;
 use std::{env, io, thread};
 
-use lister::load_program::load_text;
-
 use crate::run::{finish, start, InputFile, Written};
+use crate::Program;
 
 const NOT_READ: &str = "load: reading standard input failed\n";
 const NOT_WRITTEN: &str = "load: writing standard output failed\n";
@@ -30,10 +29,10 @@ const MOST_LOOKS: usize = 1_000;
 const READ_LIMIT: Duration = Duration::from_secs(60);
 
 /// Runs the program once, and tells of a difference.
-type Case = fn(&str) -> Result<(), String>;
+type Case = fn(Program) -> Result<(), String>;
 
 /// Runs every failure; answers their number, or tells of the first difference.
-pub fn all(program: &str) -> Result<usize, String> {
+pub fn all(program: Program) -> Result<usize, String> {
     let cases: [(&str, Case); 8] = [
         ("closed standard input", closed_input),
         ("a directory as standard input", directory),
@@ -59,39 +58,39 @@ fn told(error: io::Error) -> String {
 }
 
 /// Runs the program from a shell, which closes what the redirections say.
-fn redirected(program: &str, redirections: &str, stdin: Stdio) -> Result<Written, String> {
-    let path = fs::canonicalize(program).map_err(told)?;
+fn redirected(program: Program, redirections: &str, stdin: Stdio) -> Result<Written, String> {
+    let path = fs::canonicalize(program.path).map_err(told)?;
     let mut shell = Command::new("sh");
     shell.args(["-c", &format!("exec \"$0\" {redirections}")]);
     finish(start(shell.arg(path).stdin(stdin).stdout(Stdio::piped()))?)
 }
 
-fn closed_input(program: &str) -> Result<(), String> {
+fn closed_input(program: Program) -> Result<(), String> {
     redirected(program, "<&-", Stdio::null())?.expect(&Written::error(NOT_READ))
 }
 
-fn both_closed(program: &str) -> Result<(), String> {
+fn both_closed(program: Program) -> Result<(), String> {
     redirected(program, "<&- >&-", Stdio::null())?.expect(&Written::error(NOT_READ))
 }
 
-fn closed_output(program: &str) -> Result<(), String> {
+fn closed_output(program: Program) -> Result<(), String> {
     let file = InputFile::new();
     let stdin = file.holding(PLAN_A)?.into();
     redirected(program, ">&-", stdin)?.expect(&Written::error(NOT_WRITTEN))
 }
 
 /// Runs the program with the given standard input and output.
-fn started(program: &str, stdin: Stdio, stdout: Stdio) -> Result<Child, String> {
-    start(Command::new(program).stdin(stdin).stdout(stdout))
+fn started(program: Program, stdin: Stdio, stdout: Stdio) -> Result<Child, String> {
+    start(Command::new(program.path).stdin(stdin).stdout(stdout))
 }
 
-fn directory(program: &str) -> Result<(), String> {
+fn directory(program: Program) -> Result<(), String> {
     let directory = File::open(env::temp_dir()).map_err(told)?;
     let child = started(program, directory.into(), Stdio::piped())?;
     finish(child)?.expect(&Written::error(NOT_READ))
 }
 
-fn full_output(program: &str) -> Result<(), String> {
+fn full_output(program: Program) -> Result<(), String> {
     let file = InputFile::new();
     let stdin = file.holding(PLAN_A)?.into();
     let full = OpenOptions::new().write(true).open(FULL).map_err(told)?;
@@ -104,7 +103,7 @@ fn connection() -> Result<(UnixStream, UnixStream), String> {
 }
 
 /// The connection stays open and does not wait, so the read behind the first bytes fails.
-fn failing_after(program: &str, bytes: usize) -> Result<(), String> {
+fn failing_after(program: Program, bytes: usize) -> Result<(), String> {
     let (mut ours, theirs) = connection()?;
     theirs.set_nonblocking(true).map_err(told)?;
     ours.write_all(&PLAN_A[..bytes]).map_err(told)?;
@@ -113,7 +112,7 @@ fn failing_after(program: &str, bytes: usize) -> Result<(), String> {
 }
 
 /// The program is stopped and goes on while it waits for the rest of the input; it reads all of it.
-fn interrupted(program: &str) -> Result<(), String> {
+fn interrupted(program: Program) -> Result<(), String> {
     let (mut ours, theirs) = connection()?;
     theirs.set_read_timeout(Some(READ_LIMIT)).map_err(told)?;
     ours.write_all(&PLAN_A[..BEGINNING]).map_err(told)?;
@@ -124,7 +123,7 @@ fn interrupted(program: &str) -> Result<(), String> {
     send(child.id(), "CONT")?;
     ours.write_all(&PLAN_A[BEGINNING..]).map_err(told)?;
     drop(ours);
-    finish(child)?.expect(&Written::output(&load_text(PLAN_A)))
+    finish(child)?.expect(&program.expected(PLAN_A))
 }
 
 /// Waits until a process is in a state: S where it sleeps, as in a read, T where it is stopped.

@@ -73,7 +73,7 @@ pub struct Written {
 
 impl Written {
     /// Nothing but this on standard output.
-    pub fn output(text: &str) -> Written {
+    pub fn output(text: &[u8]) -> Written {
         Written {
             output: text.into(),
             error: Vec::new(),

@@ -7,7 +7,7 @@ use Rattle.cases_load.proofs.main.Statement.{statement}
 use Rattle.cases_load.proofs.main.Tie as tie
 
 abbrev Inv-loop : tie.InvT-loop
-Inv-loop head₀ label₀ input₀ left₀ head label input left = (4 ≡ length head) × (64 ≡ length label) × (6200 ≡ length input)
+Inv-loop head₀ label₀ input₀ left₀ head label input left = (6 ≡ length head) × (64 ≡ length label) × (6200 ≡ length input)
 
 abbrev μ-loop : tie.MeasureT-loop
 μ-loop head₀ label₀ input₀ left₀ head label input left = left

@@ -46,6 +46,9 @@ slice-reshare-prefix-write-text c = search needs
 slice-aggregate-write-text : tie.Need-slice-aggregate-write-text
 slice-aggregate-write-text c = sym (length-take-le _ _ (omega arith))
 
+word-requires-3 : tie.Need-word-requires-3
+word-requires-3 c κs = search needs
+
 write-text-requires : tie.Need-write-text-requires
 write-text-requires c κs = search needs
 
@@ -78,6 +81,7 @@ run-case-spec =
     least-requires
     slice-reshare-prefix-write-text
     slice-aggregate-write-text
+    word-requires-3
     write-text-requires
     same-length-4
     same-length-5

@@ -25,7 +25,7 @@ put-refusal-requires c κs = refusal-room 2 _ (search needs)
 returns : tie.Need-returns
 returns c =
     let e = wrong-length _ (sym (c .before .before .before .wrong-input .ensures) ∙ c .before .before .if1 .taken) in
-    report-text _ _ _ _ _ _ _ (c .put-refusal .ensures) (printed-input _ 1 e) (lent-input _ 1 e _)
+    report-text _ _ _ _ _ _ _ _ (c .put-refusal .ensures) (printed-input _ _ 1 e) (lent-input _ _ 1 e _)
 
 top-of-requires : tie.Need-top-of-requires
 top-of-requires c κs = search needs
@@ -47,7 +47,7 @@ returns-2 c =
     let e =
     wrong-limits _ (sym (c .before .before .before .before .before .before .before .wrong-input .ensures) ∙ c .before .before .before .before .before .before .if1 .left)
     (ap₂ overLimits (sym top) (sym slots) ∙ over) in
-    report-text _ _ _ _ _ _ _ (c .put-refusal2 .ensures) (printed-input _ 0 e) (lent-input _ 0 e _)
+    report-text _ _ _ _ _ _ _ _ (c .put-refusal2 .ensures) (printed-input _ _ 0 e) (lent-input _ _ 0 e _)
 
 add-report-within : tie.Need-add-report-within
 add-report-within c =

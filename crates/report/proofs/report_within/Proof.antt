@@ -23,7 +23,7 @@ enum-told c = search needs
 
 put-table-requires : tie.Need-put-table-requires
 put-table-requires c κs =
-    loads-printable _ _ _ _ _ _ _ (c .before .before .before .before .before .before .before .before .before .before .before .before .before .before .before .before .before .before .before .before .pre) _ _ _ _ (c .before .before .before .before .before .before .before .before .before .before .before .loads .ensures) (c .before .before .before .enum-told .given .1)
+    loads-printable _ _ _ _ _ _ _ _ (c .before .before .before .before .before .before .before .before .before .before .before .before .before .before .before .before .before .before .before .before .pre) _ _ _ _ (c .before .before .before .before .before .before .before .before .before .before .before .loads .ensures) (c .before .before .before .enum-told .given .1)
 
 same-length : tie.Need-same-length
 same-length c = search needs
@@ -41,8 +41,8 @@ returns : tie.Need-returns
 returns c =
     let w = c .before .before .before .before .before .before .before .before .before .before .before .before .before .before .before .before .before .before .before .before .before .before .before .pre in
     let e = c .before .before .before .before .before .before .before .before .before .before .before .before .before .before .loads .ensures in
-    report-text _ _ _ _ _ _ _ (c .before .before .put-table .ensures)
-    (printed-loads _ _ _ _ _ _ _ w _ _ _ _ e (c .before .before .before .before .before .before .enum-told .given .1)) (lent-within _ _ _ _ _ _ _ w (c .before .before .before .before .before .before .before .before .before .before .before .before .before .before .loads .result) _ _ _ e)
+    report-text _ _ _ _ _ _ _ _ (c .before .before .put-table .ensures)
+    (printed-loads _ _ _ _ _ _ _ _ w _ _ _ _ e (c .before .before .before .before .before .before .enum-told .given .1)) (lent-within _ _ _ _ _ _ _ _ w (c .before .before .before .before .before .before .before .before .before .before .before .before .before .before .loads .result) _ _ _ e)
 
 fault-number-requires : tie.Need-fault-number-requires
 fault-number-requires c κs = search needs
@@ -66,9 +66,9 @@ returns-2 : tie.Need-returns-2
 returns-2 c =
     let w = c .before .before .before .before .before .before .before .before .before .before .before .before .before .before .before .before .before .before .before .before .before .before .before .pre in
     let e = c .before .before .before .before .before .before .before .before .before .before .before .before .before .before .loads .ensures in
-    report-text _ _ _ _ _ _ _ (c .before .before .put-refusal .ensures)
-    (printed-refused _ _ _ _ _ _ _ w _ _ _ _ e _ _ (c .before .before .before .before .before .before .fault .given .1) (c .before .before .before .fault-number .ensures))
-    (lent-within _ _ _ _ _ _ _ w (c .before .before .before .before .before .before .before .before .before .before .before .before .before .before .loads .result) _ _ _ e)
+    report-text _ _ _ _ _ _ _ _ (c .before .before .put-refusal .ensures)
+    (printed-refused _ _ _ _ _ _ _ _ w _ _ _ _ e _ _ (c .before .before .before .before .before .before .fault .given .1) (c .before .before .before .fault-number .ensures))
+    (lent-within _ _ _ _ _ _ _ _ w (c .before .before .before .before .before .before .before .before .before .before .before .before .before .before .loads .result) _ _ _ e)
 
 pub report-within-spec : {M : Type 1} → statement M
 report-within-spec =

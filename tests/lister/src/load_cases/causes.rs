@@ -1,10 +1,10 @@
 //! Two or more causes in one input: which number comes first.
 
 use super::lengths::spread_records;
-use super::{on_table, Case};
+use super::{on_table, Input};
 use crate::cases::{plan_bytes, Record};
 
-pub fn cases() -> Vec<Case> {
+pub fn inputs() -> Vec<Input> {
     [
         length_first(),
         too_many_first(),
@@ -15,53 +15,53 @@ pub fn cases() -> Vec<Case> {
     .concat()
 }
 
-/// Records with one of causes 1, 3, 4, 5 each.
-const FAULTS: [(&str, &[Record]); 9] = [
-    ("n 33", &[(1, 0, 1), (1, 0, 32)]),
-    ("n 65536", &[(1, 0, 65535), (2, 0, 1)]),
-    ("n 33 by a", &[(1, 0, 1), (1, 32, 0)]),
-    ("T 64", &[(1, 0, 1), (64, 0, 1)]),
-    ("T 0", &[(1, 0, 1), (0, 0, 1)]),
-    ("slot 0", &[(0, 0, 1), (1, 0, 1)]),
-    ("slot above T", &[(2, 0, 1), (1, 0, 1)]),
-    ("a = b", &[(1, 0, 1), (1, 1, 1)]),
-    ("equal records", &[(1, 0, 1), (1, 0, 1)]),
+/// Records with one of causes 1, 3, 4, 5 each, and the number.
+pub const FAULTS: [(&str, &[Record], u8); 9] = [
+    ("n 33", &[(1, 0, 1), (1, 0, 32)], 1),
+    ("n 65536", &[(1, 0, 65535), (2, 0, 1)], 1),
+    ("n 33 by a", &[(1, 0, 1), (1, 32, 0)], 1),
+    ("T 64", &[(1, 0, 1), (64, 0, 1)], 1),
+    ("T 0", &[(1, 0, 1), (0, 0, 1)], 1),
+    ("slot 0", &[(0, 0, 1), (1, 0, 1)], 3),
+    ("slot above T", &[(2, 0, 1), (1, 0, 1)], 3),
+    ("a = b", &[(1, 0, 1), (1, 1, 1)], 4),
+    ("equal records", &[(1, 0, 1), (1, 0, 1)], 5),
 ];
 
 /// A wrong length with each other fault, its records whole or its last one cut.
-fn length_first() -> Vec<Case> {
-    let mut cases = Vec::new();
-    for (fault, records) in FAULTS {
+fn length_first() -> Vec<Input> {
+    let mut inputs = Vec::new();
+    for (fault, records, _) in FAULTS {
         let whole = plan_bytes(records);
         for more in [1, 5] {
             let bytes = [whole.as_slice(), &vec![0; more]].concat();
             let label = format!("2 before {fault}, {more} bytes behind");
-            cases.push(Case::on_bytes(&label, bytes, 2));
+            inputs.push(Input::on_bytes(&label, bytes, 2));
         }
         let bytes = whole[..whole.len() - 1].to_vec();
         let label = format!("2 before {fault}, a byte cut off");
-        cases.push(Case::on_bytes(&label, bytes, 2));
+        inputs.push(Input::on_bytes(&label, bytes, 2));
     }
-    cases
+    inputs
 }
 
 /// 1,025 records with each other fault, at their beginning and at their end in turn.
-fn too_many_first() -> Vec<Case> {
-    let mut cases = Vec::new();
-    for (index, (fault, records)) in FAULTS.into_iter().enumerate() {
+fn too_many_first() -> Vec<Input> {
+    let mut inputs = Vec::new();
+    for (index, (fault, records, _)) in FAULTS.into_iter().enumerate() {
         let spread = spread_records(1025 - records.len());
         let (place, all) = match index % 2 {
             0 => ("", [records, &spread].concat()),
             _ => (" at the end", [&spread, records].concat()),
         };
         let label = format!("2 before {fault}{place}, 1025 records");
-        cases.push(Case::on_records(&label, &all, 2));
+        inputs.push(Input::on_records(&label, &all, 2));
     }
-    cases
+    inputs
 }
 
 /// n or T outside its limits with a fault of a record, before it and after it.
-fn sizes_second() -> Vec<Case> {
+fn sizes_second() -> Vec<Input> {
     on_table(&[
         ("n 33 after slot 0", &[(0, 0, 1), (1, 0, 32)], 1),
         ("n 33 after slot above T", &[(3, 0, 1), (1, 0, 32)], 1),
@@ -109,7 +109,7 @@ fn sizes_second() -> Vec<Case> {
 }
 
 /// Causes 3, 4 and 5 of one record; the records behind it give n and T.
-fn one_record() -> Vec<Case> {
+fn one_record() -> Vec<Input> {
     on_table(&[
         ("3 before 4, slot 0", &[(0, 1, 1), (1, 0, 1)], 3),
         ("3 before 4, slot above T", &[(5, 3, 3), (4, 0, 1)], 3),
@@ -131,7 +131,7 @@ fn one_record() -> Vec<Case> {
 }
 
 /// Causes 3, 4 and 5 of different records: the earlier record decides.
-fn two_records() -> Vec<Case> {
+fn two_records() -> Vec<Input> {
     let same: Record = (1, 0, 1);
     on_table(&[
         ("earlier 3, later 4", &[(0, 0, 1), (1, 1, 1), (1, 0, 1)], 3),

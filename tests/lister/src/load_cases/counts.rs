@@ -1,6 +1,6 @@
-//! Counts around 2^63 and 2^64 within the program's limits: cause 9, and plans just below it.
+//! Counts around 2^63 and 2^64 within the program's limits, with g = 1: cause 9, and plans just below it.
 
-use super::Case;
+use super::Input;
 use crate::load_program::MOST_CONTACTS;
 use crate::means::COUNT_LIMIT;
 use crate::plans::Owned;
@@ -85,9 +85,9 @@ fn contacts(layers: &Layers) -> Vec<[usize; 3]> {
 }
 
 /// A plan of 32 stations with these contacts in their direction, and so many of them in the other one
-/// too. Asserts the number of shortest paths from the first station to the last.
+/// too. Asserts the number of shortest paths from the first station to the last with g = 1.
 fn plan(contacts: &[[usize; 3]], back: usize, count: u128) -> Vec<u8> {
-    let mut builder = Builder::start();
+    let mut builder = Builder::turning(1);
     builder.grow(32, 63);
     for [slot, sender, hearer] in contacts {
         builder.send(*slot, *sender, *hearer);
@@ -100,13 +100,13 @@ fn plan(contacts: &[[usize; 3]], back: usize, count: u128) -> Vec<u8> {
     Owned::built(&builder).bytes
 }
 
-pub fn cases() -> Vec<Case> {
+pub fn inputs() -> Vec<Input> {
     let large = contacts(&LARGE);
     let count = 12_475_551_396_000_872_704;
     assert!((1 << 63..1 << 64).contains(&count) && large.len() == 512);
-    let mut cases = vec![
-        Case::on_bytes("counts above 2^63", plan(&large, 512, count), 0),
-        Case::on_bytes("counts above 2^63, one way", plan(&large, 0, count), 0),
+    let mut inputs = vec![
+        Input::on_bytes("counts above 2^63", plan(&large, 512, count), 0),
+        Input::on_bytes("counts above 2^63, one way", plan(&large, 0, count), 0),
     ];
     let mut below = TOO_MANY;
     below[CUT].1 += 1;
@@ -121,8 +121,8 @@ pub fn cases() -> Vec<Case> {
             let records = one_way.len() + back;
             let label = format!("counts {name} 2^64, {records} records");
             let bytes = plan(&one_way, back, count);
-            cases.push(Case::on_bytes(&label, bytes, stated));
+            inputs.push(Input::on_bytes(&label, bytes, stated));
         }
     }
-    cases
+    inputs
 }

@@ -1,13 +1,13 @@
 //! Document 01's examples, the smallest plans, and plans with one direction alone.
 
-use super::{on_table, Case};
+use super::{on_table, Input};
 use crate::cases::{doubled, PLAN_A};
 use crate::one_way::{OneWayPlan, ONE_WAY_PLANS};
 
-pub fn cases() -> Vec<Case> {
+pub fn inputs() -> Vec<Input> {
     let mut backwards = PLAN_A;
     backwards.reverse();
-    let mut cases = on_table(&[
+    let mut inputs = on_table(&[
         ("plan A", &PLAN_A, 0),
         ("empty input", &[], 0),
         ("P8 a repeated record", &[(1, 0, 1), (1, 0, 1)], 5),
@@ -34,7 +34,7 @@ pub fn cases() -> Vec<Case> {
         ("plan A without its last record", &PLAN_A[..11], 0),
         ("plan A backwards", &backwards, 3),
     ]);
-    let one_way = |plan: &OneWayPlan| Case::on_records(plan.label, plan.records, 0);
-    cases.extend(ONE_WAY_PLANS.iter().map(one_way));
-    cases
+    let one_way = |plan: &OneWayPlan| Input::on_records(plan.label, plan.records, 0);
+    inputs.extend(ONE_WAY_PLANS.iter().map(one_way));
+    inputs
 }

@@ -1,25 +1,25 @@
-//! Generated cases: valid plans of three sizes, and damaged ones.
+//! Generated inputs: valid plans of three sizes, and damaged ones.
 
-use super::Case;
+use super::Input;
 use crate::cases::{self, damage, plan_bytes, valid_records};
 use crate::load_program::{MOST_CONTACTS, MOST_SLOTS, MOST_STATIONS};
 use crate::random::Random;
 
-/// The seed of the generated cases; each label names it.
-pub const SEED: u64 = 4;
+/// The seed of the generated inputs; each label names it.
+const SEED: u64 = 4;
 /// The number of damaged plans.
 const DAMAGED: usize = 50;
 
 /// A size of plans: their number, the largest n, T and number of records.
-struct Size {
-    name: &'static str,
+pub struct Size {
+    pub name: &'static str,
     plans: usize,
     stations: usize,
     slots: usize,
     records: usize,
 }
 
-const SIZES: [Size; 3] = [
+pub const SIZES: [Size; 3] = [
     Size {
         name: "small",
         plans: 50,
@@ -43,12 +43,12 @@ const SIZES: [Size; 3] = [
     },
 ];
 
-pub fn cases() -> Vec<Case> {
+pub fn inputs() -> Vec<Input> {
     let mut random = Random::new(SEED);
-    let mut cases = Vec::new();
+    let mut inputs = Vec::new();
     for size in &SIZES {
         for index in 0..size.plans {
-            cases.push(Case {
+            inputs.push(Input {
                 label: format!("{} {index}, seed {SEED}", size.name),
                 bytes: valid_plan(&mut random, size),
                 stated: Some(0),
@@ -56,13 +56,13 @@ pub fn cases() -> Vec<Case> {
         }
     }
     for index in 0..DAMAGED {
-        cases.push(damaged(&mut random, index));
+        inputs.push(damaged(&mut random, index));
     }
-    cases
+    inputs
 }
 
 /// A valid plan of a size.
-fn valid_plan(random: &mut Random, size: &Size) -> Vec<u8> {
+pub fn valid_plan(random: &mut Random, size: &Size) -> Vec<u8> {
     let stations = random.between(2, size.stations);
     let slots = random.between(1, size.slots);
     let wanted = random.between(1, size.records);
@@ -70,7 +70,7 @@ fn valid_plan(random: &mut Random, size: &Size) -> Vec<u8> {
 }
 
 /// A small plan or a plan of middle size, damaged in one or two places.
-fn damaged(random: &mut Random, index: usize) -> Case {
+fn damaged(random: &mut Random, index: usize) -> Input {
     let mut case = cases::Case {
         label: String::new(),
         stations: 0,
@@ -82,7 +82,7 @@ fn damaged(random: &mut Random, index: usize) -> Case {
     for _ in 0..random.between(1, 2) {
         done.push(damage_bytes(random, &mut case));
     }
-    Case {
+    Input {
         label: format!("damaged {index}, seed {SEED}: {}", done.join(", ")),
         bytes: case.bytes,
         stated: None,

@@ -1,9 +1,9 @@
 //! Causes 3, 4 and 5 of one record: the first, a middle one and the last.
 
-use super::{on_table, Case};
+use super::{on_table, Input};
 use crate::cases::{Record, PLAN_A};
 
-pub fn cases() -> Vec<Case> {
+pub fn inputs() -> Vec<Input> {
     [slots(), stations(), orders(), small_slots(), small_orders()].concat()
 }
 
@@ -19,8 +19,8 @@ fn changed(at: usize, change: impl Fn(Record) -> Record) -> [Record; 12] {
 
 /// Every record of plan A with another slot. The last record gives T, which leaves 1 for it where the
 /// slot is outside T's limits, and 3 for an earlier record where T becomes less than its slot.
-fn slots() -> Vec<Case> {
-    let mut cases = Vec::new();
+fn slots() -> Vec<Input> {
+    let mut inputs = Vec::new();
     for at in 0..PLAN_A.len() {
         for slot in [0, 5, 63, 64, 256, 260, 65535] {
             let records = changed(at, |(_, a, b)| (slot, a, b));
@@ -30,52 +30,52 @@ fn slots() -> Vec<Case> {
                 _ => 3,
             };
             let label = format!("plan A, record {at} in slot {slot}");
-            cases.push(Case::on_records(&label, &records, stated));
+            inputs.push(Input::on_records(&label, &records, stated));
         }
     }
     for slot in [1, 2, 3] {
         let records = changed(LAST, |(_, a, b)| (slot, a, b));
         let label = format!("plan A, record {LAST} in slot {slot}");
-        cases.push(Case::on_records(&label, &records, 3));
+        inputs.push(Input::on_records(&label, &records, 3));
     }
-    cases
+    inputs
 }
 
 /// Every record of plan A with a = b, and with a and b exchanged, which another record has.
-fn stations() -> Vec<Case> {
-    let mut cases = Vec::new();
+fn stations() -> Vec<Input> {
+    let mut inputs = Vec::new();
     for at in 0..PLAN_A.len() {
         let label = |what: &str| format!("plan A, record {at}, {what}");
         let exchanged = changed(at, |(slot, a, b)| (slot, b, a));
-        cases.push(Case::on_records(&label("exchanged"), &exchanged, 5));
+        inputs.push(Input::on_records(&label("exchanged"), &exchanged, 5));
         let same = changed(at, |(slot, a, _)| (slot, a, a));
-        cases.push(Case::on_records(&label("b as a"), &same, 4));
+        inputs.push(Input::on_records(&label("b as a"), &same, 4));
         let same = changed(at, |(slot, _, b)| (slot, b, b));
-        cases.push(Case::on_records(&label("a as b"), &same, 4));
+        inputs.push(Input::on_records(&label("a as b"), &same, 4));
     }
-    cases
+    inputs
 }
 
 /// Every record of plan A twice, and exchanged with the next.
-fn orders() -> Vec<Case> {
-    let mut cases = Vec::new();
+fn orders() -> Vec<Input> {
+    let mut inputs = Vec::new();
     for (at, record) in PLAN_A.into_iter().enumerate() {
         let mut records = PLAN_A.to_vec();
         records.insert(at, record);
         let label = format!("plan A, record {at} twice");
-        cases.push(Case::on_records(&label, &records, 5));
+        inputs.push(Input::on_records(&label, &records, 5));
     }
     for at in 0..LAST {
         let mut records = PLAN_A;
         records.swap(at, at + 1);
         let label = format!("plan A, records {at} and {} exchanged", at + 1);
-        cases.push(Case::on_records(&label, &records, 5));
+        inputs.push(Input::on_records(&label, &records, 5));
     }
-    cases
+    inputs
 }
 
 /// Slots of two and three records, with T from the last.
-fn small_slots() -> Vec<Case> {
+fn small_slots() -> Vec<Input> {
     on_table(&[
         ("slots 2, 1", &[(2, 0, 1), (1, 0, 1)], 3),
         ("slots 2, 1, stations rising", &[(2, 0, 1), (1, 1, 2)], 3),
@@ -91,7 +91,7 @@ fn small_slots() -> Vec<Case> {
 }
 
 /// Orders of a few records whose slots are all within T.
-fn small_orders() -> Vec<Case> {
+fn small_orders() -> Vec<Input> {
     on_table(&[
         (
             "slots 1, 2, 1, 2",

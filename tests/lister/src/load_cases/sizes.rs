@@ -1,10 +1,10 @@
 //! Cause 1: n and T as the records give them, at their limits.
 
 use super::lengths::spread_records;
-use super::{on_table, Case};
+use super::{on_table, Input};
 use crate::cases::Record;
 
-pub fn cases() -> Vec<Case> {
+pub fn inputs() -> Vec<Input> {
     [
         station_limits(),
         slot_limits(),
@@ -16,8 +16,8 @@ pub fn cases() -> Vec<Case> {
 }
 
 /// One record with a station number around the limits, and with a plain low byte.
-fn station_limits() -> Vec<Case> {
-    let mut cases = Vec::new();
+fn station_limits() -> Vec<Input> {
+    let mut inputs = Vec::new();
     for (station, stated) in [
         (2, 0),
         (30, 0),
@@ -33,20 +33,20 @@ fn station_limits() -> Vec<Case> {
         (65535, 1),
     ] {
         let label = format!("contact 0 {station} in slot 1");
-        cases.push(Case::on_records(&label, &[(1, 0, station)], stated));
+        inputs.push(Input::on_records(&label, &[(1, 0, station)], stated));
         let label = format!("contact {station} 0 in slot 1");
-        cases.push(Case::on_records(&label, &[(1, station, 0)], stated));
+        inputs.push(Input::on_records(&label, &[(1, station, 0)], stated));
         // A station with itself is cause 4, where n has no cause.
         let stated = if stated == 0 { 4 } else { stated };
         let label = format!("contact {station} {station} in slot 1");
-        cases.push(Case::on_records(&label, &[(1, station, station)], stated));
+        inputs.push(Input::on_records(&label, &[(1, station, station)], stated));
     }
-    cases.push(Case::on_records("contact 0 0, n 1", &[(1, 0, 0)], 4));
-    cases
+    inputs.push(Input::on_records("contact 0 0, n 1", &[(1, 0, 0)], 4));
+    inputs
 }
 
 /// One record with a slot around the limits, and with a plain low byte.
-fn slot_limits() -> Vec<Case> {
+fn slot_limits() -> Vec<Input> {
     let slots = [
         (0, 1),
         (1, 0),
@@ -61,26 +61,26 @@ fn slot_limits() -> Vec<Case> {
         (32769, 1),
         (65535, 1),
     ];
-    let case = |(slot, stated): &(u16, u8)| {
+    let input = |(slot, stated): &(u16, u8)| {
         let label = format!("contact 0 1 in slot {slot}");
-        Case::on_records(&label, &[(*slot, 0, 1)], *stated)
+        Input::on_records(&label, &[(*slot, 0, 1)], *stated)
     };
-    slots.iter().map(case).collect()
+    slots.iter().map(input).collect()
 }
 
 /// n and T at their limits together.
-fn both_limits() -> Vec<Case> {
-    let mut cases = Vec::new();
+fn both_limits() -> Vec<Input> {
+    let mut inputs = Vec::new();
     for (slot, b, stated) in [(63, 31, 0), (63, 32, 1), (64, 31, 1), (64, 32, 1)] {
         let label = format!("n {}, T {slot}, last record", b + 1);
         let records = [(1, 0, 1), (slot, 30, b)];
-        cases.push(Case::on_records(&label, &records, stated));
+        inputs.push(Input::on_records(&label, &records, stated));
     }
-    cases
+    inputs
 }
 
 /// The largest station number in the first, a middle and the last record.
-fn places() -> Vec<Case> {
+fn places() -> Vec<Input> {
     on_table(&[
         ("n 32 in record 0", &[(1, 0, 31), (2, 0, 1), (3, 1, 2)], 0),
         ("n 32 in record 1", &[(1, 0, 1), (2, 1, 31), (3, 1, 2)], 0),
@@ -113,7 +113,7 @@ fn places() -> Vec<Case> {
 }
 
 /// 1,024 records at the limits, and one change in them.
-fn most_records() -> Vec<Case> {
+fn most_records() -> Vec<Input> {
     let whole = spread_records(1024);
     let changed = |at: usize, record: Record| {
         let mut records = whole.clone();
@@ -123,18 +123,18 @@ fn most_records() -> Vec<Case> {
     let equal = changed(1023, whole[1022]);
     let longer = spread_records(1025);
     vec![
-        Case::on_records("1024 records, n 32, T 63", &whole, 0),
-        Case::on_records("1025 records, n 32, T 63", &longer, 2),
-        Case::on_records("1024 records, last b 32", &changed(1023, (63, 31, 32)), 1),
-        Case::on_records("1024 records, last a 32", &changed(1023, (63, 32, 31)), 1),
-        Case::on_records("1024 records, last slot 64", &changed(1023, (64, 0, 1)), 1),
-        Case::on_records("1024 records, last slot 0", &changed(1023, (0, 30, 31)), 1),
-        Case::on_records("1024 records, last slot 62", &changed(1023, (62, 0, 1)), 3),
-        Case::on_records("1024 records, last a = b", &changed(1023, (63, 31, 31)), 4),
-        Case::on_records("1024 records, last two equal", &equal, 5),
-        Case::on_records("1024 records, first b 32", &changed(0, (1, 0, 32)), 1),
-        Case::on_records("1024 records, first slot 0", &changed(0, (0, 0, 1)), 3),
-        Case::on_records("1024 records, first a = b", &changed(0, (1, 0, 0)), 4),
-        Case::on_records("1024 records, first two equal", &changed(0, whole[1]), 5),
+        Input::on_records("1024 records, n 32, T 63", &whole, 0),
+        Input::on_records("1025 records, n 32, T 63", &longer, 2),
+        Input::on_records("1024 records, last b 32", &changed(1023, (63, 31, 32)), 1),
+        Input::on_records("1024 records, last a 32", &changed(1023, (63, 32, 31)), 1),
+        Input::on_records("1024 records, last slot 64", &changed(1023, (64, 0, 1)), 1),
+        Input::on_records("1024 records, last slot 0", &changed(1023, (0, 30, 31)), 1),
+        Input::on_records("1024 records, last slot 62", &changed(1023, (62, 0, 1)), 3),
+        Input::on_records("1024 records, last a = b", &changed(1023, (63, 31, 31)), 4),
+        Input::on_records("1024 records, last two equal", &equal, 5),
+        Input::on_records("1024 records, first b 32", &changed(0, (1, 0, 32)), 1),
+        Input::on_records("1024 records, first slot 0", &changed(0, (0, 0, 1)), 3),
+        Input::on_records("1024 records, first a = b", &changed(0, (1, 0, 0)), 4),
+        Input::on_records("1024 records, first two equal", &changed(0, whole[1]), 5),
     ]
 }

@@ -22,8 +22,9 @@ const FAR: [u64; 12] = [
     u64::MAX,
 ];
 
+/// Plan A with g = 1.
 pub fn plan_a(label: &str) -> LabelledPlan {
-    LabelledPlan::of_records(label, (5, 4), &PLAN_A)
+    LabelledPlan::of_records(label, (5, 4), &PLAN_A).turning(1)
 }
 
 pub fn cases() -> Vec<Case> {
@@ -32,14 +33,14 @@ pub fn cases() -> Vec<Case> {
         plan_a("plan A"),
         plan_a("plan A, g 3").turning(3),
         plan_a("plan A, g 16").turning(16),
-        LabelledPlan::of_records("P10 two contacts in slot 1", (3, 1), &ten),
+        LabelledPlan::of_records("P10 two contacts in slot 1", (3, 1), &ten).turning(1),
     ];
-    plans.extend(ONE_WAY_PLANS.iter().map(|plan| plan.labelled()));
+    plans.extend(ONE_WAY_PLANS.iter().map(|plan| plan.labelled().turning(1)));
     plans.extend(TURNED_PLANS.iter().map(|plan| plan.labelled()));
     plans.extend(rows_around());
     for n in 1..=3 {
         let label = format!("empty plan, n {n}, T 1");
-        plans.push(LabelledPlan::of_records(&label, (n, 1), &[]));
+        plans.push(LabelledPlan::of_records(&label, (n, 1), &[]).turning(1));
     }
     let mut cases: Vec<Case> = plans.iter().flat_map(LabelledPlan::every_partial).collect();
     let exact = plan_a("plan A, exactly long enough");

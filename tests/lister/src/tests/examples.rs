@@ -1,4 +1,4 @@
-//! P1 to P10 and the printed loads of plan A.
+//! P1 to P10 and the printed loads of plan A, with g = 1 and with g = 2.
 
 use super::support::Owned;
 use crate::answer::number;
@@ -145,8 +145,8 @@ fn p8_bad_records() {
 }
 
 #[test]
-fn p9_loads() {
-    let owned = Owned::plan_a();
+fn p9_loads_with_turnaround_1() {
+    let owned = Owned::plan_a().turning(1);
     let loads = owned.loads(COUNT_LIMIT).unwrap();
     let entry = |pairs, load| Load { pairs, load };
     let expected = [

@@ -1,4 +1,4 @@
-//! The files of load-cases.
+//! The files of load-cases and of one-slot-cases.
 
 use std::collections::BTreeSet;
 use std::sync::OnceLock;
@@ -6,7 +6,8 @@ use std::sync::OnceLock;
 use super::read_back::{assert_labels, take, take_number};
 use crate::files::{stdin_bytes, stdout_text};
 use crate::load_cases::{
-    all_cases, rare_path, Case, LONGEST_INPUT, LONGEST_LABEL, LONGEST_TEXT, RARE_PATHS,
+    all_cases, all_inputs, one_slot_cases, rare_path, Case, RarePath, LONGEST_INPUT, LONGEST_LABEL,
+    LONGEST_TEXT, RARE_PATHS, RARE_TWO_SLOTS,
 };
 use crate::load_program::{accepted_plan, is_listed, load_text, load_text_by};
 use crate::loads::share;
@@ -41,7 +42,7 @@ fn lines_of(text: &str) -> Vec<[u64; 3]> {
 
 #[test]
 fn stated_numbers_are_those_of_the_texts() {
-    let mut seen = [0; 10];
+    let mut seen = [0; 13];
     for (case, text) in cases() {
         let number = number_of(text);
         if let Some(stated) = case.stated {
@@ -50,7 +51,115 @@ fn stated_numbers_are_those_of_the_texts() {
         }
     }
     assert!(seen[..6].iter().all(|count| *count > 20), "{seen:?}");
+    assert!(seen[9] == 2 && seen[12] > 100, "{seen:?}");
+}
+
+#[test]
+fn stated_numbers_of_one_slot_are_those_of_the_texts() {
+    let mut seen = [0; 10];
+    for case in one_slot_cases() {
+        if let Some(stated) = case.0.stated {
+            let number = number_of(&load_text(1, &case.0.bytes));
+            assert_eq!(number, stated, "{}", case.0.label);
+            seen[usize::from(stated)] += 1;
+        }
+    }
+    assert!(seen[..6].iter().all(|count| *count > 20), "{seen:?}");
     assert!(seen[9] == 2, "{seen:?}");
+}
+
+/// The case with a label, and its text.
+fn labelled(label: &str) -> &'static (Case, String) {
+    let found = cases().iter().find(|(case, _)| case.label == label);
+    found.unwrap_or_else(|| panic!("no case {label}"))
+}
+
+#[test]
+fn texts_by_hand() {
+    let plan_a = "stations 5 slots 4 contacts 12\n0 0 0\n";
+    for (label, text) in [
+        (
+            "plan A, g 1",
+            format!("{plan_a}1 2 2863311530\n2 2 5726623060\n3 4 17179869184\n4 0 0\n"),
+        ),
+        (
+            "plan A, g 2",
+            format!("{plan_a}1 0 0\n2 1 4294967296\n3 2 8589934592\n4 0 0\n"),
+        ),
+        (
+            "plan A, g 3",
+            format!("{plan_a}1 0 0\n2 0 0\n3 0 0\n4 0 0\n"),
+        ),
+        ("plan A, g 0", "refused 12\n".to_string()),
+        ("plan A, g 17", "refused 12\n".to_string()),
+        ("plan A, g 257", "refused 12\n".to_string()),
+        ("empty input, g 65535", "refused 12\n".to_string()),
+        ("plan A backwards, g 17", "refused 3\n".to_string()),
+        ("1 before 12, T 0, g 17", "refused 1\n".to_string()),
+        ("2 before 12, 1 byte, g 0", "refused 2\n".to_string()),
+        (
+            "counts over 2^64, 627 records, g 1",
+            "refused 9\n".to_string(),
+        ),
+        (
+            "counts over 2^64, 627 records, g 17",
+            "refused 12\n".to_string(),
+        ),
+    ] {
+        assert_eq!(labelled(label).1, text, "{label}");
+    }
+}
+
+/// With g = 2 a path of h hops has as many choices of slots as there are of h among 64 − h, below 2^42, and of two
+/// stations in 8 layers: no count is near 2^64.
+#[test]
+fn counts_over_the_limit_are_below_it_with_turnaround_2() {
+    let (_, text) = labelled("counts over 2^64, 627 records, g 2");
+    assert_eq!(number_of(text), 0);
+    assert!(lines_of(text).iter().any(|line| line[2] > 1 << 32));
+}
+
+/// Every cause of an input is told with every turnaround; 0 and 9 become 12 outside of the limits.
+#[test]
+fn only_accepted_inputs_depend_on_the_turnaround() {
+    let mut refused = 0;
+    for input in all_inputs().into_iter().step_by(3) {
+        let number = |turnaround: usize| number_of(&load_text(turnaround, &input.bytes));
+        let first = number(1);
+        for turnaround in [0, 17] {
+            let expected = match first {
+                0 | 9 => 12,
+                _ => first,
+            };
+            assert_eq!(number(turnaround), expected, "{}", input.label);
+        }
+        if ![0, 9].contains(&first) {
+            assert_eq!(number(2), first, "{}", input.label);
+            refused += 1;
+        }
+    }
+    assert!(refused > 100, "{refused}");
+}
+
+#[test]
+fn every_turnaround_has_cases() {
+    let seen: BTreeSet<u16> = cases().iter().map(|case| case.0.turnaround).collect();
+    assert!((0..=18).all(|turnaround| seen.contains(&turnaround)));
+    assert!([256, 257, 65535].iter().all(|far| seen.contains(far)));
+    for (case, _) in cases() {
+        let named = format!(", g {}", case.turnaround);
+        assert!(case.label.ends_with(&named), "{}", case.label);
+    }
+}
+
+/// Many of the inputs with loads print others with g = 1.
+#[test]
+fn the_programs_print_different_texts() {
+    let mut different = 0;
+    for (case, text) in cases().iter().filter(|case| case.0.turnaround == 2) {
+        different += usize::from(load_text(1, &case.bytes) != *text);
+    }
+    assert!(different > 150, "{different}");
 }
 
 #[test]
@@ -61,7 +170,7 @@ fn texts_have_their_form() {
             assert_eq!(*text, format!("refused {number}\n"));
             continue;
         }
-        let plan = accepted_plan(&case.bytes).unwrap();
+        let plan = accepted_plan(case.turnaround.into(), &case.bytes).unwrap();
         let contacts = case.bytes.len() / 6;
         let (stations, slots) = (plan.stations, plan.slots);
         let heading = format!("stations {stations} slots {slots} contacts {contacts}\n");
@@ -78,6 +187,11 @@ fn texts_have_their_form() {
 fn labels_are_short_printable_and_distinct() {
     let labels = cases().iter().map(|(case, _)| case.label.as_str());
     assert_labels(labels, LONGEST_LABEL);
+    let one_slot = one_slot_cases();
+    assert_labels(
+        one_slot.iter().map(|case| case.0.label.as_str()),
+        LONGEST_LABEL,
+    );
 }
 
 #[test]
@@ -107,27 +221,34 @@ fn loads_have_every_number_of_digits() {
 
 #[test]
 fn rare_paths_have_one_pair_each() {
-    let mut digits = Vec::new();
-    for (hops, slots) in RARE_PATHS {
-        let (bytes, rare, count) = rare_path(hops, slots);
-        let load = share(1, count);
-        let line = lines_of(&load_text(&bytes))[rare];
-        assert_eq!(line, [rare as u64, 1, load], "{hops} {slots}");
-        digits.push(load.to_string().len());
+    for (turnaround, paths) in [(1, RARE_PATHS), (2, RARE_TWO_SLOTS)] {
+        let mut digits = Vec::new();
+        for (hops, slots) in paths {
+            let (bytes, rare, count) = rare_path(RarePath {
+                hops,
+                slots,
+                turnaround,
+            });
+            let load = share(1, count);
+            let line = lines_of(&load_text(turnaround, &bytes))[rare];
+            assert_eq!(line, [rare as u64, 1, load], "{hops} {slots}");
+            digits.push(load.to_string().len());
+        }
+        assert_eq!(digits, [10, 9, 8, 7, 6, 5, 4, 3, 2, 1, 1]);
     }
-    assert_eq!(digits, [10, 9, 8, 7, 6, 5, 4, 3, 2, 1, 1]);
 }
 
 #[test]
-fn the_longest_text_is_attained() {
+fn the_longest_text_is_attained_with_both_turnarounds() {
     let lengths = cases().iter().map(|case| case.1.len());
     assert_eq!(lengths.max(), Some(LONGEST_TEXT));
-    let named = cases().iter().find(|case| case.0.label == "longest text");
-    let (_, text) = named.unwrap();
-    assert_eq!(text.len(), LONGEST_TEXT);
-    for [_, pairs, load] in lines_of(text) {
-        assert!((100..1000).contains(&pairs));
-        assert!((1_000_000_000_000..10_000_000_000_000).contains(&load));
+    for label in ["longest text, g 1", "longest text in odd slots, g 2"] {
+        let (_, text) = labelled(label);
+        assert_eq!(text.len(), LONGEST_TEXT);
+        for [_, pairs, load] in lines_of(text) {
+            assert!((100..1000).contains(&pairs));
+            assert!((1_000_000_000_000..10_000_000_000_000).contains(&load));
+        }
     }
 }
 
@@ -136,7 +257,8 @@ fn listed_and_counted_cases() {
     let mut listed = 0;
     let mut counted = 0;
     for (case, text) in cases() {
-        let Ok(plan) = accepted_plan(&case.bytes) else {
+        let turnaround = case.turnaround.into();
+        let Ok(plan) = accepted_plan(turnaround, &case.bytes) else {
             continue;
         };
         if !is_listed(&plan) {
@@ -145,7 +267,8 @@ fn listed_and_counted_cases() {
         }
         listed += 1;
         for means in [LISTED, COUNTED] {
-            assert_eq!(load_text_by(means, &case.bytes), *text, "{}", case.label);
+            let by_means = load_text_by(means, turnaround, &case.bytes);
+            assert_eq!(by_means, *text, "{}", case.label);
         }
     }
     assert!(listed > 100 && counted > 60, "{listed} {counted}");
@@ -155,18 +278,35 @@ fn listed_and_counted_cases() {
 fn stdin_read_back_gives_stdout() {
     let all = all_cases();
     let stdin = stdin_bytes(&all);
-    assert!(stdin.len() < 600_000);
+    assert!(stdin.len() < 900_000);
     let mut rest = stdin.as_slice();
     let mut stdout = Vec::new();
     let mut read = 0;
     while !rest.is_empty() {
-        let [label_length, input_length] = [2; 2].map(|length| take_number(&mut rest, length));
+        let [label_length, input_length, turnaround] =
+            [2; 3].map(|length| take_number(&mut rest, length));
         stdout.extend(take(&mut rest, label_length));
         stdout.extend(b":\n");
-        stdout.extend(load_text(take(&mut rest, input_length)).bytes());
+        stdout.extend(load_text(turnaround, take(&mut rest, input_length)).bytes());
         read += 1;
     }
     assert_eq!(read, all.len());
+    assert_eq!(stdout, stdout_text(&all).into_bytes());
+}
+
+#[test]
+fn stdin_of_one_slot_read_back_gives_stdout() {
+    let all = one_slot_cases();
+    let stdin = stdin_bytes(&all);
+    let mut rest = stdin.as_slice();
+    let mut stdout = Vec::new();
+    for _ in &all {
+        let [label_length, input_length] = [2; 2].map(|length| take_number(&mut rest, length));
+        stdout.extend(take(&mut rest, label_length));
+        stdout.extend(b":\n");
+        stdout.extend(load_text(1, take(&mut rest, input_length)).bytes());
+    }
+    assert!(rest.is_empty());
     assert_eq!(stdout, stdout_text(&all).into_bytes());
 }
 
@@ -178,7 +318,7 @@ fn generated_cases_vary() {
     };
     for name in ["small ", "middle ", "large "] {
         let texts: BTreeSet<&str> = of(name).iter().map(|case| case.1.as_str()).collect();
-        assert!(texts.len() >= 30, "{name}: {}", texts.len());
+        assert!(texts.len() >= 60, "{name}: {}", texts.len());
     }
     let numbers: BTreeSet<u8> = of("damaged ")
         .iter()
@@ -190,4 +330,5 @@ fn generated_cases_vary() {
 #[test]
 fn cases_are_the_same_each_time() {
     assert!(all_cases().iter().eq(cases().iter().map(|case| &case.0)));
+    assert_eq!(one_slot_cases(), one_slot_cases());
 }

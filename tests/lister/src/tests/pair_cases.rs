@@ -143,6 +143,14 @@ fn lines_by_hand() {
     call_files::assert_lines(cases(), &lines);
 }
 
+/// P9 is of units that send on in the slot after hearing.
+#[test]
+fn p9_has_turnaround_1() {
+    for label in ["P9 plan A, loads", "P9 plan A, longer, loads"] {
+        assert_eq!(labelled(label).0.turnaround, 1, "{label}");
+    }
+}
+
 #[test]
 fn stdin_read_back_gives_the_cases() {
     call_files::assert_stdin(cases(), |case| case.lengths.to_vec());

@@ -15,10 +15,10 @@ fn load(pairs: u64, load: u64) -> Load {
     Load { pairs, load }
 }
 
-/// From 0 two pairs have stations 1, 2 and 3 interior; from 1 two pairs, and from 2 one, have station 3.
+/// With g = 1: from 0 two pairs have stations 1, 2 and 3 interior; from 1 two pairs, and from 2 one, have station 3.
 #[test]
 fn plan_a_source_by_source() {
-    let owned = Owned::plan_a();
+    let owned = Owned::plan_a().turning(1);
     let (first, second) = (load(2, 2863311530), load(2, 5726623060));
     for (sources, of_third) in [(1, 1), (2, 3), (3, 4), (4, 4), (5, 4)] {
         let third = load(of_third, of_third * WHOLE);
@@ -33,7 +33,7 @@ fn plan_a_source_by_source() {
 
 #[test]
 fn shown_partial_loads() {
-    let owned = Owned::plan_a();
+    let owned = Owned::plan_a().turning(1);
     let shown = "sources 2 span 51539607552\n\
                  pairs 0 2 2 3 0\n\
                  loads 0 2863311530 5726623060 12884901888 0\n";
@@ -112,7 +112,9 @@ fn assert_spans(owned: &Owned) {
 /// Plans of several kinds.
 fn plans() -> Vec<Owned> {
     let mut random = Random::new(21);
-    let mut plans = vec![Owned::plan_a(), Owned::plan_a().turning(2)];
+    let mut plans = [1, 2]
+        .map(|turnaround| Owned::plan_a().turning(turnaround))
+        .to_vec();
     plans.extend(tiny_plans().into_iter().step_by(3));
     plans.extend(turned_plans().into_iter().step_by(3));
     plans.extend((0..300).map(|_| random_plan(&mut random)));

@@ -44,6 +44,24 @@ fn hand_made_cases_state_their_numbers() {
     }
 }
 
+/// A label names the turnaround, or it is 1; those of 12 before 9 and of a cause before 12 have 17.
+#[test]
+fn cases_have_the_turnaround_of_their_label() {
+    let mut ones = 0;
+    for (case, _) in cases() {
+        let label = &case.call.label;
+        let named = label.split(", ").find_map(|part| {
+            let number = part.strip_prefix("g ").or(part.strip_prefix("12 for g "))?;
+            number.parse().ok()
+        });
+        let wrong = label.contains("before 12") || label.starts_with("12 before 9");
+        let expected = named.unwrap_or(if wrong { 17 } else { 1 });
+        assert_eq!(case.call.turnaround, expected, "{label}");
+        ones += usize::from(expected == 1);
+    }
+    assert!(ones > 3000, "{ones}");
+}
+
 /// A verdict stands beside 0 alone; each is there with lists of every kind.
 #[test]
 fn verdicts_stand_beside_accepted_calls() {

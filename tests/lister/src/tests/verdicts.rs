@@ -20,7 +20,7 @@ fn judge(means: Means, owned: &Owned, ends: Ends, list: &[u16]) -> Answer<Verdic
 
 #[test]
 fn lists_of_plan_a() {
-    let owned = Owned::plan_a();
+    let owned = Owned::plan_a().turning(1);
     for (verdict, list) in [
         (Complete, &[0, 4, 10, 1, 5, 10, 1, 8, 10][..]),
         (Beginning, &[]),
@@ -46,9 +46,9 @@ fn lists_of_plan_a() {
 #[test]
 fn without_a_path_the_empty_list_is_complete() {
     for (owned, ends) in [
-        (Owned::plan_a(), (2, 1)),
+        (Owned::plan_a().turning(1), (2, 1)),
         (Owned::plan_a().turning(3), (0, 4)),
-        (Owned::new(2, 1, &[]), (0, 1)),
+        (Owned::new(2, 1, &[]).turning(1), (0, 1)),
     ] {
         assert_eq!(judge(LISTED, &owned, ends, &[]), Ok(Complete));
         for entry in [0, 1, 11, 12, 65535] {
@@ -58,11 +58,12 @@ fn without_a_path_the_empty_list_is_complete() {
 }
 
 /// Of all lists of up to four entries one is complete, as many are beginnings as there are paths that leave one
-/// behind them, and the rest are wrong.
+/// behind them, and the rest are wrong; with g = 1.
 #[test]
 fn all_lists_of_tiny_plans() {
     let mut complete = 0;
     for owned in tiny_plans().into_iter().step_by(5) {
+        let owned = owned.turning(1);
         let records = owned.plan().contacts.len() as u16;
         let most = if records > 4 { 3 } else { 4 };
         let lists: Vec<Vec<u16>> = (0..=most)
@@ -85,12 +86,12 @@ fn all_lists_of_tiny_plans() {
     assert!(complete > 200, "{complete}");
 }
 
-/// The verdicts on the lists near the complete one, listed and path by path; each is given.
+/// The verdicts on the lists near the complete one, listed and path by path; each is given. The tiny plans have g = 1.
 #[test]
 fn both_means_give_one_verdict() {
     let mut seen = [0; 3];
-    let plans = [tiny_plans(), turned_plans()].concat();
-    for owned in plans.into_iter().step_by(3) {
+    let tiny = tiny_plans().into_iter().map(|plan| plan.turning(1));
+    for owned in tiny.chain(turned_plans()).step_by(3) {
         let records = owned.plan().contacts.len() as u16;
         for ends in pairs(owned.stations) {
             for (words, list) in near(&owned.list(ends.0, ends.1), records) {
@@ -107,7 +108,7 @@ fn both_means_give_one_verdict() {
 #[test]
 fn numbers_and_zero_beside_a_refusal() {
     assert_eq!(VERDICTS.map(Verdict::number), [1, 2, 3]);
-    let owned = Owned::plan_a();
+    let owned = Owned::plan_a().turning(1);
     let refused = judge(LISTED, &owned, (0, 5), &[]);
     assert_eq!((number(&refused), verdict_beside(&refused)), (6, 0));
     let judged = judge(LISTED, &owned, (0, 4), &[]);
@@ -116,7 +117,7 @@ fn numbers_and_zero_beside_a_refusal() {
 
 #[test]
 fn nine_is_before_the_verdict_and_clears_the_scratch() {
-    let owned = Owned::plan_a();
+    let owned = Owned::plan_a().turning(1);
     for (limit, expected) in [(2, 9), (3, 0), (COUNT_LIMIT, 0)] {
         for list in [&[][..], &[0, 4, 10, 1, 5, 10, 1, 8, 10], &[65535]] {
             for means in [LISTED, COUNTED] {
@@ -132,7 +133,7 @@ fn nine_is_before_the_verdict_and_clears_the_scratch() {
 
 #[test]
 fn shown_verdict() {
-    let owned = Owned::plan_a();
+    let owned = Owned::plan_a().turning(1);
     let shown = |ends, list: &[usize]| text_of(verdict_text(owned.input(), ends, list));
     assert_eq!(shown((0, 4), &[0, 4, 10]), "verdict beginning\n");
     assert_eq!(shown((2, 1), &[]), "verdict complete\n");

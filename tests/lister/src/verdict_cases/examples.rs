@@ -13,29 +13,29 @@ pub fn cases() -> Vec<Case> {
     cases.into_iter().map(|case| case.stating(0)).collect()
 }
 
-fn labelled_plan_a(label: &str) -> LabelledPlan {
-    LabelledPlan::of_records(label, (5, 4), &PLAN_A)
+fn labelled_plan_a(label: &str, turnaround: u16) -> LabelledPlan {
+    LabelledPlan::of_records(label, (5, 4), &PLAN_A).turning(turnaround)
 }
 
-/// Plan A: every pair with the smallest turnaround, and two pairs with larger ones.
+/// Plan A: every pair with g = 1, and two pairs with larger ones.
 fn plan_a() -> Vec<Case> {
-    let plan = labelled_plan_a("plan A");
+    let plan = labelled_plan_a("plan A", 1);
     let all = pairs(5).map(|(source, destination)| (source as u16, destination as u16));
     let mut cases: Vec<Case> = all.flat_map(|ends| plan.near(ends)).collect();
     for turnaround in [2, 3] {
         let label = format!("plan A, g {turnaround}");
-        let plan = labelled_plan_a(&label).turning(turnaround);
+        let plan = labelled_plan_a(&label, turnaround);
         cases.extend([(0, 3), (1, 4)].iter().flat_map(|ends| plan.near(*ends)));
     }
     cases
 }
 
-/// Plans with one direction alone, there and back.
+/// Plans with one direction alone, there and back, with g = 1.
 fn one_way() -> Vec<Case> {
     let mut cases = Vec::new();
     for plan in ONE_WAY_PLANS {
         for ends in [(0, plan.last()), (plan.last(), 0)] {
-            cases.extend(plan.labelled().near(ends));
+            cases.extend(plan.labelled().turning(1).near(ends));
         }
     }
     cases
@@ -55,7 +55,7 @@ fn no_path() -> Vec<Case> {
     let away = LabelledPlan::of_records("records of others", (4, 2), &[(1, 0, 1), (2, 1, 3)]);
     let late = LabelledPlan::of_records("too soon, g 2", (3, 2), &[(1, 0, 1), (2, 1, 2)]);
     let mut cases = Vec::new();
-    for plan in [empty, away, late.turning(2)] {
+    for plan in [empty.turning(1), away.turning(1), late.turning(2)] {
         for list in [&[][..], &[0], &[1], &[2], &[65535], &[0, 1], &[0, 0]] {
             let words = format!("list {list:?}");
             cases.push(plan.judged((0, 2), (words, list.to_vec())));
@@ -64,7 +64,7 @@ fn no_path() -> Vec<Case> {
     cases
 }
 
-/// Plan A on a longer scratch, which holds several marks.
+/// Plan A with g = 1 on a longer scratch, which holds several marks.
 fn longer() -> Vec<Case> {
     let mut cases = Vec::new();
     for (mark, more) in [(0, 2), (1, 1), (4321, 3), (65535, 40)] {
@@ -74,7 +74,7 @@ fn longer() -> Vec<Case> {
             ("no path", &[]),
             ("a path cut", &[0, 4]),
         ] {
-            let plan = labelled_plan_a(&format!("longer, mark {mark}"));
+            let plan = labelled_plan_a(&format!("longer, mark {mark}"), 1);
             let case = plan.judged((0, 4), (words.to_string(), list.to_vec()));
             cases.push(case.marked(mark, more));
         }

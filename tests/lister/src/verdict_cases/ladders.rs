@@ -1,11 +1,11 @@
-//! Ladders: lists of the first of up to 2^63 paths, and cause 9.
+//! Ladders: lists of the first of up to 2^63 paths, and cause 9. Where a label names no turnaround it is 1.
 
 use super::Case;
 use crate::fast_ways;
 use crate::means::COUNT_LIMIT;
 use crate::pair_cases::LabelledPlan;
 use crate::plan::read;
-use crate::reach_cases::{falling_ladder, ladder, sent_ladder, spaced_sent_ladder, Builder};
+use crate::reach_cases::{falling_ladder, spaced_ladder, spaced_sent_ladder, Builder};
 use crate::ways::Paths;
 
 pub fn cases() -> Vec<Case> {
@@ -50,8 +50,8 @@ fn first_and_last(label: &str, builder: &Builder) -> Vec<Case> {
 
 fn accepted() -> Vec<Case> {
     [
-        first_and_last("ladder of 64 layers", &ladder(64, 2)),
-        first_and_last("sent ladder of 64 layers", &sent_ladder(64, 2)),
+        first_and_last("ladder of 64 layers", &spaced_ladder(1, 64, 2)),
+        first_and_last("sent ladder of 64 layers", &spaced_sent_ladder(1, 64, 2)),
         first_and_last("spaced ladder of 64, g 3", &spaced_sent_ladder(3, 64, 2)),
     ]
     .concat()
@@ -61,7 +61,7 @@ fn accepted() -> Vec<Case> {
 fn too_many() -> Vec<Case> {
     let mut cases = Vec::new();
     for (label, builder) in [
-        ("ladder of 65 layers", ladder(65, 2)),
+        ("ladder of 65 layers", spaced_ladder(1, 65, 2)),
         ("falling ladder of 65 layers", falling_ladder(65)),
         ("spaced ladder of 65, g 3", spaced_sent_ladder(3, 65, 2)),
     ] {
@@ -82,7 +82,7 @@ fn too_many() -> Vec<Case> {
 
 /// 65 layers from sources with fewer walks: only the source named is worked on. The pair 130, 128 has one path.
 fn other_sources() -> Vec<Case> {
-    let plan = LabelledPlan::built("ladder of 65 layers", &ladder(65, 2));
+    let plan = LabelledPlan::built("ladder of 65 layers", &spaced_ladder(1, 65, 2));
     let mut cases = Vec::new();
     for ends in [(1, 130), (130, 128)] {
         let first = some_paths(&plan, ends, &[0]).concat();

@@ -15,14 +15,15 @@ pub fn cases() -> Vec<Case> {
 }
 
 /// A plan at the limits.
-fn on(label: &str, records: &[Record]) -> LabelledPlan {
-    LabelledPlan::of_records(&format!("n 256, T 255, {label}"), (256, 255), records)
+fn on(label: &str, turnaround: u16, records: &[Record]) -> LabelledPlan {
+    let plan = LabelledPlan::of_records(&format!("n 256, T 255, {label}"), (256, 255), records);
+    plan.turning(turnaround)
 }
 
 /// Rows of stations with one path from end to end: some prefixes, one entry more, and the path twice.
 fn one_path() -> Vec<Case> {
-    let row = on("row", &rising_row());
-    let spaced = on("row, g 16", &spaced_row(16)).turning(16);
+    let row = on("row", 1, &rising_row());
+    let spaced = on("row, g 16", 16, &spaced_row(16));
     let mut cases = Vec::new();
     for (plan, last) in [(row, 255), (spaced, 16)] {
         let ends = (0, last);
@@ -45,7 +46,7 @@ fn last_position() -> Vec<Case> {
     let records = (1..=3).flat_map(first).filter(|(_, a, b)| a != b);
     let mut records: Vec<Record> = records.take(8191).collect();
     records.push((255, 5, 255));
-    let plan = on("8192 records", &records).counted();
+    let plan = on("8192 records", 1, &records).counted();
     assert_eq!(plan.records(), 8192);
     let all = [4, 8191, 4036, 8191, 8068, 8191];
     [
@@ -58,7 +59,7 @@ fn last_position() -> Vec<Case> {
 
 /// The largest scratch: exactly long enough, one entry too short, and longer.
 fn lengths() -> Vec<Case> {
-    let plan = on("corners", &CORNERS);
+    let plan = on("corners", 1, &CORNERS);
     let list = plan.paths((0, 254)).concat();
     let case = |words: &str| plan.judged((0, 254), (words.to_string(), list.clone()));
     let exact = case("all");

@@ -1,9 +1,9 @@
-//! Lists of up to 65,535 entries: complete, a beginning, right so far and then wrong, wrong at once.
+//! Lists of up to 65,535 entries, with g = 1: complete, a beginning, right so far and then wrong, wrong at once.
 
 use super::{Case, LONGEST_LIST};
 use crate::lists::NearList;
 use crate::pair_cases::LabelledPlan;
-use crate::reach_cases::{sent_ladder, Builder};
+use crate::reach_cases::{spaced_sent_ladder, Builder};
 
 pub fn cases() -> Vec<Case> {
     let cases = [longest(), right_so_far()].concat();
@@ -19,7 +19,7 @@ fn listed(label: &str, builder: &Builder) -> LabelledPlan {
 /// 3 × 17 × 257 paths of 5 hops from 0 to the last station: the slot of the second hop is one of 3, that of the
 /// third one of 17; the fourth is to one of 16 stations in one of 16 slots, or to another in the first of them.
 fn many_paths() -> Builder {
-    let mut builder = Builder::start();
+    let mut builder = Builder::turning(1);
     let [one, two, three] = [(); 3].map(|()| builder.station());
     let (inner, other) = (builder.layer(16), builder.station());
     let last = builder.station();
@@ -59,7 +59,7 @@ fn longest() -> Vec<Case> {
 
 /// The first 65,535 entries of a list of 114,688: they end inside of a path.
 fn right_so_far() -> Vec<Case> {
-    let plan = listed("8192 paths", &sent_ladder(14, 2));
+    let plan = listed("8192 paths", &spaced_sent_ladder(1, 14, 2));
     let ends = (0, 28);
     let mut all = plan.paths(ends).concat();
     assert_eq!(all.len(), 8192 * 14);

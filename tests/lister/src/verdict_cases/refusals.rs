@@ -6,7 +6,7 @@ use crate::cases::PLAN_A;
 use crate::lent::scratch_length;
 use crate::pair_cases::LabelledPlan;
 use crate::plan::within_limits;
-use crate::reach_cases::{bytes_with_cause, plan_faults, sent_ladder};
+use crate::reach_cases::{bytes_with_cause, plan_faults, spaced_sent_ladder};
 use crate::set_cases::UNKNOWN_PAIRS;
 use crate::turned::WRONG_TURNAROUNDS;
 
@@ -33,9 +33,9 @@ const LISTS: [&[u16]; 4] = [
     &[65535, 12],
 ];
 
-/// Plan A from 0 to 4 with one of the lists, on 3 entries more than the named ones.
+/// Plan A with g = 1 from 0 to 4 with one of the lists, on 3 entries more than the named ones.
 fn call(label: &str, list: usize) -> Case {
-    let plan = LabelledPlan::of_records(label, (5, 4), &PLAN_A);
+    let plan = LabelledPlan::of_records(label, (5, 4), &PLAN_A).turning(1);
     let list = LISTS[list % LISTS.len()];
     let words = format!("list of {}", list.len());
     plan.judged((0, 4), (words, list.to_vec())).marked(999, 3)
@@ -188,10 +188,11 @@ fn station_before_length() -> Vec<Case> {
     changes.map(case).collect()
 }
 
-/// 12, 6, 7 and 8 with 9: a ladder of 65 layers.
+/// 12, 6, 7 and 8 with 9: a ladder of 65 layers, with g = 1 but for 12.
 fn before_too_many() -> Vec<Case> {
     let on = |label: &str, ends: (u16, u16)| {
-        let plan = LabelledPlan::built(&format!("{label} before 9"), &sent_ladder(65, 2));
+        let ladder = spaced_sent_ladder(1, 65, 2);
+        let plan = LabelledPlan::built(&format!("{label} before 9"), &ladder);
         plan.judged(ends, ("empty list".to_string(), Vec::new()))
     };
     let scratch = on("", (0, 130)).call.lengths[0];

@@ -1,5 +1,5 @@
-//! Small plans: those of reach-cases, the valid ones of check-cases, and drawn ones with turnarounds. Every prefix of
-//! every complete list of a pair with paths of two hops or more, and some of the lists with a change.
+//! Small plans: those of reach-cases and the valid ones of check-cases with g = 1, and drawn ones with turnarounds.
+//! Every prefix of every complete list of a pair with paths of two hops or more, and some of the lists with a change.
 
 use super::Case;
 use crate::lists::{prefixes, with_one_change, with_paths_changed};
@@ -15,7 +15,8 @@ const SEED: u64 = 21;
 pub fn cases() -> Vec<Case> {
     let mut random = Random::new(SEED);
     let mut cases = Vec::new();
-    for plan in [small_plans(), drawn_plans(24)].concat() {
+    let small = small_plans().into_iter().map(|plan| plan.turning(1));
+    for plan in small.chain(drawn_plans(24)) {
         for (source, destination) in pairs(plan.sizes.0.into()) {
             cases.extend(of_pair(
                 &mut random,

@@ -1,0 +1,68 @@
+-- `load_two_slots::main` is safe and ends: what was read lies within the input buffer, and the text within the output buffer.
+-- Assumes nothing.
+use mathlib.Core.Path.{sym}
+use lib.Seq.{length-take-le}
+use borrow.Author.Needs.{needs}
+use Rattle.io.specs.Counts.{Counts}
+use Rattle.report.proofs.ReportLaws.{texted-within}
+use Rattle.load_two_slots.proofs.main.Statement.{statement}
+use Rattle.load_two_slots.proofs.main.Tie as tie
+
+slice-aggregate-read-records : tie.Need-slice-aggregate-read-records
+slice-aggregate-read-records c = search needs
+
+read-records-requires : tie.Need-read-records-requires
+read-records-requires c κs = search needs
+
+enum-known-got : tie.Need-enum-known-got
+enum-known-got c = search needs
+
+enum-told : tie.Need-enum-told
+enum-told c = search needs
+
+returns : tie.Need-returns
+returns c = search needs
+
+-- what was read lies within the input buffer
+read-within :
+    (c : tie.After-known-told) →
+    Counts (c .before .got .given .0 .0) (c .before .before .before .before .read-records .last .0)
+read-within c = rw (c .before .got .given .1) at (c .before .before .before .before .read-records .ensures)
+
+array-share-prefix-bytes : tie.Need-array-share-prefix-bytes
+array-share-prefix-bytes c = read-within c .0
+
+slice-aggregate-text-of : tie.Need-slice-aggregate-text-of
+slice-aggregate-text-of c = read-within (c .before) .1
+
+text-of-requires : tie.Need-text-of-requires
+text-of-requires c κs = search needs
+
+array-share-prefix-out : tie.Need-array-share-prefix-out
+array-share-prefix-out c = texted-within (c .text-of .ensures)
+
+slice-aggregate-write-text : tie.Need-slice-aggregate-write-text
+slice-aggregate-write-text c = sym (length-take-le _ _ (texted-within (c .before .text-of .ensures)))
+
+write-text-requires : tie.Need-write-text-requires
+write-text-requires c κs = search needs
+
+returns-2 : tie.Need-returns-2
+returns-2 c = search needs
+
+pub main-spec : {M : Type 1} → statement M
+main-spec =
+    tie.close
+    (tie.spec
+    slice-aggregate-read-records
+    read-records-requires
+    enum-known-got
+    enum-told
+    returns
+    array-share-prefix-bytes
+    slice-aggregate-text-of
+    text-of-requires
+    array-share-prefix-out
+    slice-aggregate-write-text
+    write-text-requires
+    returns-2)
