@@ -14,7 +14,7 @@ use lib.Dec.{ltb, eqb}
 use lib.ListN.{length, length-append, length-map}
 use Rattle.temporal.specs.Lists.{below, sum, product, select}
 use Rattle.temporal.specs.Plan.{Plan}
-use Rattle.temporal.specs.Shortest.{shortestPaths, through}
+use Rattle.temporal.specs.Shortest.{shortestWalksTo, through}
 use Rattle.temporal.specs.Walk.{isInterior}
 use Rattle.temporal.specs.Load.{Ends, endsBelow, countOf, throughOf, isPairOf, pairsBelow, pairsOf, partialPairs, pairs, share, partialLoad, load}
 use Rattle.temporal.specs.Load.{commonCount, exactSum, WithinExactSum}
@@ -128,7 +128,7 @@ module _ {A : Type 0} (k : ℕ) (t c : A → ℕ) (l : List A) (some : (x : A) �
 pub through-less : (p : Plan) (v : ℕ) (e : Ends) → throughOf p v e ≤ countOf p e
 unfolding through
 through-less p v e =
-    length-select-less (isInterior p (e .source) (e .destination) v) (shortestPaths p (e .source) (e .destination))
+    length-select-less (isInterior p (e .source) (e .destination) v) (shortestWalksTo p (e .source) (e .destination))
 
 -- a share is at most one whole
 pub share-at-most : (p : Plan) (v : ℕ) (e : Ends) → share p v e ≤ 2 ^ 32

@@ -6,14 +6,14 @@ use mathlib.Core.Path.{_≡_, refl, ap, ap₂, _∙_}
 use mathlib.Core.Bool.{true}
 use mathlib.Core.Logic.{⊎-elim}
 use mathlib.Core.List.{List, [], map}
-use borrow.Author.Tests.{leb-false, eq-eqb}
+use borrow.Author.Tests.{leb-false, eqb-true, eq-eqb}
 use lib.Arith.{digits-lt, digits-div, digits-mod}
 use lib.Dec.{leb}
 use lib.ListN.{length, getD}
-use Rattle.temporal.specs.Plan.{Terms}
+use Rattle.temporal.specs.Plan.{Terms, start}
 use Rattle.temporal.specs.Lists.{below, select}
-use Rattle.temporal.specs.Walk.{isWalk}
-use Rattle.temporal.specs.Shortest.{shortestWalks, shortestPaths, hops, count, through}
+use Rattle.temporal.specs.Walk.{isAt, isWalk}
+use Rattle.temporal.specs.Shortest.{shortestWalks, shortestWalksTo, hops, count, through}
 use Rattle.temporal.specs.Bytes.{planOf}
 use Rattle.temporal.specs.Cause.{planCauses, planFault, stationCauses, tooMany}
 use Rattle.temporal.specs.Outcome.{
@@ -26,12 +26,12 @@ use Rattle.temporal.specs.Outcome.{
   reach,
 }
 use Rattle.temporal.specs.OutcomePair.{PairValues, PairBuffers, paired, pair}
-use Rattle.temporal.proofs.Adequacy.{in-complete-list}
+use Rattle.temporal.proofs.Adequacy.{in-complete-list, no-return}
 use Rattle.temporal.proofs.CauseLaws.{first-append-left, first-append-right, first-head, first-tail}
 use Rattle.temporal.proofs.EnteredLaws.{no-first, no-cause}
 use Rattle.temporal.proofs.ListLaws.{true-or-false, select-ext}
 use Rattle.temporal.proofs.PathLaws.{path-self-empty, path-meets-definition3}
-use Rattle.temporal.proofs.WalkLaws.{ends-nil}
+use Rattle.temporal.proofs.WalkLaws.{ends-inv, ends-nil}
 use Rattle.temporal.proofs.BufferLaws.{written}
 use Rattle.demands.specs.Demand2.{StationList, AppearanceList, isBetween, ReachTold, PairTold, Demand2}
 use Rattle.demands.proofs.ListedLaws.{station-listed, appearance-listed, only-empty}
@@ -60,7 +60,7 @@ module _ (bs : List ℕ) (n t : ℕ) (terms : Terms) (s : ℕ) (ok : planFault b
   -- an entry of a station, and of an appearance
   station-entry :
       (f : List (List ℕ) → ℕ) (before : List ℕ) (v : ℕ) → v < n →
-      getD (over (stationTable (planOf bs n t terms) s f) before) v 0 ≡ f (shortestPaths (planOf bs n t terms) s v)
+      getD (over (stationTable (planOf bs n t terms) s f) before) v 0 ≡ f (shortestWalksTo (planOf bs n t terms) s v)
   unfolding stationTable planOf
   station-entry f before v h = written _ n v before h
 
@@ -126,18 +126,20 @@ module _ (bs : List ℕ) (n t : ℕ) (terms : Terms) (s z : ℕ) (ok : planFault
   -- the members that have v strictly between their ends are those that have it inside
   through-between :
       (v : ℕ) →
-      through (planOf bs n t terms) s z v ≡ length (select (isBetween (planOf bs n t terms) s v) (shortestPaths (planOf bs n t terms) s z))
+      through (planOf bs n t terms) s z v ≡ length (select (isBetween (planOf bs n t terms) s v) (shortestWalksTo (planOf bs n t terms) s z))
   unfolding through
   through-between v =
       ap length
-      (select-ext (shortestPaths (planOf bs n t terms) s z) (λ w m.
-      between-is-interior (planOf bs n t terms) s z v w (in-complete-list bs n t terms ok s z w .0 m .0)))
+      (select-ext (shortestWalksTo (planOf bs n t terms) s z) (λ w m.
+      let p = planOf bs n t terms in
+      let r = ends-inv p (start s) (isAt z) w (in-complete-list bs n t terms ok s z w .0 m .0) in
+      between-is-interior p s z v w (r .runs) (eqb-true _ z (r .passes)) (no-return bs n t terms ok s z w m (r .runs))))
 
   -- what is answered and stored where 9 is no cause either
   pub stored :
       (x ≡ record {
-        hops = hops (shortestPaths (planOf bs n t terms) s z);
-        count = count (shortestPaths (planOf bs n t terms) s z);
+        hops = hops (shortestWalksTo (planOf bs n t terms) s z);
+        count = count (shortestWalksTo (planOf bs n t terms) s z);
       }) ×
       (b .throughTable ≡ over (map (through (planOf bs n t terms) s z) (below n)) (old .throughTable))
   unfolding paired planOf

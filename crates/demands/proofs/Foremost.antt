@@ -32,7 +32,7 @@ use Rattle.temporal.proofs.ShortestLaws.{shortest-mem, count-zero}
 use Rattle.foremost.specs.Answer.{foremostValues}
 use Rattle.demands.specs.Demand2.{ShortestList, isBetween}
 use Rattle.demands.specs.Foremost.{arrivesIn, ForemostTold, ForemostDemand}
-use Rattle.demands.proofs.BetweenLaws.{between-is-interior}
+use Rattle.demands.proofs.BetweenLaws.{between-in-path}
 use Rattle.demands.proofs.ListedLaws.{listed}
 
 module _ (bs : List ℕ) (n t : ℕ) (terms : Terms) (s z : ℕ) (ok : planFault bs n t ≡ 0) where
@@ -96,7 +96,7 @@ module _ (bs : List ℕ) (n t : ℕ) (terms : Terms) (s z : ℕ) (ok : planFault
     through-between v =
         ap length
         (select-ext (foremostPaths (planOf bs n t terms) s z) (λ w m.
-        between-is-interior (planOf bs n t terms) s z v w (foremost-walks-are-paths bs n t terms ok s z w m)))
+        between-in-path (planOf bs n t terms) s z v w (foremost-walks-are-paths bs n t terms ok s z w m)))
 
     -- what is answered and stored where 9 is no cause either
     pub stored :

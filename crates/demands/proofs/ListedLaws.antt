@@ -10,7 +10,7 @@ use lib.ListN.{length}
 use Rattle.temporal.specs.Lists.{NoneTwice}
 use Rattle.temporal.specs.Plan.{Plan, Terms}
 use Rattle.temporal.specs.Walk.{isAt, isAppearance, isWalk}
-use Rattle.temporal.specs.Shortest.{shortest, shortestWalks, shortestPaths, hops, count}
+use Rattle.temporal.specs.Shortest.{shortest, shortestWalks, shortestWalksTo, hops, count}
 use Rattle.temporal.specs.Bytes.{planOf}
 use Rattle.temporal.specs.Cause.{planFault}
 use Rattle.temporal.proofs.Accepted.{accepted}
@@ -31,7 +31,7 @@ use Rattle.temporal.proofs.ShortestLaws.{
 }
 use Rattle.temporal.proofs.PathLaws.{definition3-is-walk, path-meets-definition3}
 use Rattle.temporal.proofs.PlanLaws.{slots-within}
-use Rattle.temporal.proofs.Adequacy.{bounded-ends, in-complete-list, shortest-walks-are-paths}
+use Rattle.temporal.proofs.Adequacy.{bounded-ends, listed-path}
 use Rattle.demands.specs.Demand2.{ShortestList, StationList, AppearanceList}
 
 -- A list of the shortest walks of a bounded test, where all of them pass another test that only walks pass.
@@ -119,13 +119,12 @@ module _ (bs : List ℕ) (n t : ℕ) (terms : Terms) (ok : planFault bs n t ≡ 
   -- (kept) the list of a station
   pub station-listed :
       (s v : ℕ) →
-      StationList (planOf bs n t terms) s v (hops (shortestPaths (planOf bs n t terms) s v)) (count (shortestPaths (planOf bs n t terms) s v))
+      StationList (planOf bs n t terms) s v (hops (shortestWalksTo (planOf bs n t terms) s v)) (count (shortestWalksTo (planOf bs n t terms) s v))
+  unfolding shortestWalksTo
   station-listed s v =
       let p = planOf bs n t terms in
-      let same = shortest-walks-are-paths bs n t terms ok s v in
-      rw same
-      (listed (bounded-ends p (slots-within bs n t terms ok) s (isAt v)) few-slots (definition3-is-walk p s v)
-      (λ w m. path-meets-definition3 p s v w (in-complete-list bs n t terms ok s v w .0 (rw same m) .0)))
+      listed (bounded-ends p (slots-within bs n t terms ok) s (isAt v)) few-slots (definition3-is-walk p s v)
+      (λ w m. path-meets-definition3 p s v w (listed-path bs n t terms ok s v w m .0))
 
   -- the list of an appearance
   pub appearance-listed :

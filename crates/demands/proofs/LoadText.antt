@@ -10,7 +10,7 @@ use borrow.Author.Tests.{leb-true}
 use lib.ListN.{length}
 use Rattle.temporal.specs.Lists.{from, below, sum, select, any, member, distinct, tuples}
 use Rattle.temporal.specs.Plan.{Plan, Terms, turning, leadsTo, mayFollow}
-use Rattle.temporal.specs.Walk.{along, step, run, lastOr, holds, isPath, isInterior}
+use Rattle.temporal.specs.Walk.{along, step, run, lastOr, holds, endsIn, isInterior}
 use Rattle.temporal.specs.Shortest.{orElse, firstNonempty}
 use Rattle.temporal.specs.Load.{endsBelow}
 use Rattle.temporal.specs.Bytes.{wordAt, contactAt, records, planOf}
@@ -19,7 +19,7 @@ use Rattle.temporal.specs.Cause.{recordCauses, planCauses, wrongTurnaround, too
 use Rattle.temporal.proofs.CauseLaws.{first-false}
 use Rattle.temporal.proofs.EnteredLaws.{unless-none}
 use Rattle.temporal.proofs.FewLaws.{mostLists, few-anywhere}
-use Rattle.temporal.proofs.GrownLaws.{grown, grownShortest, onward, grownPaths, pairsBy, loadBy, pairs-by, load-by}
+use Rattle.temporal.proofs.GrownLaws.{grown, grownShortest, onward, grownWalksTo, pairsBy, loadBy, pairs-by, load-by}
 use Rattle.text.specs.Decimal.{code, codes, powersUpTo, digitCount, decimal}
 use Rattle.report.specs.Sizes.{largest, topStation, inputStations, inputSlots, wrongInput, overLimits}
 use Rattle.report.specs.Report.{field, heading, line, loadsText, inputCauses, inputPlan, refusalText, refusalOf, printed}
@@ -30,7 +30,7 @@ use Rattle.demands.specs.LoadText.{planALinesTwoSlots, planALinesOneSlot
 unfoldable grownText : Plan → List ℕ
 grownText p =
     heading (p .stations) (p .slots) (length (p .contacts)) ++
-    flatMap (λ v. line v (length (pairsBy p (grownPaths p) v)) (loadBy p (grownPaths p) v)) (below (p .stations))
+    flatMap (λ v. line v (length (pairsBy p (grownWalksTo p) v)) (loadBy p (grownWalksTo p) v)) (below (p .stations))
 
 text-grown : (p : Plan) → loadsText p ≡ grownText p
 unfolding loadsText grownText
@@ -87,11 +87,11 @@ unfolding wrongTurnaround
 allowed-two = refl
 
 computed-two : grownText (inputPlan (planA .bytes) (turning 2)) ≡ asText planALinesTwoSlots
-unfolding grownText from below sum select any member distinct leadsTo mayFollow along step run lastOr holds isPath isInterior orElse firstNonempty endsBelow wordAt contactAt records planOf code codes powersUpTo digitCount decimal largest topStation inputStations inputSlots field heading line asText grown grownShortest onward grownPaths pairsBy loadBy flatMap bind
+unfolding grownText from below sum select any member distinct leadsTo mayFollow along step run lastOr holds endsIn isInterior orElse firstNonempty endsBelow wordAt contactAt records planOf code codes powersUpTo digitCount decimal largest topStation inputStations inputSlots field heading line asText grown grownShortest onward grownWalksTo pairsBy loadBy flatMap bind
 computed-two = refl
 
 computed-one : grownText (inputPlan (planA .bytes) (turning 1)) ≡ asText planALinesOneSlot
-unfolding grownText from below sum select any member distinct leadsTo mayFollow along step run lastOr holds isPath isInterior orElse firstNonempty endsBelow wordAt contactAt records planOf code codes powersUpTo digitCount decimal largest topStation inputStations inputSlots field heading line asText grown grownShortest onward grownPaths pairsBy loadBy flatMap bind
+unfolding grownText from below sum select any member distinct leadsTo mayFollow along step run lastOr holds endsIn isInterior orElse firstNonempty endsBelow wordAt contactAt records planOf code codes powersUpTo digitCount decimal largest topStation inputStations inputSlots field heading line asText grown grownShortest onward grownWalksTo pairsBy loadBy flatMap bind
 computed-one = refl
 
 as-before : (bs : List ℕ) → printed bs (turning 1) ≡ printedBefore bs

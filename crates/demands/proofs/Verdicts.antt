@@ -14,7 +14,7 @@ use lib.Seq.{take-all}
 use Rattle.temporal.specs.Lists.{below, any}
 use Rattle.temporal.specs.Cursor.{sameNumbers}
 use Rattle.temporal.specs.Bytes.{planOf}
-use Rattle.temporal.specs.Shortest.{shortestPaths, hops}
+use Rattle.temporal.specs.Shortest.{shortestWalksTo, hops}
 use Rattle.temporal.specs.Cause.{cause, planCauses, planFault, pairCauses, tooMany}
 use Rattle.temporal.specs.Outcome.{Outcome, short, workSize}
 use Rattle.temporal.specs.Verdict.{Verdict, complete, beginning, wrong, joined, verdictOn, IsComplete, IsBeginning}

@@ -8,7 +8,7 @@ use lib.ListN.{take}
 use Rattle.temporal.specs.Lists.{below, sum}
 use Rattle.temporal.specs.Plan.{Plan, Terms}
 use Rattle.temporal.specs.Walk.{HasInside}
-use Rattle.temporal.specs.Shortest.{shortestPaths, hops, count, throughIn}
+use Rattle.temporal.specs.Shortest.{shortestWalksTo, hops, count, throughIn}
 use Rattle.temporal.specs.Foremost.{foremostPaths}
 use Rattle.temporal.specs.Bytes.{planOf}
 use Rattle.temporal.specs.Cause.{planFault}
@@ -31,7 +31,7 @@ pub record AccountDemand : Type 0 where
   -- the definitions, for two different stations of an accepted plan: the complete list, and the shortest foremost paths (C-14)
   pub of-shortest :
       (bs : List ℕ) (n t : ℕ) (terms : Terms) (s z : ℕ) → planFault bs n t ≡ 0 → s ≢ z →
-      HopsAccounted (planOf bs n t terms) s z (shortestPaths (planOf bs n t terms) s z)
+      HopsAccounted (planOf bs n t terms) s z (shortestWalksTo (planOf bs n t terms) s z)
   pub of-shortest-foremost :
       (bs : List ℕ) (n t : ℕ) (terms : Terms) (s z : ℕ) → planFault bs n t ≡ 0 → s ≢ z →
       HopsAccounted (planOf bs n t terms) s z (foremostPaths (planOf bs n t terms) s z)

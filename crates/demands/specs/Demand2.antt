@@ -11,7 +11,7 @@ use Rattle.temporal.specs.Lists.{member, select, NoneTwice}
 use Rattle.temporal.specs.Plan.{Plan, Terms, start}
 use Rattle.temporal.specs.Walk.{run, stationsOf, holds, isWalkTo, isWalk}
 use Rattle.temporal.specs.Definition3.{isPath000}
-use Rattle.temporal.specs.Shortest.{shortestWalks, shortestPaths}
+use Rattle.temporal.specs.Shortest.{shortestWalks, shortestWalksTo}
 use Rattle.temporal.specs.Bytes.{planOf}
 use Rattle.temporal.specs.Outcome.{ReachTables, reach}
 use Rattle.temporal.specs.OutcomePair.{PairValues, PairBuffers, pair}
@@ -40,7 +40,7 @@ pub record ShortestList (passes isAWalk : List ℕ → Bool) (l : List (List ℕ
 
 -- the list of a station: document 000's paths (Def. 3) from s to v, none longer than a strict temporal walk from s to v
 abbrev pub StationList : Plan → ℕ → ℕ → ℕ → ℕ → Type 0
-StationList p s v h c = ShortestList (isPath000 p s v) (isWalkTo p s v) (shortestPaths p s v) h c
+StationList p s v h c = ShortestList (isPath000 p s v) (isWalkTo p s v) (shortestWalksTo p s v) h c
 
 -- the list of an appearance: the strict temporal walks from s to (v, u), none longer than another
 abbrev pub AppearanceList : Plan → ℕ → ℕ → ℕ → ℕ → ℕ → Type 0
@@ -66,7 +66,7 @@ pub record ReachTold (p : Plan) (s : ℕ) (x : ReachTables) : Type 0 where
 pub record PairTold (p : Plan) (s z : ℕ) (x : PairValues) (b : PairBuffers) : Type 0 where
   pub list : StationList p s z (x .hops) (x .count)
   pub between :
-      (v : ℕ) → v < p .stations → getD (b .throughTable) v 0 ≡ length (select (isBetween p s v) (shortestPaths p s z))
+      (v : ℕ) → v < p .stations → getD (b .throughTable) v 0 ≡ length (select (isBetween p s v) (shortestWalksTo p s z))
 
 -- Demand 2, for every call of reach and of pair that its contract allows and that is not refused.
 pub record Demand2 : Type 0 where

@@ -12,7 +12,7 @@ use Rattle.temporal.specs.Lists.{select, Rising}
 use Rattle.temporal.specs.Plan.{Plan, Terms, Appearance, start}
 use Rattle.temporal.specs.Walk.{run, lastOr, isWalkTo, isWalk}
 use Rattle.temporal.specs.Definition3.{isPath000}
-use Rattle.temporal.specs.Shortest.{shortestPaths, hops}
+use Rattle.temporal.specs.Shortest.{shortestWalksTo, hops}
 use Rattle.temporal.specs.Foremost.{foremostPaths}
 use Rattle.temporal.specs.Bytes.{planOf}
 use Rattle.temporal.specs.OutcomePair.{PairBuffers}
@@ -41,8 +41,8 @@ pub record ForemostTold (p : Plan) (s z : ℕ) (x : ForemostValues) (b : PairBuf
   pub between :
       (v : ℕ) → v < p .stations → getD (b .throughTable) v 0 ≡ length (select (isBetween p s v) (foremostPaths p s z))
   -- the hops are never below the pair's, and where they are the pair's every member is in the pair's complete list
-  pub at-least : hops (shortestPaths p s z) ≤ x .hops
-  pub among : x .hops ≡ hops (shortestPaths p s z) → (w : List ℕ) → List·Memᴰ w (foremostPaths p s z) → List·Memᴰ w (shortestPaths p s z)
+  pub at-least : hops (shortestWalksTo p s z) ≤ x .hops
+  pub among : x .hops ≡ hops (shortestWalksTo p s z) → (w : List ℕ) → List·Memᴰ w (foremostPaths p s z) → List·Memᴰ w (shortestWalksTo p s z)
 
 -- C-14, for every call that the operation's contract allows and that is not refused, from one station to another.
 abbrev pub ForemostDemand : Type 0

@@ -7,7 +7,7 @@ use mathlib.Core.List.{List, map}
 use lib.Dec.{eqb}
 use Rattle.temporal.specs.Plan.{Terms}
 use Rattle.temporal.specs.Lists.{below, sum}
-use Rattle.temporal.specs.Shortest.{shortestPaths, hops, count, through}
+use Rattle.temporal.specs.Shortest.{shortestWalksTo, hops, count, through}
 use Rattle.temporal.specs.Set.{touched}
 use Rattle.temporal.specs.Bytes.{planOf}
 use Rattle.temporal.specs.OutcomeSet.{isMember, throughSet}
@@ -29,8 +29,8 @@ pub record SetTold (bs : List ℕ) (n t : ℕ) (terms : Terms) (s z : ℕ) (set 
   pub of-one : (v : ℕ) → v < n → ((u : ℕ) → u < n → isMember set u ≡ eqb v u) → c ≡ through (planOf bs n t terms) s z v
   -- all stations: the count, where the pair has more than one hop
   pub of-all :
-      ((v : ℕ) → v < n → isMember set v ≡ true) → 1 < hops (shortestPaths (planOf bs n t terms) s z) →
-      c ≡ count (shortestPaths (planOf bs n t terms) s z)
+      ((v : ℕ) → v < n → isMember set v ≡ true) → 1 < hops (shortestWalksTo (planOf bs n t terms) s z) →
+      c ≡ count (shortestWalksTo (planOf bs n t terms) s z)
   -- at least the through count of each member, and at most their sum
   pub at-least : (v : ℕ) → v < n → isMember set v ≡ true → through (planOf bs n t terms) s z v ≤ c
   pub at-most : c ≤ sum (map (λ v. cond (isMember set v) (through (planOf bs n t terms) s z v) 0) (below n))

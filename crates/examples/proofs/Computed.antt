@@ -19,7 +19,7 @@ use Rattle.temporal.specs.Cursor.{Reply, sameNumbers, Operation, indexIn, move}
 use Rattle.temporal.specs.FirstNext.{listOf, wayCauses, overflow, wayWork, wayAnswer}
 use Rattle.temporal.proofs.EnteredLaws.{unless-none}
 use Rattle.temporal.proofs.FewLaws.{mostLists, few-walks, few-anywhere}
-use Rattle.temporal.proofs.GrownLaws.{grownWalks, grownPaths, walks-grown, paths-grown, pairsBy, loadBy, pairs-by, load-by}
+use Rattle.temporal.proofs.GrownLaws.{grownWalks, grownWalksTo, walks-grown, walks-to-grown, pairsBy, loadBy, pairs-by, load-by}
 use Rattle.examples.specs.Questions.{PlanBytes, station, appearance, walks, complete, throughs, gives, loadsOf, sevens}
 use Rattle.examples.specs.Questions.{termsOf, questionOf, reachedFrom, sameLists, sameReply}
 use Rattle.examples.specs.Table.{right}
@@ -63,11 +63,11 @@ module _ (g : PlanBytes) where
             eqb (getD (over (map (λ v. hops (P s v)) (below (g .stations))) (sevens (g .stations))) v 7) h &&
             eqb (getD (over (map (λ v. count (P s v)) (below (g .stations))) (sevens (g .stations))) v 7) c
 
-        pub station-right : (h c : ℕ) → stationTest (grownPaths p) h c ≡ true → right (station g s v h c) ≡ true
+        pub station-right : (h c : ℕ) → stationTest (grownWalksTo p) h c ≡ true → right (station g s v h c) ≡ true
         unfolding right stationTable planOf
         station-right h c e =
             ap (λ b. eqb (getD (b .stationHops) v 7) h && eqb (getD (b .stationCounts) v 7) c) reached-is ∙
-            ap (λ P. stationTest P h c) (paths-grown p) ∙ e
+            ap (λ P. stationTest P h c) (walks-to-grown p) ∙ e
 
         module _ (u : ℕ) where
           abbrev appearanceTest : (ℕ → ℕ → ℕ → List (List ℕ)) → ℕ → ℕ → Bool
@@ -99,13 +99,13 @@ module _ (g : PlanBytes) where
         first (planCauses (g .bytes) (g .stations) (g .slots) ++ pairCauses (termsOf g) (g .stations) s z
         (short (g .stations) (sevens (g .stations)) ||
         short (workSize (g .stations) (g .slots)) (sevens (workSize (g .stations) (g .slots))))) ≡ 0 →
-        sameNumbers (over (map (throughIn p s z (grownPaths p s z)) (below (g .stations))) (sevens (g .stations))) l ≡ true →
+        sameNumbers (over (map (throughIn p s z (grownWalksTo p s z)) (below (g .stations))) (sevens (g .stations))) l ≡ true →
         right (throughs g s z l) ≡ true
     unfolding right pair entered paired through planOf
     throughs-right s z l free e =
         rw (unless-none _ _ _ free, few-walks p few s)
         (ap (λ P. sameNumbers (over (map (throughIn p s z (P s z)) (below (g .stations))) (sevens (g .stations))) l)
-        (paths-grown p) ∙ e)
+        (walks-to-grown p) ∙ e)
 
     -- ---- first way and next way
 
@@ -117,10 +117,10 @@ module _ (g : PlanBytes) where
 
       pub gives-right :
           first (wayCauses (questionOf g s z) (length way) (length (sevens (workSize (g .stations) (g .slots))))) ≡ 0 →
-          givesTest (grownPaths p) ≡ true → right (gives o g s z way r after) ≡ true
+          givesTest (grownWalksTo p) ≡ true → right (gives o g s z way r after) ≡ true
       unfolding right wayAnswer wayWork listOf overflow cause planOf
       gives-right free e =
-          rw (unless-none _ _ _ free, few-walks p few s) (ap givesTest (paths-grown p) ∙ e)
+          rw (unless-none _ _ _ free, few-walks p few s) (ap givesTest (walks-to-grown p) ∙ e)
 
     -- ---- loads
 
@@ -131,8 +131,8 @@ module _ (g : PlanBytes) where
         (short (g .stations) (sevens (g .stations)) || (short (g .stations) (sevens (g .stations)) ||
         short (workSize (g .stations) (g .slots)) (sevens (workSize (g .stations) (g .slots))))) ∷ []) ≡ 0 →
         (sameNumbers
-        (over (map (λ v. length (pairsBy p (grownPaths p) v)) (below (g .stations))) (sevens (g .stations))) ps &&
-        sameNumbers (over (map (loadBy p (grownPaths p)) (below (g .stations))) (sevens (g .stations))) ls) ≡ true →
+        (over (map (λ v. length (pairsBy p (grownWalksTo p) v)) (below (g .stations))) (sevens (g .stations))) ps &&
+        sameNumbers (over (map (loadBy p (grownWalksTo p)) (below (g .stations))) (sevens (g .stations))) ls) ≡ true →
         right (loadsOf g ps ls) ≡ true
     unfolding right partialLoads entered partlyLoaded planOf
     loads-right ps ls free e =
@@ -140,7 +140,7 @@ module _ (g : PlanBytes) where
         (ap (λ f. sameNumbers (over (map f (below (g .stations))) (sevens (g .stations))) ps &&
         sameNumbers (over (map (load p) (below (g .stations))) (sevens (g .stations))) ls) (fun-ext (pairs-by p)) ∙
         ap (λ f. sameNumbers
-        (over (map (λ v. length (pairsBy p (grownPaths p) v)) (below (g .stations))) (sevens (g .stations))) ps &&
+        (over (map (λ v. length (pairsBy p (grownWalksTo p) v)) (below (g .stations))) (sevens (g .stations))) ps &&
         sameNumbers (over (map f (below (g .stations))) (sevens (g .stations))) ls) (fun-ext (load-by p)) ∙ e)
 
   -- ---- the lists themselves
@@ -154,6 +154,6 @@ module _ (g : PlanBytes) where
       ap (λ W. sameLists (W s v u) l && sameLists (select (isPath p s v) l) paths) (walks-grown p) ∙ e
 
   pub complete-right :
-      (s z : ℕ) (l : List (List ℕ)) → sameLists (grownPaths p s z) l ≡ true → right (complete g s z l) ≡ true
+      (s z : ℕ) (l : List (List ℕ)) → sameLists (grownWalksTo p s z) l ≡ true → right (complete g s z l) ≡ true
   unfolding right listOf
-  complete-right s z l e = ap (λ P. sameLists (P s z) l) (paths-grown p) ∙ e
+  complete-right s z l e = ap (λ P. sameLists (P s z) l) (walks-to-grown p) ∙ e

@@ -12,8 +12,8 @@ use borrow.Author.Tests.{ltb-true}
 use lib.ListN.{length, getD, drop, replicate, length-replicate}
 use Rattle.temporal.proofs.BufferLaws.{later-drop}
 use Rattle.temporal.specs.Bytes.{planOf}
-use Rattle.temporal.specs.Walk.{holds}
-use Rattle.temporal.specs.Shortest.{shortestPaths, hops}
+use Rattle.temporal.specs.Walk.{holds, isAt}
+use Rattle.temporal.specs.Shortest.{shortestWalksTo, hops}
 use Rattle.temporal.specs.Cause.{cause, unless}
 use Rattle.temporal.specs.Outcome.{over, cleared, workSize}
 use Rattle.temporal.specs.Cursor.{
@@ -38,7 +38,7 @@ use Rattle.temporal.proofs.Accepted.{accepted}
 use Rattle.temporal.proofs.ListLaws.{mem-getD}
 use Rattle.temporal.proofs.ShortestLaws.{hops-bound}
 use Rattle.temporal.proofs.PlanLaws.{slots-within}
-use Rattle.temporal.proofs.Adequacy.{bounded-paths, in-complete-list}
+use Rattle.temporal.proofs.Adequacy.{bounded-ends, in-complete-list}
 use Rattle.pass.specs.Passed.{waiting, areaSize, PassReady, Passed}
 use Rattle.ways.specs.Home.{Completed}
 use Rattle.ways.specs.Found.{listIn, isOffered, Listable, Startable, Continuable, Stepped}
@@ -102,13 +102,13 @@ pairOf q h =
 
 module _ (q : Question) (way work : List ℕ) (ready : WayReady q way work) where
   few-list : (listOf q ≡ []) ⊎ (hops (listOf q) ≤ 255)
-  unfolding listOf shortestPaths planOf
+  unfolding listOf shortestWalksTo planOf
   few-list =
       let slots = accepted (q .bytes) (q .stations) (q .slots) (ready .asked .accepted) .slots in
       ⊎-elim inl (λ h. inr (omega arith))
       (hops-bound
-      (bounded-paths (planOf (q .bytes) (q .stations) (q .slots) (q .terms))
-      (slots-within (q .bytes) (q .stations) (q .slots) (q .terms) (ready .asked .accepted)) (q .source) (q .destination)))
+      (bounded-ends (planOf (q .bytes) (q .stations) (q .slots) (q .terms))
+      (slots-within (q .bytes) (q .stations) (q .slots) (q .terms) (ready .asked .accepted)) (q .source) (isAt (q .destination))))
 
   -- every member has the list's hops
   one-length : (i : ℕ) → i < length (listOf q) → length (getD (listOf q) i []) ≡ hops (listOf q)

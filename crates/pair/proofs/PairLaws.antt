@@ -8,7 +8,7 @@ use mathlib.Core.List.{List, map}
 use lib.ListN.{length, getD, drop, replicate}
 use Rattle.temporal.specs.Plan.{Terms}
 use Rattle.temporal.specs.Lists.{below}
-use Rattle.temporal.specs.Shortest.{shortestPaths, hops, count, throughIn, through}
+use Rattle.temporal.specs.Shortest.{shortestWalksTo, hops, count, throughIn, through}
 use Rattle.temporal.specs.Foremost.{arrival, walksBy}
 use Rattle.temporal.specs.Bytes.{planOf}
 use Rattle.temporal.specs.Cause.{planFault, tooMany}
@@ -33,7 +33,7 @@ use Rattle.pair.proofs.BeginLaws.{begins-plan, begins-call, begins-work
 -- a pass that waits for no station ends in the last slot, and the walks by it are the shortest paths
 by-last-slot :
     (bs : List ℕ) (n t : ℕ) (terms : Terms) (s z : ℕ) → planFault bs n t ≡ 0 → s < n → (e : ℕ) → e ≡ min t (arrival (planOf bs n t terms) s n) →
-    walksBy (planOf bs n t terms) s z e ≡ shortestPaths (planOf bs n t terms) s z
+    walksBy (planOf bs n t terms) s z e ≡ shortestWalksTo (planOf bs n t terms) s z
 by-last-slot bs n t terms s z ok source e slot =
     let never = arrival-outside bs n t terms ok s n source (omega arith) in
     let most = accepted bs n t ok .slots in
@@ -72,14 +72,14 @@ module _ (bs : List ℕ) (n t : ℕ) (terms : Terms) (s z : ℕ) (table area : L
       let ph = a ∙ f .settled e .pair-hops ∙ ap hops whole in
       let pc = b ∙ f .settled e .pair-count ∙ ap count whole in
       let d = fill-beyond (workSize n t) 0 area′ area (f .area-beyond) in
-      let th : table′ ≡ over (map (throughIn (planOf bs n t terms) s z (shortestPaths (planOf bs n t terms) s z)) (below n)) table =
-      over-by n table′ (map (throughIn (planOf bs n t terms) s z (shortestPaths (planOf bs n t terms) s z)) (below n)) table (length-made _ n)
+      let th : table′ ≡ over (map (throughIn (planOf bs n t terms) s z (shortestWalksTo (planOf bs n t terms) s z)) (below n)) table =
+      over-by n table′ (map (throughIn (planOf bs n t terms) s z (shortestWalksTo (planOf bs n t terms) s z)) (below n)) table (length-made _ n)
       (let size = f .table-length in let room = ready .table in omega arith)
       (λ v inside. f .counted e v inside ∙ ap (λ l. throughIn (planOf bs n t terms) s z l v) whole ∙ sym (getD-made _ n v inside))
       (f .table-beyond) in
       rw few (cc (ph, pc, c, d, th))
     where
-      whole : walksBy (planOf bs n t terms) s z r ≡ shortestPaths (planOf bs n t terms) s z
+      whole : walksBy (planOf bs n t terms) s z r ≡ shortestWalksTo (planOf bs n t terms) s z
       whole = by-last-slot bs n t terms s z (ready .accepted) (ready .source) r (f .settled e .slot)
 
 -- ---- how pair begins

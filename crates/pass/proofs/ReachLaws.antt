@@ -10,7 +10,7 @@ use lib.Dec.{ltb}
 use lib.ListN.{getD}
 use Rattle.temporal.specs.Plan.{Terms}
 use Rattle.temporal.specs.Lists.{below, any}
-use Rattle.temporal.specs.Shortest.{shortestPaths, hops, count}
+use Rattle.temporal.specs.Shortest.{shortestWalksTo, hops, count}
 use Rattle.temporal.specs.Foremost.{arrival, arrivesBy, walksBy}
 use Rattle.temporal.specs.Bytes.{planOf}
 use Rattle.temporal.specs.Cause.{planFault, stationTooMany}

@@ -1,5 +1,5 @@
 -- What the pass asks and what it promises: hops and counts from a source to every station, and for each of a block of
--- stations how many shortest paths do not have it inside; or for a set of stations how many shortest paths to one
+-- stations how many shortest walks do not have it inside; or for a set of stations how many shortest walks to one
 -- destination have no member inside. Definitions only.
 -- Assumes nothing.
 use Prim.Native.Nat.{ℕ, _+_, _-_, _*_, _/_, _<_, _≤_, min}
@@ -12,7 +12,7 @@ use lib.ListN.{length, getD, drop}
 use Rattle.temporal.specs.Plan.{Terms}
 use Rattle.temporal.specs.Bytes.{planOf}
 use Rattle.temporal.specs.Cause.{planFault, tooMany}
-use Rattle.temporal.specs.Shortest.{shortestPaths, hops, count, through}
+use Rattle.temporal.specs.Shortest.{shortestWalksTo, hops, count, through}
 use Rattle.temporal.specs.Set.{touched}
 use Rattle.pass.specs.Row.{partSize}
 
@@ -36,14 +36,14 @@ pub record PassReady (bs : List ℕ) (n t : ℕ) (terms : Terms) (s low block : 
   pub stations : low + block ≤ n
   pub fits : areaSize n (waiting t terms) block ≤ length work
 
--- Station z has its hops at z and its count at n + z. At 2 n + z block + j stands how many of its shortest paths do not
--- have station low + j inside; nothing is said there of z itself, nor where there is no path.
+-- Station z has its hops at z and its count at n + z. At 2 n + z block + j stands how many of its shortest walks do not
+-- have station low + j inside; nothing is said there of z itself, nor where there is no walk.
 pub record Counted (bs : List ℕ) (n t : ℕ) (terms : Terms) (s low block : ℕ) (work : List ℕ) : Type 0 where
-  pub station-hops : (z : ℕ) → z < n → getD work z 0 ≡ hops (shortestPaths (planOf bs n t terms) s z)
-  pub station-counts : (z : ℕ) → z < n → getD work (n + z) 0 ≡ count (shortestPaths (planOf bs n t terms) s z)
-  pub rows : (z j : ℕ) → z < n → j < block → low + j ≢ z → hops (shortestPaths (planOf bs n t terms) s z) < 65535
+  pub station-hops : (z : ℕ) → z < n → getD work z 0 ≡ hops (shortestWalksTo (planOf bs n t terms) s z)
+  pub station-counts : (z : ℕ) → z < n → getD work (n + z) 0 ≡ count (shortestWalksTo (planOf bs n t terms) s z)
+  pub rows : (z j : ℕ) → z < n → j < block → low + j ≢ z → hops (shortestWalksTo (planOf bs n t terms) s z) < 65535
       → getD work (2 * n + z * block + j) 0 + through (planOf bs n t terms) s z (low + j)
-      ≡ count (shortestPaths (planOf bs n t terms) s z)
+      ≡ count (shortestWalksTo (planOf bs n t terms) s z)
 
 -- What the pass promises: whether a count is over 2^64 - 1, exactly; where none is, the entries above; and that nothing
 -- past its part of the work area is touched.
@@ -64,13 +64,13 @@ pub record SetReady (bs : List ℕ) (n t : ℕ) (terms : Terms) (s z : ℕ) (wor
   pub fits : areaSize n (waiting t terms) 1 ≤ length work
 
 -- What it promises: whether a count is over 2^64 - 1, exactly; where none is, hops and counts as above (Counted, with an
--- empty block), and at 2 n + z how many shortest paths to the destination z have no member inside (nothing is said of it
--- where there is no path); and that nothing past its part of the work area is touched. A member's byte in the set is 1.
+-- empty block), and at 2 n + z how many shortest walks to the destination z have no member inside (nothing is said of it
+-- where there is no walk); and that nothing past its part of the work area is touched. A member's byte in the set is 1.
 pub record SetPassed (bs : List ℕ) (n t : ℕ) (terms : Terms) (s z : ℕ) (set old new : List ℕ) (r : Bool) : Type 0 where
   pub too-many : r ≡ tooMany (planOf bs n t terms) s
   pub counted : r ≡ false → Counted bs n t terms s 0 0 new
-  pub members : r ≡ false → hops (shortestPaths (planOf bs n t terms) s z) < 65535
+  pub members : r ≡ false → hops (shortestWalksTo (planOf bs n t terms) s z) < 65535
       → getD new (2 * n + z) 0 + touched (planOf bs n t terms) s z (λ v. eqb (getD set v 0) 1)
-      ≡ count (shortestPaths (planOf bs n t terms) s z)
+      ≡ count (shortestWalksTo (planOf bs n t terms) s z)
   pub beyond : drop (areaSize n (waiting t terms) 1) new ≡ drop (areaSize n (waiting t terms) 1) old
   pub same-length : length new ≡ length old

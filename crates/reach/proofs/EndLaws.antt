@@ -11,12 +11,12 @@ use lib.ListN.{length-drop, length-set}
 use lib.Seq.{getD-set-same, getD-set-other, drop-set-lt, drop-at}
 use Rattle.temporal.specs.Plan.{start, Terms}
 use Rattle.temporal.specs.Walk.{isAt, isAppearance, isWalk}
-use Rattle.temporal.specs.Shortest.{shortestWalks, shortestPaths, hops, count}
+use Rattle.temporal.specs.Shortest.{shortestWalks, shortestWalksTo, hops, count}
 use Rattle.temporal.specs.Bytes.{planOf}
 use Rattle.temporal.specs.Cause.{planFault}
 use Rattle.temporal.specs.Outcome.{over}
 use Rattle.temporal.proofs.Accepted.{accepted}
-use Rattle.temporal.proofs.Adequacy.{bounded-ends, shortest-walks-are-paths}
+use Rattle.temporal.proofs.Adequacy.{bounded-ends}
 use Rattle.temporal.proofs.PlanLaws.{slots-within}
 use Rattle.counting.proofs.Weights.{total, everywhere}
 use Rattle.counting.proofs.Fewest.{fewest-intro, fewest-unique, fewest-shortest, count-shortest}
@@ -210,21 +210,20 @@ module _ (bs : List ℕ) (n t : ℕ) (terms : Terms) (s : ℕ) (ok : planFault b
             ap stored (ap (reaching bs n t terms s v u) same ∙ sym (count-shortest (planOf bs n t terms) (start s) (isAppearance v u) b));
       }
 
-  -- (kept) an entry of all walks to a station holds its hops and count
+  -- an entry of all walks to a station holds its hops and count
   holds-station :
-      (x : Table) (i v : ℕ) → EntryAt (present bs n t terms s v t) x i → EntryHolds x i (shortestPaths (planOf bs n t terms) s v)
-  unfolding planOf
+      (x : Table) (i v : ℕ) → EntryAt (present bs n t terms s v t) x i → EntryHolds x i (shortestWalksTo (planOf bs n t terms) s v)
+  unfolding planOf shortestWalksTo
   holds-station x i v e =
       let b = bounded-ends (planOf bs n t terms) (slots-within bs n t terms ok) s (isAt v) in
       let all = entry-ext (λ k. sym (heard-all (planOf bs n t terms) s everywhere (slots-within bs n t terms ok) v k)) e in
       let same = fewest-unique (all .fewest) (fewest-shortest (planOf bs n t terms) (start s) (isAt v) b (few-slots bs n t terms ok)) in
-      rw (shortest-walks-are-paths bs n t terms ok s v)
-      (record {
+      record {
         hops-there = same;
         count-there = all .count ∙
             ap stored (ap (total (planOf bs n t terms) everywhere (start s) (λ y. cond (isAt v y) 1 0)) same ∙
             sym (count-shortest (planOf bs n t terms) (start s) (isAt v) b));
-      })
+      }
 
   -- (kept) once the last slot is settled the tables are filled
   pub end-state :

@@ -10,13 +10,13 @@ use borrow.Author.Tests.{ltb-false}
 use lib.Dec.{ltb}
 use Rattle.temporal.specs.Plan.{Terms}
 use Rattle.temporal.specs.Lists.{any, below}
-use Rattle.temporal.specs.Walk.{isAppearance, isWalk}
-use Rattle.temporal.specs.Shortest.{shortestWalks, shortestPaths, hops, count}
+use Rattle.temporal.specs.Walk.{isAt, isAppearance, isWalk}
+use Rattle.temporal.specs.Shortest.{shortestWalks, shortestWalksTo, hops, count}
 use Rattle.temporal.specs.Bytes.{planOf}
 use Rattle.temporal.specs.Cause.{planFault, tooMany}
 use Rattle.temporal.specs.Outcome.{Outcome, over, cleared, ReachTables, appearanceTable, stationTable, reached}
 use Rattle.temporal.proofs.Accepted.{accepted}
-use Rattle.temporal.proofs.Adequacy.{bounded-ends, bounded-paths}
+use Rattle.temporal.proofs.Adequacy.{bounded-ends}
 use Rattle.temporal.proofs.CauseLaws.{or-false-left, or-false-right}
 use Rattle.temporal.proofs.ListLaws.{any-ext, any-false, mem-below}
 use Rattle.temporal.proofs.PlanLaws.{slots-within}
@@ -40,11 +40,11 @@ module _ (bs : List ℕ) (n t : ℕ) (terms : Terms) (s : ℕ) (ok : planFault b
       ⊎-elim inl (λ h. inr (omega arith))
       (hops-bound (bounded-ends (planOf bs n t terms) (slots-within bs n t terms ok) s (isAppearance v u)))
 
-  few-paths : (v : ℕ) → Few (shortestPaths (planOf bs n t terms) s v)
-  unfolding shortestPaths planOf
-  few-paths v =
+  few-station : (v : ℕ) → Few (shortestWalksTo (planOf bs n t terms) s v)
+  unfolding shortestWalksTo planOf
+  few-station v =
       let slots = accepted bs n t ok .slots in
-      ⊎-elim inl (λ h. inr (omega arith)) (hops-bound (bounded-paths (planOf bs n t terms) (slots-within bs n t terms ok) s v))
+      ⊎-elim inl (λ h. inr (omega arith)) (hops-bound (bounded-ends (planOf bs n t terms) (slots-within bs n t terms ok) s (isAt v)))
 
   module _ (old x : Tables) (f : FilledTables bs n t terms s old x) where
     -- some entry overflows exactly where cause 9 holds
@@ -58,7 +58,7 @@ module _ (bs : List ℕ) (n t : ℕ) (terms : Terms) (s : ℕ) (ok : planFault b
         overflows-exactly (x .appearances) (v * (t + 1) + u) _ (few-walks v u)
         (f .appearance v u (mem-below n .0 m) (mem-below (t + 1) .0 k)))))
         (any-ext (below n) (λ v m.
-        overflows-exactly (x .stations) v _ (few-paths v) (f .station v (mem-below n .0 m))))
+        overflows-exactly (x .stations) v _ (few-station v) (f .station v (mem-below n .0 m))))
 
     module _ (none : tooMany (planOf bs n t terms) s ≡ false) where
       -- no count is over 2^64 - 1
@@ -72,7 +72,7 @@ module _ (bs : List ℕ) (n t : ℕ) (terms : Terms) (s : ℕ) (ok : planFault b
           (any-false _ (below n) .0 (or-false-left _ _ none) v (mem-below n .1 h)) u (mem-below (t + 1) .1 k)))
 
       small-paths :
-          (v : ℕ) → v < n → stored (count (shortestPaths (planOf bs n t terms) s v)) ≡ count (shortestPaths (planOf bs n t terms) s v)
+          (v : ℕ) → v < n → stored (count (shortestWalksTo (planOf bs n t terms) s v)) ≡ count (shortestWalksTo (planOf bs n t terms) s v)
       unfolding tooMany planOf
       small-paths v h =
           stored-small _ (ltb-false _ _

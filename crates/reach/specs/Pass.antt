@@ -10,7 +10,7 @@ use Rattle.temporal.specs.Plan.{Terms}
 use Rattle.temporal.specs.Lists.{any, below}
 use Rattle.temporal.specs.Bytes.{contactAt, planOf}
 use Rattle.temporal.specs.Cause.{planFault}
-use Rattle.temporal.specs.Shortest.{shortestWalks, shortestPaths, hops, count}
+use Rattle.temporal.specs.Shortest.{shortestWalks, shortestWalksTo, hops, count}
 use Rattle.temporal.specs.Outcome.{ReachTables, over}
 use Rattle.plan.specs.Record.{inSlot}
 use Rattle.entries.specs.Entry.{stored}
@@ -74,7 +74,7 @@ pub record Beyond (k : ℕ) (x y : Table) : Type 0 where
 pub record FilledTables (bs : List ℕ) (n t : ℕ) (terms : Terms) (s : ℕ) (old new : Tables) : Type 0 where
   pub appearance :
       (v u : ℕ) → v < n → u < t + 1 → EntryHolds (new .appearances) (v * (t + 1) + u) (shortestWalks (planOf bs n t terms) s v u)
-  pub station : (v : ℕ) → v < n → EntryHolds (new .stations) v (shortestPaths (planOf bs n t terms) s v)
+  pub station : (v : ℕ) → v < n → EntryHolds (new .stations) v (shortestWalksTo (planOf bs n t terms) s v)
   pub appearances-beyond : Beyond (n * (t + 1)) (old .appearances) (new .appearances)
   pub stations-beyond : Beyond n (old .stations) (new .stations)
 

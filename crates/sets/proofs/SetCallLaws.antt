@@ -12,7 +12,7 @@ use lib.Dec.{ltb}
 use lib.ListN.{length, getD, replicate}
 use Rattle.temporal.specs.Plan.{Terms}
 use Rattle.temporal.specs.Lists.{any, from, below}
-use Rattle.temporal.specs.Shortest.{shortestPaths, hops}
+use Rattle.temporal.specs.Shortest.{shortestWalksTo, hops}
 use Rattle.temporal.specs.Set.{touched}
 use Rattle.temporal.specs.Bytes.{planOf}
 use Rattle.temporal.specs.Cause.{cause, first, planFault}
@@ -90,7 +90,7 @@ module _ (bs : List ℕ) (n t : ℕ) (terms : Terms) (s z : ℕ) (set area : Lis
     c = f .counted none
 
     -- hops that are not 65535 are fewer
-    with-path : getD area′ z 0 ≢ 65535 → hops (shortestPaths (planOf bs n t terms) s z) < 65535
+    with-path : getD area′ z 0 ≢ 65535 → hops (shortestWalksTo (planOf bs n t terms) s z) < 65535
     with-path ne =
         ⊎-elim
         (λ empty. absurd (ne (c .station-hops z (asked .destination) ∙ hops-empty _ empty)))

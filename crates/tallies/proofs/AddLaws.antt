@@ -13,7 +13,7 @@ use lib.Dec.{eqb}
 use lib.ListN.{length, getD, set, length-set}
 use lib.Seq.{getD-set-same, getD-set-other, drop-set-lt, lt-length-set}
 use Rattle.temporal.specs.Plan.{Plan}
-use Rattle.temporal.specs.Shortest.{shortestPaths, through, count}
+use Rattle.temporal.specs.Shortest.{shortestWalksTo, through, count}
 use Rattle.tallies.specs.Progress.{pairTerm, loadTerm, TallyEntry, Kept}
 use Rattle.tallies.specs.Progress.{countedIn, added, addedAt}
 use Rattle.tallies.proofs.TermLaws.{Nothing, nothing-through, through-destination, pair-adds, load-adds}
@@ -96,8 +96,8 @@ entry-nothing p n base s v z w none e =
 
 -- the entries of v are one destination ahead once the pair of s and z is added
 pub entry-added : (p : Plan) (n base s v z c past : ℕ) (w : List ℕ) → v < n → base + 2 * n ≤ length w → s ≢ z
-    → c ≡ count (shortestPaths p s z)
-    → (v ≢ z → past + through p s z v ≡ count (shortestPaths p s z))
+    → c ≡ count (shortestWalksTo p s z)
+    → (v ≢ z → past + through p s z v ≡ count (shortestWalksTo p s z))
     → TallyEntry p n base s v z w → TallyEntry p n base s v (z + 1) (added n base w v z c past)
 unfolding added
 entry-added p n base s v z c past w h fits apart counted row e =

@@ -8,7 +8,7 @@ use native.Mathlib.Omega.{arith}
 use lib.ListN.{length, getD}
 use Rattle.temporal.specs.Bytes.{planOf}
 use Rattle.temporal.specs.Plan.{Terms}
-use Rattle.temporal.specs.Shortest.{shortestPaths, hops}
+use Rattle.temporal.specs.Shortest.{shortestWalksTo, hops}
 use Rattle.tallies.specs.Progress.{Working, Workable, DestinationsAdded, Addable, addedAt}
 use Rattle.tallies.proofs.StateLaws.{working-again, working-over, working-self, working-unreached, working-row}
 use Rattle.tallies.proofs.StateLaws.{working-addable, working-add}
@@ -42,7 +42,7 @@ module _ (n base s low block z : ℕ) (old : List ℕ) (j : ℕ) (w : List ℕ) 
 
   module _ (destination : z < n) (near : getD old z 0 < 65535) (h : j < block) where
     reached : (bs : List ℕ) (t : ℕ) (terms : Terms) → Working bs n t terms base s low block z 0 old old
-        → hops (shortestPaths (planOf bs n t terms) s z) < 65535
+        → hops (shortestWalksTo (planOf bs n t terms) s z) < 65535
     reached bs t terms k = omega (arith, k .counted .station-hops z destination)
 
     pub tracking-addable : Workable n base s low block z old → Addable n base low block z j w

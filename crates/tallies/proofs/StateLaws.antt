@@ -11,7 +11,7 @@ use lib.Arith.{digits-lt}
 use lib.ListN.{getD}
 use Rattle.temporal.specs.Plan.{Plan, Terms}
 use Rattle.temporal.specs.Bytes.{planOf}
-use Rattle.temporal.specs.Shortest.{shortestPaths, hops}
+use Rattle.temporal.specs.Shortest.{shortestWalksTo, hops}
 use Rattle.pass.specs.Row.{partSize}
 use Rattle.pass.specs.Passed.{Counted}
 use Rattle.tallies.specs.Progress.{pairTerm, loadTerm, TallyEntry, Kept, Working, addedAt, Addable}
@@ -132,7 +132,7 @@ module _ (bs : List ℕ) (n t : ℕ) (terms : Terms) (base s low block : ℕ) wh
       }
 
   module _ (z j : ℕ) {old w : List ℕ} (k : Working bs n t terms base s low block z j old w) (destination : z < n)
-      (in-block : j < block) (near : hops (shortestPaths (planOf bs n t terms) s z) < 65535) where
+      (in-block : j < block) (near : hops (shortestWalksTo (planOf bs n t terms) s z) < 65535) where
     -- the next station can be added to
     pub working-addable : Addable n base low block z j w
     working-addable =

@@ -14,15 +14,15 @@ use Rattle.temporal.specs.Lists.{from, below, sum, select}
 use Rattle.temporal.specs.Plan.{Plan, Terms}
 use Rattle.temporal.specs.Bytes.{planOf}
 use Rattle.temporal.specs.Cause.{planFault}
-use Rattle.temporal.specs.Shortest.{shortestPaths, hops, through, count}
-use Rattle.temporal.specs.Walk.{isInterior}
+use Rattle.temporal.specs.Shortest.{shortestWalksTo, hops, through, count}
+use Rattle.temporal.specs.Walk.{isAt, isInterior}
 use Rattle.temporal.specs.Load.{Ends, endsBelow, isPairOf, partialPairs, share, partialLoad}
 use Rattle.temporal.proofs.ListLaws.{select-none, length-below, not-true-false}
 use Rattle.temporal.proofs.ShortestLaws.{hops-bound}
 use Rattle.temporal.proofs.PathLaws.{interior-inv}
 use Rattle.temporal.proofs.PlanLaws.{slots-within}
 use Rattle.temporal.proofs.Accepted.{accepted}
-use Rattle.temporal.proofs.Adequacy.{bounded-paths}
+use Rattle.temporal.proofs.Adequacy.{bounded-ends}
 use Rattle.counting.proofs.ExactSum.{sum-at-most, share-at-most}
 use Rattle.counting.proofs.SumLaws.{sum-below-suc}
 use Rattle.counting.proofs.PartialLaws.{overDestinations, sum-ends, pairs-summed, load-summed}
@@ -97,19 +97,19 @@ nothing-through p v s z e =
 pub through-destination : (p : Plan) (s z : ℕ) → through p s z z ≡ 0
 unfolding through
 through-destination p s z =
-    ap length (select-none (shortestPaths p s z) (λ w m.
+    ap length (select-none (shortestWalksTo p s z) (λ w m.
     not-true-false (isInterior p s z z w) (λ e. interior-inv p s z z w e .not-destination refl)))
 
 -- where there is no path, none has v inside
 pub through-none : (bs : List ℕ) (n t : ℕ) (terms : Terms) → planFault bs n t ≡ 0 → (s z v : ℕ)
-    → 65535 ≤ hops (shortestPaths (planOf bs n t terms) s z) → through (planOf bs n t terms) s z v ≡ 0
-unfolding through shortestPaths select planOf
+    → 65535 ≤ hops (shortestWalksTo (planOf bs n t terms) s z) → through (planOf bs n t terms) s z v ≡ 0
+unfolding through shortestWalksTo select planOf
 through-none bs n t terms ok s z v h =
     ⊎-elim
-    (λ (e : shortestPaths (planOf bs n t terms) s z ≡ []). rw e)
-    (λ (g : hops (shortestPaths (planOf bs n t terms) s z) ≤ planOf bs n t terms .slots).
+    (λ (e : shortestWalksTo (planOf bs n t terms) s z ≡ []). rw e)
+    (λ (g : hops (shortestWalksTo (planOf bs n t terms) s z) ≤ planOf bs n t terms .slots).
     absurd (let few = accepted bs n t ok .slots in omega arith))
-    (hops-bound (bounded-paths (planOf bs n t terms) (slots-within bs n t terms ok) s z))
+    (hops-bound (bounded-ends (planOf bs n t terms) (slots-within bs n t terms ok) s (isAt z)))
 
 module _ (p : Plan) (v s z : ℕ) (apart : s ≢ z) (some : 0 < through p s z v) where
   -- a pair of two stations with v inside some path adds 1 and its share
@@ -117,7 +117,7 @@ module _ (p : Plan) (v s z : ℕ) (apart : s ≢ z) (some : 0 < through p s z v)
   unfolding pairTerm
   pair-adds = rw (ne-eqb s z apart, lt-ltb 0 _ some)
 
-  pub load-adds : loadTerm p v s z ≡ 2 ^ 32 * through p s z v / count (shortestPaths p s z)
+  pub load-adds : loadTerm p v s z ≡ 2 ^ 32 * through p s z v / count (shortestWalksTo p s z)
   unfolding loadTerm share
   load-adds = rw (ne-eqb s z apart, lt-ltb 0 _ some)
 

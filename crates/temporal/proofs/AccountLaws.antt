@@ -16,7 +16,7 @@ use lib.ListN.{length, length-map, getElem?}
 use Rattle.temporal.specs.Lists.{below, sum, select, member, distinct}
 use Rattle.temporal.specs.Plan.{Contact, Plan, Terms, Appearance, start, leadsTo}
 use Rattle.temporal.specs.Walk.{run, lastOr, stationsOf, isPath, isInterior, HasInside}
-use Rattle.temporal.specs.Shortest.{shortestPaths, hops, count, through}
+use Rattle.temporal.specs.Shortest.{shortestWalksTo, hops, count, through}
 use Rattle.temporal.specs.Foremost.{arrival, foremostPaths}
 use Rattle.temporal.specs.Bytes.{planOf}
 use Rattle.temporal.specs.Cause.{planFault}
@@ -39,7 +39,7 @@ use Rattle.temporal.proofs.RuleLaws.{leads-below}
 use Rattle.temporal.proofs.WalkLaws.{step-inv, run-nil, run-cons, run-length}
 use Rattle.temporal.proofs.PathLaws.{path-inv, last-visited, interior-inv, interior-intro}
 use Rattle.temporal.proofs.PlanLaws.{contact-within}
-use Rattle.temporal.proofs.Adequacy.{in-complete-list, in-shortest-walks}
+use Rattle.temporal.proofs.Adequacy.{listed-path, in-shortest-walks}
 use Rattle.temporal.proofs.ForemostLaws.{foremost-walks-are-paths}
 
 -- ---- one path
@@ -162,20 +162,20 @@ module _ (p : Plan) (g : StationsWithin p) where
 -- ---- the complete list, and the shortest foremost paths
 
 module _ (bs : List ℕ) (n t : ℕ) (terms : Terms) (ok : planFault bs n t ≡ 0) (s z : ℕ) (other : s ≢ z) where
-  -- Each shortest path between two different stations of an accepted plan has exactly hops - 1 stations inside, all different.
+  -- (kept) Each shortest walk between two different stations of an accepted plan has exactly hops - 1 stations inside, all different.
   pub shortest-interior :
-      (w : List ℕ) → List·Memᴰ w (shortestPaths (planOf bs n t terms) s z) →
-      HasInside (planOf bs n t terms) s z w (hops (shortestPaths (planOf bs n t terms) s z) - 1)
-  shortest-interior w m = path-interior-of (planOf bs n t terms) s z other _ w (in-complete-list bs n t terms ok s z w .0 m)
+      (w : List ℕ) → List·Memᴰ w (shortestWalksTo (planOf bs n t terms) s z) →
+      HasInside (planOf bs n t terms) s z w (hops (shortestWalksTo (planOf bs n t terms) s z) - 1)
+  shortest-interior w m = path-interior-of (planOf bs n t terms) s z other _ w (listed-path bs n t terms ok s z w m)
 
-  -- Every hop accounted: their through counts add up to count × (hops - 1). Where there is no path both are 0.
+  -- (kept) Every hop accounted: their through counts add up to count × (hops - 1). Where there is no path both are 0.
   pub shortest-accounted :
       sum (map (through (planOf bs n t terms) s z) (below n)) ≡
-      count (shortestPaths (planOf bs n t terms) s z) * (hops (shortestPaths (planOf bs n t terms) s z) - 1)
+      count (shortestWalksTo (planOf bs n t terms) s z) * (hops (shortestWalksTo (planOf bs n t terms) s z) - 1)
   unfolding through planOf
   shortest-accounted =
-      account (planOf bs n t terms) (stations-within bs n t terms ok) s z other (hops (shortestPaths (planOf bs n t terms) s z))
-      (shortestPaths (planOf bs n t terms) s z) (λ w m. in-complete-list bs n t terms ok s z w .0 m)
+      account (planOf bs n t terms) (stations-within bs n t terms ok) s z other (hops (shortestWalksTo (planOf bs n t terms) s z))
+      (shortestWalksTo (planOf bs n t terms) s z) (listed-path bs n t terms ok s z)
 
   -- (kept) a shortest foremost path is a path with the list's hops
   foremost-path :

@@ -9,8 +9,8 @@ use lib.Dec.{ltb}
 use lib.ListN.{length}
 use Rattle.temporal.specs.Lists.{below, sum, select, tuples}
 use Rattle.temporal.specs.Plan.{Plan}
-use Rattle.temporal.specs.Walk.{isWalk, isPath}
-use Rattle.temporal.specs.Shortest.{orElse, firstNonempty, ofHops, shortest, shortestWalks, shortestPaths, count}
+use Rattle.temporal.specs.Walk.{isWalk, isWalkTo}
+use Rattle.temporal.specs.Shortest.{orElse, firstNonempty, ofHops, shortest, shortestWalks, shortestWalksTo, count}
 use Rattle.temporal.specs.Cause.{appearanceTooMany, stationTooMany, tooMany, tooManyBelow, tooManyAnywhere}
 use Rattle.temporal.proofs.ListLaws.{any-false}
 
@@ -57,10 +57,10 @@ module _ (p : Plan) (few : mostLists p ≤ 18446744073709551615) where
       (let most = few-shortest p (isWalk p s v u) in omega arith)))
 
   few-stations : (s : ℕ) → stationTooMany p s ≡ false
-  unfolding shortestPaths
+  unfolding shortestWalksTo
   few-stations s =
       any-false _ (below (p .stations)) .1 (λ v m.
-      le-ltb 18446744073709551615 (count (shortestPaths p s v)) (let most = few-shortest p (isPath p s v) in omega arith))
+      le-ltb 18446744073709551615 (count (shortestWalksTo p s v)) (let most = few-shortest p (isWalkTo p s v) in omega arith))
 
   -- so 9 is no cause
   pub few-walks : (s : ℕ) → tooMany p s ≡ false

@@ -11,7 +11,7 @@ use lib.Dec.{leb, ltb, eqb}
 use Rattle.temporal.specs.Lists.{from, below, sum, product, select, any, firstWhere, member, distinct, tuples}
 use Rattle.temporal.specs.Plan.{Contact, Plan, Terms, turning, leadsTo, mayFollow}
 use Rattle.temporal.specs.Walk.{along, step, run, lastOr, holds, endsIn, isWalk, isPath, isInterior}
-use Rattle.temporal.specs.Shortest.{orElse, firstNonempty, ofHops, shortest, shortestWalks, shortestPaths}
+use Rattle.temporal.specs.Shortest.{orElse, firstNonempty, ofHops, shortest, shortestWalks, shortestWalksTo}
 use Rattle.temporal.specs.Shortest.{hops, count, through}
 use Rattle.temporal.specs.Foremost.{arrival, foremostPaths}
 use Rattle.temporal.specs.OutcomeForemost.{foremostThrough}
@@ -31,8 +31,8 @@ single : Plan
 single = record { stations = 2; slots = 1; contacts = record { slot = 1; sender = 0; hearer = 1 } ∷ []; terms = turning 1 }
 
 -- It leads from its sender to its hearer, and there is no path back.
-one-way : count (shortestPaths single 0 1) ∷ count (shortestPaths single 1 0) ∷ [] ≡ 1 ∷ 0 ∷ []
-unfolding single from below select any member distinct tuples leadsTo mayFollow along step run lastOr holds isPath orElse firstNonempty ofHops shortest shortestPaths flatMap bind
+one-way : count (shortestWalksTo single 0 1) ∷ count (shortestWalksTo single 1 0) ∷ [] ≡ 1 ∷ 0 ∷ []
+unfolding single from below select any member distinct tuples leadsTo mayFollow along step run lastOr holds endsIn orElse firstNonempty ofHops shortest shortestWalksTo flatMap bind
 one-way = refl
 
 -- plan A of document 01 with each contact in one direction alone, a sending and b hearing: its paths from 0 are plan A's
@@ -54,7 +54,7 @@ foremostTold p s z = arrival p s z ∷ hops (foremostPaths p s z) ∷ count (for
 
 -- Station 2 has two pairs, 2 of 3 paths of each: twice the whole part of 2^33 / 3 (P9).
 load-of-two-pairs : load outwardA 2 ≡ 5726623060
-unfolding outwardA from below sum product select any member distinct tuples leadsTo mayFollow along step run lastOr holds isPath isInterior orElse firstNonempty ofHops shortest shortestPaths through endsBelow pairsBelow share partialLoad flatMap bind
+unfolding outwardA from below sum product select any member distinct tuples leadsTo mayFollow along step run lastOr holds endsIn isInterior orElse firstNonempty ofHops shortest shortestWalksTo through endsBelow pairsBelow share partialLoad flatMap bind
 load-of-two-pairs = refl
 
 -- Station 3 has three pairs, with the sources 0, 1 and 2 and the destination 4, and all their paths go through it: with k sources
@@ -62,7 +62,7 @@ load-of-two-pairs = refl
 partial-loads-of-one-station :
     flatMap (λ k. partialPairs outwardA k 3 ∷ partialLoad outwardA k 3 ∷ []) (0 ∷ 1 ∷ 2 ∷ 3 ∷ 5 ∷ []) ≡
     0 ∷ 0 ∷ 1 ∷ 4294967296 ∷ 2 ∷ 8589934592 ∷ 3 ∷ 12884901888 ∷ 3 ∷ 12884901888 ∷ []
-unfolding outwardA from below sum product select any member distinct tuples leadsTo mayFollow along step run lastOr holds isPath isInterior orElse firstNonempty ofHops shortest shortestPaths through endsBelow pairsBelow partialPairs share partialLoad flatMap bind
+unfolding outwardA from below sum product select any member distinct tuples leadsTo mayFollow along step run lastOr holds endsIn isInterior orElse firstNonempty ofHops shortest shortestWalksTo through endsBelow pairsBelow partialPairs share partialLoad flatMap bind
 partial-loads-of-one-station = refl
 
 -- the one pair of station 1 has the last source
@@ -80,7 +80,7 @@ rest-of-last-source :
     leb (load backwards 1) (partialLoad backwards 2 1 + restOfLoad 3 2) ∷ ltb 0 (load backwards 1) ∷
     eqb (partialLoad backwards 2 1) 0 ∷ [] ≡
     true ∷ true ∷ true ∷ []
-unfolding backwards from below sum product select any member distinct tuples leadsTo mayFollow along step run lastOr holds isPath isInterior orElse firstNonempty ofHops shortest shortestPaths through endsBelow pairsBelow share partialLoad restOfPairs restOfLoad flatMap bind
+unfolding backwards from below sum product select any member distinct tuples leadsTo mayFollow along step run lastOr holds endsIn isInterior orElse firstNonempty ofHops shortest shortestWalksTo through endsBelow pairsBelow share partialLoad restOfPairs restOfLoad flatMap bind
 rest-of-last-source = refl
 
 -- 13 is told above n alone, after 12 and before 8 (document 02, C-18).
@@ -95,12 +95,12 @@ thirteen-before-eight = refl
 
 -- Of the three shortest paths from 0 to 4 all go through station 3 and two of them through station 2 too: each counts once.
 set-of-two : touched outwardA 0 4 (λ v. eqb v 2 || eqb v 3) ≡ 3
-unfolding outwardA from below sum select any member distinct tuples leadsTo mayFollow along step run lastOr holds isPath isInterior orElse firstNonempty ofHops shortest shortestPaths touches touched flatMap bind
+unfolding outwardA from below sum select any member distinct tuples leadsTo mayFollow along step run lastOr holds endsIn isInterior orElse firstNonempty ofHops shortest shortestWalksTo touches touched flatMap bind
 set-of-two = refl
 
 -- All of them end at station 4, and none has it inside.
 set-of-destination : touched outwardA 0 4 (λ v. eqb v 4) ≡ 0
-unfolding outwardA from below sum select any member distinct tuples leadsTo mayFollow along step run lastOr holds isPath isInterior orElse firstNonempty ofHops shortest shortestPaths touches touched flatMap bind
+unfolding outwardA from below sum select any member distinct tuples leadsTo mayFollow along step run lastOr holds endsIn isInterior orElse firstNonempty ofHops shortest shortestWalksTo touches touched flatMap bind
 set-of-destination = refl
 
 -- ---- turnarounds (document 02, C-17)
@@ -110,8 +110,8 @@ slowA : Plan
 slowA = record { stations = 5; slots = 4; contacts = outwardA .contacts; terms = turning 2 }
 
 -- Station 3 is reached from 0 over station 2 in slots 1 and 3 alone, and then there is no time to reach station 4.
-time-to-turn : count (shortestPaths slowA 0 3) ∷ count (shortestPaths slowA 0 4) ∷ [] ≡ 1 ∷ 0 ∷ []
-unfolding slowA outwardA from below select any member distinct tuples leadsTo mayFollow along step run lastOr holds isPath orElse firstNonempty ofHops shortest shortestPaths flatMap bind
+time-to-turn : count (shortestWalksTo slowA 0 3) ∷ count (shortestWalksTo slowA 0 4) ∷ [] ≡ 1 ∷ 0 ∷ []
+unfolding slowA outwardA from below select any member distinct tuples leadsTo mayFollow along step run lastOr holds endsIn orElse firstNonempty ofHops shortest shortestWalksTo flatMap bind
 time-to-turn = refl
 
 -- the single contact with the longest turnaround
@@ -119,8 +119,8 @@ slowSingle : Plan
 slowSingle = record { stations = 2; slots = 1; contacts = single .contacts; terms = turning 16 }
 
 -- The first leg may use any slot.
-first-leg-free : count (shortestPaths slowSingle 0 1) ≡ 1
-unfolding slowSingle single from below select any member distinct tuples leadsTo mayFollow along step run lastOr holds isPath orElse firstNonempty ofHops shortest shortestPaths flatMap bind
+first-leg-free : count (shortestWalksTo slowSingle 0 1) ≡ 1
+unfolding slowSingle single from below select any member distinct tuples leadsTo mayFollow along step run lastOr holds endsIn orElse firstNonempty ofHops shortest shortestWalksTo flatMap bind
 first-leg-free = refl
 
 -- 12 is told before 6, outside 1 to 16 alone.
@@ -133,7 +133,7 @@ twelve-before-six = refl
 
 -- Plan A, 0 to 3 (document 02, C-14): slot 2, 2 hops, count 2. In slot 3 there is one more path with as many hops.
 foremost-of-outward-a : foremostTold outwardA 0 3 ≡ 2 ∷ 2 ∷ 2 ∷ []
-unfolding foremostTold outwardA from below firstWhere select any member distinct tuples leadsTo mayFollow along step run lastOr holds endsIn isWalk isPath orElse firstNonempty ofHops shortest shortestWalks shortestPaths hops arrival foremostPaths flatMap bind
+unfolding foremostTold outwardA from below firstWhere select any member distinct tuples leadsTo mayFollow along step run lastOr holds endsIn isWalk orElse firstNonempty ofHops shortest shortestWalks shortestWalksTo hops arrival foremostPaths flatMap bind
 foremost-of-outward-a = refl
 
 -- Both end at station 3, and neither has it inside; station 1 is inside one of them.
@@ -156,11 +156,11 @@ detours =
     }
 
 foremost-not-shortest : foremostTold detours 0 2 ≡ 2 ∷ 2 ∷ 1 ∷ []
-unfolding foremostTold detours from below firstWhere select any member distinct tuples leadsTo mayFollow along step run lastOr holds endsIn isWalk isPath orElse firstNonempty ofHops shortest shortestWalks shortestPaths hops arrival foremostPaths flatMap bind
+unfolding foremostTold detours from below firstWhere select any member distinct tuples leadsTo mayFollow along step run lastOr holds endsIn isWalk orElse firstNonempty ofHops shortest shortestWalks shortestWalksTo hops arrival foremostPaths flatMap bind
 foremost-not-shortest = refl
 
 foremost-fewest-hops : foremostTold detours 0 3 ≡ 4 ∷ 2 ∷ 2 ∷ []
-unfolding foremostTold detours from below firstWhere select any member distinct tuples leadsTo mayFollow along step run lastOr holds endsIn isWalk isPath orElse firstNonempty ofHops shortest shortestWalks shortestPaths hops arrival foremostPaths flatMap bind
+unfolding foremostTold detours from below firstWhere select any member distinct tuples leadsTo mayFollow along step run lastOr holds endsIn isWalk orElse firstNonempty ofHops shortest shortestWalks shortestWalksTo hops arrival foremostPaths flatMap bind
 foremost-fewest-hops = refl
 
 -- ---- verdicts (document 02, C-19)

@@ -15,16 +15,16 @@ use lib.ListN.{length}
 use Rattle.temporal.specs.Lists.{below, firstWhere, Rising}
 use Rattle.temporal.specs.Plan.{Plan, Terms, Appearance, start}
 use Rattle.temporal.specs.Walk.{run, lastOr, holds, endsIn, isAt, isAppearance, isWalk, isWalkTo, isPath}
-use Rattle.temporal.specs.Shortest.{shortest, shortestWalks, shortestPaths, hops, count}
+use Rattle.temporal.specs.Shortest.{shortest, shortestWalks, shortestWalksTo, hops, count}
 use Rattle.temporal.specs.Foremost.{arrival, foremostPaths, arrivesBy, walksBy}
 use Rattle.temporal.specs.Bytes.{planOf}
 use Rattle.temporal.specs.Cause.{planFault}
 use Rattle.temporal.proofs.Accepted.{accepted}
-use Rattle.temporal.proofs.Adequacy.{bounded-ends, shortest-walks-are-paths, in-complete-list, in-shortest-walks}
+use Rattle.temporal.proofs.Adequacy.{bounded-ends, in-complete-list, in-shortest-walks}
 use Rattle.temporal.proofs.Adequacy.{appearance-walk-at-least, shortest-walks-rise, walk-ends-within}
 use Rattle.temporal.proofs.ListLaws.{not-both, true-or-false, empty-or-member, length-zero, FirstBelow}
 use Rattle.temporal.proofs.ListLaws.{passes-nowhere, passes-first, first-below, member-not-empty}
-use Rattle.temporal.proofs.PathLaws.{path-inv, walk-or-shorter}
+use Rattle.temporal.proofs.PathLaws.{path-is-walk, path-inv, walk-or-shorter}
 use Rattle.temporal.proofs.PlanLaws.{slots-within}
 use Rattle.temporal.proofs.ShortestLaws.{Bounded, shortest-mem, shortest-least, shortest-fails, shortest-ext}
 use Rattle.temporal.proofs.ShortestLaws.{count-zero, hops-bound, hops-implies, found, nowhere, at-hops, Found, least-member}
@@ -38,7 +38,7 @@ unfolding arrivesBy
 by-station z e x q = eqb-true (x .station) z (and-eq-true-iff (isAt z x) (leb (x .slot) e) .0 q .0)
 
 -- an earlier one of the station is among them too
-by-sooner :
+pub by-sooner :
     (z e : ℕ) (x x′ : Appearance) → x′ .station ≡ x .station → x′ .slot ≤ x .slot → arrivesBy z e x ≡ true →
     arrivesBy z e x′ ≡ true
 unfolding arrivesBy
@@ -275,10 +275,10 @@ module _ (bs : List ℕ) (n t : ℕ) (terms : Terms) (ok : planFault bs n t ≡ 
   unfolding planOf
   few-slots = let most = accepted bs n t ok .slots in omega arith
 
-  -- By the last slot the shortest walks are the shortest paths, and by the arrival the shortest foremost paths.
-  pub shortest-by-last : walksBy (planOf bs n t terms) s z t ≡ shortestPaths (planOf bs n t terms) s z
-  unfolding planOf
-  shortest-by-last = walks-by-last (planOf bs n t terms) (slots-within bs n t terms ok) s z ∙ sym (shortest-walks-are-paths bs n t terms ok s z)
+  -- By the last slot the shortest walks are those of the pair, and by the arrival the shortest foremost paths.
+  pub shortest-by-last : walksBy (planOf bs n t terms) s z t ≡ shortestWalksTo (planOf bs n t terms) s z
+  unfolding planOf shortestWalksTo
+  shortest-by-last = walks-by-last (planOf bs n t terms) (slots-within bs n t terms ok) s z
 
   pub foremost-by-arrival :
       walksBy (planOf bs n t terms) s z (min t (arrival (planOf bs n t terms) s z)) ≡ foremostPaths (planOf bs n t terms) s z
@@ -367,25 +367,24 @@ module _ (bs : List ℕ) (n t : ℕ) (terms : Terms) (ok : planFault bs n t ≡ 
       (hops-bound (bounded-ends (planOf bs n t terms) (slots-within bs n t terms ok) s (isAppearance z (arrival (planOf bs n t terms) s z))))
 
   -- The fewest hops of a foremost path are never below the pair's.
-  pub foremost-hops-at-least : hops (shortestPaths (planOf bs n t terms) s z) ≤ hops (foremostPaths (planOf bs n t terms) s z)
-  unfolding foremostPaths shortestWalks isWalk
+  pub foremost-hops-at-least : hops (shortestWalksTo (planOf bs n t terms) s z) ≤ hops (foremostPaths (planOf bs n t terms) s z)
+  unfolding foremostPaths shortestWalks shortestWalksTo isWalk
   foremost-hops-at-least =
       let few = few-slots in
-      rw (shortest-walks-are-paths bs n t terms ok s z)
       (hops-implies (bounded-ends (planOf bs n t terms) (slots-within bs n t terms ok) s (isAt z))
       (λ w q.
       let r = ends-inv (planOf bs n t terms) (start s) (isAppearance z (arrival (planOf bs n t terms) s z)) w q in
       ends-intro (planOf bs n t terms) (start s) (isAt z) w (r .runs) (and-eq-true-iff _ _ .0 (r .passes) .0))
       (omega arith))
 
-  -- (kept) Where its hops are the pair's, every shortest foremost path is in the pair's complete list.
+  -- Where its hops are the pair's, every shortest foremost path is in the pair's complete list.
   pub foremost-among-shortest :
-      hops (foremostPaths (planOf bs n t terms) s z) ≡ hops (shortestPaths (planOf bs n t terms) s z) → (w : List ℕ) →
-      List·Memᴰ w (foremostPaths (planOf bs n t terms) s z) → List·Memᴰ w (shortestPaths (planOf bs n t terms) s z)
+      hops (foremostPaths (planOf bs n t terms) s z) ≡ hops (shortestWalksTo (planOf bs n t terms) s z) → (w : List ℕ) →
+      List·Memᴰ w (foremostPaths (planOf bs n t terms) s z) → List·Memᴰ w (shortestWalksTo (planOf bs n t terms) s z)
   unfolding foremostPaths
   foremost-among-shortest same w m =
       in-complete-list bs n t terms ok s z w .1
-      (foremost-walks-are-paths w m, in-shortest-walks bs n t terms ok s z (arrival (planOf bs n t terms) s z) w .0 m .1 ∙ same)
+      (path-is-walk (planOf bs n t terms) s z w (foremost-walks-are-paths w m), in-shortest-walks bs n t terms ok s z (arrival (planOf bs n t terms) s z) w .0 m .1 ∙ same)
 
 -- They rise in lexicographic order, so none stands among them twice.
 pub foremost-paths-rise : (p : Plan) (s z : ℕ) → Rising (foremostPaths p s z)

@@ -10,12 +10,11 @@ use lib.Dec.{ltb, eqb}
 use lib.ListN.{length}
 use Rattle.temporal.specs.Lists.{below, sum, select, tuples}
 use Rattle.temporal.specs.Plan.{Plan, Appearance, start}
-use Rattle.temporal.specs.Walk.{step, holds, endsIn, isAt, isAppearance, isWalk, isPath}
-use Rattle.temporal.specs.Shortest.{firstNonempty, ofHops, shortest, shortestWalks, shortestPaths}
+use Rattle.temporal.specs.Walk.{step, holds, endsIn, isAt, isWalkTo, isAppearance, isWalk}
+use Rattle.temporal.specs.Shortest.{firstNonempty, ofHops, shortest, shortestWalks, shortestWalksTo}
 use Rattle.temporal.specs.Shortest.{count, throughIn, through}
 use Rattle.temporal.specs.Load.{Ends, endsBelow, pairsBelow, partialPairs, pairs, share, partialLoad, load}
 use Rattle.temporal.proofs.ListLaws.{select-append, select-none, select-select}
-use Rattle.temporal.proofs.PathLaws.{path-is-walk}
 use Rattle.temporal.proofs.WalkLaws.{ends-cons, ends-inv, ends-intro, ends-nil}
 
 -- what follows where there is a next appearance; nothing where there is none
@@ -104,18 +103,18 @@ module _ (p : Plan) where
             go true e = sym (rw (walks w e))
             go false e = false-and (runs p (start s) w)
 
--- the shortest walks to an appearance, and the shortest paths of a pair
+-- the shortest walks to an appearance, and those of a pair
 pub grown-appearance : (p : Plan) (s v u : ℕ) → shortestWalks p s v u ≡ grownShortest p s (isWalk p s v u)
 unfolding shortestWalks isWalk
 grown-appearance p s v u =
     grown-shortest p s (endsIn p (start s) (isAppearance v u)) (λ w e.
     let r = ends-inv p (start s) (isAppearance v u) w e in ends-intro p (start s) (λ y. true) w (r .runs) refl)
 
-pub grown-pair : (p : Plan) (s z : ℕ) → shortestPaths p s z ≡ grownShortest p s (isPath p s z)
-unfolding shortestPaths
+pub grown-pair : (p : Plan) (s z : ℕ) → shortestWalksTo p s z ≡ grownShortest p s (isWalkTo p s z)
+unfolding shortestWalksTo
 grown-pair p s z =
-    grown-shortest p s (isPath p s z) (λ w e.
-    let r = ends-inv p (start s) (isAt z) w (path-is-walk p s z w e) in ends-intro p (start s) (λ y. true) w (r .runs) refl)
+    grown-shortest p s (isWalkTo p s z) (λ w e.
+    let r = ends-inv p (start s) (isAt z) w e in ends-intro p (start s) (λ y. true) w (r .runs) refl)
 
 -- ---- as functions, and what is made of them
 
@@ -123,16 +122,16 @@ grown-pair p s z =
 unfoldable pub grownWalks : Plan → ℕ → ℕ → ℕ → List (List ℕ)
 grownWalks p s v u = grownShortest p s (isWalk p s v u)
 
-unfoldable pub grownPaths : Plan → ℕ → ℕ → List (List ℕ)
-grownPaths p s z = grownShortest p s (isPath p s z)
+unfoldable pub grownWalksTo : Plan → ℕ → ℕ → List (List ℕ)
+grownWalksTo p s z = grownShortest p s (isWalkTo p s z)
 
 pub walks-grown : (p : Plan) → shortestWalks p ≡ grownWalks p
 unfolding grownWalks
 walks-grown p = fun-ext (λ s. fun-ext (λ v. fun-ext (λ u. grown-appearance p s v u)))
 
-pub paths-grown : (p : Plan) → shortestPaths p ≡ grownPaths p
-unfolding grownPaths
-paths-grown p = fun-ext (λ s. fun-ext (λ z. grown-pair p s z))
+pub walks-to-grown : (p : Plan) → shortestWalksTo p ≡ grownWalksTo p
+unfolding grownWalksTo
+walks-to-grown p = fun-ext (λ s. fun-ext (λ z. grown-pair p s z))
 
 -- pairs and load by lists of pairs
 unfoldable pub pairsBy : Plan → (ℕ → ℕ → List (List ℕ)) → ℕ → List Ends
@@ -150,10 +149,10 @@ loadBy p P v =
     count (P (e .source) (e .destination)))
     (pairsBy p P v))
 
-pub pairs-by : (p : Plan) (v : ℕ) → pairs p v ≡ length (pairsBy p (grownPaths p) v)
+pub pairs-by : (p : Plan) (v : ℕ) → pairs p v ≡ length (pairsBy p (grownWalksTo p) v)
 unfolding partialPairs pairsBelow through pairsBy
-pairs-by p v = ap (λ P. length (pairsBy p P v)) (paths-grown p)
+pairs-by p v = ap (λ P. length (pairsBy p P v)) (walks-to-grown p)
 
-pub load-by : (p : Plan) (v : ℕ) → load p v ≡ loadBy p (grownPaths p) v
+pub load-by : (p : Plan) (v : ℕ) → load p v ≡ loadBy p (grownWalksTo p) v
 unfolding partialLoad share pairsBelow through pairsBy loadBy
-load-by p v = ap (λ P. loadBy p P v) (paths-grown p)
+load-by p v = ap (λ P. loadBy p P v) (walks-to-grown p)

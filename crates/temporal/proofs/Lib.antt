@@ -30,4 +30,5 @@ pub mod FewLaws
 pub mod RuleLaws
 pub mod WalkLaws
 pub mod PathLaws
+pub mod ReturnLaws
 pub mod PlanLaws

@@ -135,7 +135,7 @@ module _ (p : Plan) (t : Appearance → Bool)
       (apart-or-shorter (start s) w (r .runs) (r .passes))
 
 -- a station is visited by a run, its start counted, where it is a starting point or the last
-visited-starts-or-last :
+pub visited-starts-or-last :
     (v : ℕ) (x : Appearance) (l : List Appearance) →
     member v (x .station ∷ stationsOf l) ≡ (member v (startingPoints x l) || eqb v (lastOr x l .station))
 unfolding member any startingPoints lastOr
@@ -215,6 +215,19 @@ pub last-visited : (y : Appearance) (l : List Appearance) → List·Memᴰ (last
 unfolding lastOr
 last-visited y [] = List·Memᴰ·head refl
 last-visited y (x ∷ l) = List·Memᴰ·tail (last-visited x l)
+
+-- a run that visits no station twice is at the station of its end only there
+pub end-apart :
+    (x : Appearance) (l : List Appearance) → distinct (x .station ∷ stationsOf l) ≡ true →
+    List·Memᴰ (lastOr x l .station) (startingPoints x l) → ⊥
+unfolding startingPoints lastOr
+end-apart x [] d m = List·Memᴰ·not-nil m
+end-apart x (y ∷ l) d m =
+    let (new, apart) = distinct-cons (x .station) (stationsOf (y ∷ l)) .0 d in
+    ⊎-elim
+    (λ same. new (Memᴰ·cast (sym same) (last-visited y l)))
+    (end-apart y l apart)
+    (List·Memᴰ·cases-cons m)
 
 -- from a station to itself the empty list is a path
 pub path-self-empty : (p : Plan) (s : ℕ) → isPath p s s [] ≡ true

@@ -57,6 +57,10 @@ unfolding mayFollow
 follows-intro p t u later (inl first) = rw (lt-ltb t u later, eq-eqb t 0 first)
 follows-intro p t u later (inr waits) = rw (lt-ltb t u later, le-leb (t + p .terms .turnaround) u waits) (or-true (eqb t 0))
 
+-- after the start any slot will do
+pub follows-start : (p : Plan) (u : ℕ) → 0 < u → mayFollow p 0 u ≡ true
+follows-start p u later = follows-intro p 0 u later (inl refl)
+
 -- and in no other case
 pub follows-inv : (p : Plan) (t u : ℕ) → mayFollow p t u ≡ true → (t < u) × ((t ≡ 0) ⊎ (t + p .terms .turnaround ≤ u))
 unfolding mayFollow

@@ -1,4 +1,4 @@
--- How many shortest paths have a station of a set inside: against one station's through count, no station, all stations, the
+-- How many shortest walks have a station of a set inside: against one station's through count, no station, all stations, the
 -- members' through counts, and a larger set. Assumes nothing.
 use Prim.Native.Nat.{ℕ, zero, suc, _+_, _≤_, _<_}
 use native.Mathlib.Omega.{arith}
@@ -11,10 +11,11 @@ use mathlib.Core.Option.{some, bind}
 use borrow.Author.Tests.{eq-eqb, ne-eqb, eqb-true}
 use lib.Dec.{eqb}
 use lib.ListN.{length}
-use Rattle.temporal.specs.Lists.{below, sum, select, any, distinct}
+use Rattle.temporal.specs.Lists.{below, sum, select, any}
 use Rattle.temporal.specs.Plan.{Plan, Terms, Appearance, start}
-use Rattle.temporal.specs.Walk.{run, lastOr, stationsOf, isPath, isInterior}
-use Rattle.temporal.specs.Shortest.{shortestPaths, hops, count, throughIn, through}
+use Rattle.temporal.specs.Walk.{run, lastOr, stationsOf, isAt, isInterior}
+use Rattle.temporal.specs.Definition3.{startingPoints}
+use Rattle.temporal.specs.Shortest.{shortestWalksTo, hops, count, throughIn, through}
 use Rattle.temporal.specs.Set.{touches, touchedIn, touched}
 use Rattle.temporal.specs.Bytes.{planOf}
 use Rattle.temporal.specs.Cause.{planFault}
@@ -32,12 +33,11 @@ use Rattle.temporal.proofs.ListLaws.{
   sum-member,
   sum-zero,
   sum-exchange,
-  distinct-cons,
   length-zero,
 }
-use Rattle.temporal.proofs.PathLaws.{PathBy, path-inv, interior-intro, last-visited}
-use Rattle.temporal.proofs.WalkLaws.{run-cons}
-use Rattle.temporal.proofs.Adequacy.{in-complete-list, walk-ends-within}
+use Rattle.temporal.proofs.PathLaws.{interior-intro}
+use Rattle.temporal.proofs.WalkLaws.{run-cons, ends-inv}
+use Rattle.temporal.proofs.Adequacy.{in-complete-list, no-return, walk-ends-within}
 
 -- ---- lists
 
@@ -100,13 +100,13 @@ module _ (p : Plan) (s z : ℕ) where
   unfolding touched touches
   touched-none m none =
       ap length
-      (select-none (shortestPaths p s z)
+      (select-none (shortestWalksTo p s z)
       (λ w there.
       any-false (λ v. m v && isInterior p s z v w) (below (p .stations)) .1
       (λ v h. rw (none v (mem-below (p .stations) .0 h)))))
 
   -- where there is no path it is 0
-  pub touched-empty : (m : ℕ → Bool) → shortestPaths p s z ≡ [] → touched p s z m ≡ 0
+  pub touched-empty : (m : ℕ → Bool) → shortestWalksTo p s z ≡ [] → touched p s z m ≡ 0
   unfolding touched select
   touched-empty m e = rw e
 
@@ -116,7 +116,7 @@ module _ (p : Plan) (s z : ℕ) where
   unfolding touched touches
   touched-same m m′ same =
       ap length
-      (select-ext (shortestPaths p s z)
+      (select-ext (shortestWalksTo p s z)
       (λ w there.
       any-ext (below (p .stations))
       (λ v h. ap (λ b. b && isInterior p s z v w) (same v (mem-below (p .stations) .0 h)))))
@@ -126,7 +126,7 @@ module _ (p : Plan) (s z : ℕ) where
       (m m′ : ℕ → Bool) → ((v : ℕ) → v < p .stations → m v ≡ true → m′ v ≡ true) → touched p s z m ≤ touched p s z m′
   unfolding touched touches
   touched-larger m m′ more =
-      length-select-less _ _ (shortestPaths p s z)
+      length-select-less _ _ (shortestWalksTo p s z)
       (λ w there e.
       let (v, h, q) = any-true (λ v. m v && isInterior p s z v w) (below (p .stations)) .0 e in
       let (is, inside) = and-eq-true-iff (m v) (isInterior p s z v w) .0 q in
@@ -136,14 +136,14 @@ module _ (p : Plan) (s z : ℕ) where
   pub touched-each : (m : ℕ → Bool) (v : ℕ) → v < p .stations → m v ≡ true → through p s z v ≤ touched p s z m
   unfolding touched through
   touched-each m v h e =
-      length-select-less _ _ (shortestPaths p s z) (λ w there inside. touches-intro m v w h e inside)
+      length-select-less _ _ (shortestWalksTo p s z) (λ w there inside. touches-intro m v w h e inside)
 
   -- It is at most the sum of the members' through counts.
   pub touched-sum :
       (m : ℕ → Bool) → touched p s z m ≤ sum (map (λ v. cond (m v) (through p s z v) 0) (below (p .stations)))
   unfolding touched through touches
   touched-sum m =
-      let l = shortestPaths p s z in
+      let l = shortestWalksTo p s z in
       let ns = below (p .stations) in
       let bound =
       sum-less (λ w. cond (any (λ v. m v && isInterior p s z v w) ns) 1 0)
@@ -181,45 +181,45 @@ module _ (p : Plan) (s z : ℕ) where
   -- so it is for the shortest paths
   pub touched-one : (v : ℕ) → v < p .stations → touched p s z (eqb v) ≡ through p s z v
   unfolding touched through
-  touched-one v h = touched-one-in (shortestPaths p s z) v h
+  touched-one v h = touched-one-in (shortestWalksTo p s z) v h
 
 -- ---- all stations
 
 module _ (bs : List ℕ) (n t : ℕ) (terms : Terms) (ok : planFault bs n t ≡ 0) (s z : ℕ) (source : s < n) where
-  -- a path of more than one hop has the station inside that its first contact leads to
+  -- a shortest walk of more than one hop has the station inside that its first contact leads to
   first-inside :
-      (w : List ℕ) → isPath (planOf bs n t terms) s z w ≡ true → 1 < length w →
+      (w : List ℕ) → List·Memᴰ w (shortestWalksTo (planOf bs n t terms) s z) → 1 < length w →
       (v : ℕ) × (v < n) × (isInterior (planOf bs n t terms) s z v w ≡ true)
-  unfolding run bind lastOr
-  first-inside [] e h = absurd (omega arith)
-  first-inside (i ∷ []) e h = absurd (omega arith)
-  first-inside (i ∷ j ∷ w) e h =
+  unfolding run bind lastOr startingPoints
+  first-inside [] m h = absurd (omega arith)
+  first-inside (i ∷ []) m h = absurd (omega arith)
+  first-inside (i ∷ j ∷ w) m h =
       let p = planOf bs n t terms in
-      let r = path-inv p s z (i ∷ j ∷ w) e in
+      let r = ends-inv p (start s) (isAt z) (i ∷ j ∷ w) (in-complete-list bs n t terms ok s z (i ∷ j ∷ w) .0 m .0) in
       let a = run-cons p (start s) i (j ∷ w) (r .runs) in
       let b = run-cons p (a .next) j w (a .goes-on) in
       let visits : a .next ∷ b .next ∷ b .others ≡ r .visits = ap (_∷_ (a .next)) (b .whole) ∙ a .whole in
-      let apart = subst (λ l. distinct (s ∷ stationsOf l) ≡ true) (sym visits) (r .apart) in
-      let ends = subst (λ l. lastOr (start s) l .station ≡ z) (sym visits) (r .ends) in
-      let (new, rest) = distinct-cons s (stationsOf (a .next ∷ b .next ∷ b .others)) .0 apart in
-      let (once, others) = distinct-cons (a .next .station) (stationsOf (b .next ∷ b .others)) .0 rest in (
+      let (home, sooner) = no-return bs n t terms ok s z (i ∷ j ∷ w) m (r .runs) in
+      let visited = subst (λ l. List·Memᴰ (a .next .station) (stationsOf l)) visits (List·Memᴰ·head refl) in (
         a .next .station,
         walk-ends-within bs n t terms ok s (i ∷ []) (a .next ∷ []) source (rw (a .steps)) .0,
         interior-intro p s z (a .next .station) (i ∷ j ∷ w)
-            (λ q. new (List·Memᴰ·head (sym q)))
-            (λ q. once (Memᴰ·cast (q ∙ sym ends) (last-visited (b .next) (b .others))))
-            (r .runs) (subst (λ l. List·Memᴰ (a .next .station) (stationsOf l)) visits (List·Memᴰ·head refl)),
+            (λ q. home (Memᴰ·cast (sym q) visited))
+            (λ q. sooner
+            (subst (λ l. List·Memᴰ z (startingPoints (start s) l)) visits
+            (List·Memᴰ·tail (List·Memᴰ·head (sym q)))))
+            (r .runs) visited,
       )
 
   -- For all stations it is the count where the pair has more than one hop.
   pub touched-all :
-      (m : ℕ → Bool) → ((v : ℕ) → v < n → m v ≡ true) → 1 < hops (shortestPaths (planOf bs n t terms) s z) →
-      touched (planOf bs n t terms) s z m ≡ count (shortestPaths (planOf bs n t terms) s z)
+      (m : ℕ → Bool) → ((v : ℕ) → v < n → m v ≡ true) → 1 < hops (shortestWalksTo (planOf bs n t terms) s z) →
+      touched (planOf bs n t terms) s z m ≡ count (shortestWalksTo (planOf bs n t terms) s z)
   unfolding touched planOf
   touched-all m every more =
       ap length
-      (select-all (touches (planOf bs n t terms) s z m) (shortestPaths (planOf bs n t terms) s z)
+      (select-all (touches (planOf bs n t terms) s z m) (shortestWalksTo (planOf bs n t terms) s z)
       (λ w there.
-      let (path, size) = in-complete-list bs n t terms ok s z w .0 there in
-      let (v, inside, interior) = first-inside w path (omega arith) in
+      let size = in-complete-list bs n t terms ok s z w .0 there .1 in
+      let (v, inside, interior) = first-inside w there (omega arith) in
       touches-intro (planOf bs n t terms) s z m v w inside (every v inside) interior))

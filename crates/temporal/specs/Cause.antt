@@ -8,7 +8,7 @@ use lib.Dec.{leb, ltb, eqb}
 use lib.ListN.{length}
 use Rattle.temporal.specs.Lists.{below, any}
 use Rattle.temporal.specs.Plan.{Contact, Plan, Terms}
-use Rattle.temporal.specs.Shortest.{shortestWalks, shortestPaths, count}
+use Rattle.temporal.specs.Shortest.{shortestWalks, shortestWalksTo, count}
 use Rattle.temporal.specs.Bytes.{contactAt, records}
 
 -- the number of a cause where it holds, else 0
@@ -89,7 +89,7 @@ appearanceTooMany p s =
 
 -- a station has over 2^64 - 1 shortest walks from s; these are its shortest paths (Adequacy); every station is looked at
 abbrev pub stationTooMany : Plan → ℕ → Bool
-stationTooMany p s = any (λ v. ltb (2 ^ 64 - 1) (count (shortestPaths p s v))) (below (p .stations))
+stationTooMany p s = any (λ v. ltb (2 ^ 64 - 1) (count (shortestWalksTo p s v))) (below (p .stations))
 
 -- 9: an appearance, or a station, has over 2^64 - 1 shortest walks from s
 unfoldable pub tooMany : Plan → ℕ → Bool

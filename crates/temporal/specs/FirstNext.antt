@@ -7,7 +7,7 @@ use mathlib.Core.List.{List, _++_}
 use lib.Dec.{ltb}
 use lib.ListN.{length}
 use Rattle.temporal.specs.Plan.{Terms}
-use Rattle.temporal.specs.Shortest.{shortestPaths}
+use Rattle.temporal.specs.Shortest.{shortestWalksTo}
 use Rattle.temporal.specs.Bytes.{planOf}
 use Rattle.temporal.specs.Cause.{cause, first, unless, planCauses, pairCauses, tooMany}
 use Rattle.temporal.specs.Outcome.{cleared, workSize}
@@ -24,7 +24,7 @@ pub record Question : Type 0 where
 
 -- the complete list of the pair asked about
 unfoldable pub listOf : Question → List (List ℕ)
-listOf q = shortestPaths (planOf (q .bytes) (q .stations) (q .slots) (q .terms)) (q .source) (q .destination)
+listOf q = shortestWalksTo (planOf (q .bytes) (q .stations) (q .slots) (q .terms)) (q .source) (q .destination)
 
 -- 1 to 5, 12 and 6 to 8 of a call that is lent so many entries of the way buffer and so many of the work area
 unfoldable pub wayCauses : Question → ℕ → ℕ → List ℕ

@@ -8,7 +8,7 @@ use lib.Dec.{ltb, eqb}
 use lib.ListN.{length}
 use Rattle.temporal.specs.Lists.{below, sum, product, select, any, firstWhere}
 use Rattle.temporal.specs.Plan.{Plan}
-use Rattle.temporal.specs.Shortest.{shortestPaths, count, through}
+use Rattle.temporal.specs.Shortest.{shortestWalksTo, count, through}
 
 -- an ordered pair: a source and a destination
 pub record Ends : Type 0 where
@@ -19,14 +19,14 @@ pub record Ends : Type 0 where
 unfoldable pub endsBelow : ℕ → ℕ → List Ends
 endsBelow k n = flatMap (λ s. map (λ z. record { source = s; destination = z }) (below n)) (below k)
 
--- how many shortest paths a pair has, and how many of them have v inside
+-- how many shortest walks a pair has, and how many of them have v inside
 abbrev pub countOf : Plan → Ends → ℕ
-countOf p e = count (shortestPaths p (e .source) (e .destination))
+countOf p e = count (shortestWalksTo p (e .source) (e .destination))
 
 abbrev pub throughOf : Plan → ℕ → Ends → ℕ
 throughOf p v e = through p (e .source) (e .destination) v
 
--- whether e is a pair of two different stations with v inside some shortest path of it
+-- whether e is a pair of two different stations with v inside some shortest walk of it
 abbrev pub isPairOf : Plan → ℕ → Ends → Bool
 isPairOf p v e = not (eqb (e .source) (e .destination)) && ltb 0 (throughOf p v e)
 

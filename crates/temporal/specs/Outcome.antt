@@ -7,7 +7,7 @@ use lib.Dec.{ltb}
 use lib.ListN.{length, take, drop, replicate}
 use Rattle.temporal.specs.Lists.{below}
 use Rattle.temporal.specs.Plan.{Plan, Terms}
-use Rattle.temporal.specs.Shortest.{shortestWalks, shortestPaths, hops, count}
+use Rattle.temporal.specs.Shortest.{shortestWalks, shortestWalksTo, hops, count}
 use Rattle.temporal.specs.Bytes.{planOf}
 use Rattle.temporal.specs.Cause.{cause, first, unless, outside, planCauses, wrongTurnaround, stationCauses, tooMany}
 
@@ -57,7 +57,7 @@ appearanceTable p s f =
 
 -- a table of stations: the entry of v stands at place v
 unfoldable pub stationTable : Plan → ℕ → (List (List ℕ) → ℕ) → List ℕ
-stationTable p s f = map (λ v. f (shortestPaths p s v)) (below (p .stations))
+stationTable p s f = map (λ v. f (shortestWalksTo p s v)) (below (p .stations))
 
 -- reach once 1 to 8 and 12 are excluded
 unfoldable pub reached : Plan → ℕ → ReachTables → Outcome (Unit {0}) ReachTables

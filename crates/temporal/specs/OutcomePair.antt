@@ -5,7 +5,7 @@ use mathlib.Core.Bool.{cond, _||_}
 use mathlib.Core.List.{List, [], _∷_, _++_, map}
 use Rattle.temporal.specs.Lists.{below}
 use Rattle.temporal.specs.Plan.{Plan, Terms}
-use Rattle.temporal.specs.Shortest.{shortestPaths, hops, count, through}
+use Rattle.temporal.specs.Shortest.{shortestWalksTo, hops, count, through}
 use Rattle.temporal.specs.Load.{partialPairs, partialLoad, busiestOf}
 use Rattle.temporal.specs.Bytes.{planOf}
 use Rattle.temporal.specs.Cause.{cause, planCauses, wrongTurnaround, wrongSources, pairCauses, tooMany, tooManyBelow, tooManyAnywhere}
@@ -21,7 +21,7 @@ pub record PairBuffers : Type 0 where
   pub throughTable : List ℕ
   pub work : List ℕ
 
--- pair once 1 to 8 and 12 are excluded. Where there is no path: 65535 hops, count 0, and all through counts 0.
+-- pair once 1 to 8 and 12 are excluded. Where there is no walk: 65535 hops, count 0, and all through counts 0.
 unfoldable pub paired : Plan → ℕ → ℕ → PairBuffers → Outcome PairValues PairBuffers
 paired p s z old =
     cond (tooMany p s)
@@ -35,7 +35,7 @@ paired p s z old =
     })
     (record {
       number = 0;
-      values = record { hops = hops (shortestPaths p s z); count = count (shortestPaths p s z) };
+      values = record { hops = hops (shortestWalksTo p s z); count = count (shortestWalksTo p s z) };
       buffers = record {
         throughTable = over (map (through p s z) (below (p .stations))) (old .throughTable);
         work = cleared (workSize (p .stations) (p .slots)) (old .work);

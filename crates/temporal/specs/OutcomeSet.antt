@@ -37,7 +37,7 @@ setCounted p s z set old =
       buffers = cleared (workSize (p .stations) (p .slots)) old;
     })
 
--- How many shortest paths from s to z have at least one member of the set inside. The set is only read; the work area is all
+-- How many shortest walks from s to z have at least one member of the set inside. The set is only read; the work area is all
 -- that is lent to write to.
 unfoldable pub throughSet : List ℕ → ℕ → ℕ → Terms → ℕ → ℕ → List ℕ → List ℕ → Outcome ℕ (List ℕ)
 throughSet bs n t terms s z set old =

@@ -6,7 +6,7 @@ use mathlib.Core.Bool.{cond}
 use mathlib.Core.List.{List, _++_}
 use mathlib.Core.Option.{Option, none, some}
 use Rattle.temporal.specs.Plan.{Plan, Terms}
-use Rattle.temporal.specs.Shortest.{shortestPaths}
+use Rattle.temporal.specs.Shortest.{shortestWalksTo}
 use Rattle.temporal.specs.Bytes.{planOf}
 use Rattle.temporal.specs.Cause.{planCauses, pairCauses, tooMany}
 use Rattle.temporal.specs.Outcome.{Outcome, entered, cleared, short, workSize}
@@ -19,7 +19,7 @@ judged p s z list old =
     (record { number = 9; values = none; buffers = cleared (workSize (p .stations) (p .slots)) old })
     (record {
       number = 0;
-      values = some (verdictOn (shortestPaths p s z) list);
+      values = some (verdictOn (shortestWalksTo p s z) list);
       buffers = cleared (workSize (p .stations) (p .slots)) old;
     })
 

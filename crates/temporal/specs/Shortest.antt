@@ -6,7 +6,7 @@ use mathlib.Core.List.{List, [], _∷_}
 use lib.ListN.{length}
 use Rattle.temporal.specs.Lists.{below, select, tuples}
 use Rattle.temporal.specs.Plan.{Plan}
-use Rattle.temporal.specs.Walk.{isWalk, isPath, isInterior}
+use Rattle.temporal.specs.Walk.{isWalkTo, isWalk, isPath, isInterior}
 
 -- the first list, or the second where the first is empty
 unfoldable pub orElse : List (List ℕ) → List (List ℕ) → List (List ℕ)
@@ -31,8 +31,13 @@ shortest p t = firstNonempty (ofHops p t) (below (p .slots + 1))
 unfoldable pub shortestWalks : Plan → ℕ → ℕ → ℕ → List (List ℕ)
 shortestWalks p s v t = shortest p (isWalk p s v t)
 
--- The shortest paths from s to z: document 01's complete list of a pair, document 002's shortest temporal paths (section
--- 2). They are also shortest among walks, as document 000 has it (Def. 4; Adequacy). Empty where there is no path.
+-- The shortest walks from s to station z, in whatever slot: the complete list of a pair, document 02's least chains (C-21). Empty
+-- where there is no walk. They are the shortest paths below (Adequacy).
+unfoldable pub shortestWalksTo : Plan → ℕ → ℕ → List (List ℕ)
+shortestWalksTo p s z = shortest p (isWalkTo p s z)
+
+-- The shortest paths from s to z: document 01's least ways, document 002's shortest temporal paths (section 2). They are also
+-- shortest among walks, as document 000 has it (Def. 4; Adequacy). Empty where there is no path.
 unfoldable pub shortestPaths : Plan → ℕ → ℕ → List (List ℕ)
 shortestPaths p s z = shortest p (isPath p s z)
 
@@ -45,11 +50,11 @@ hops (w ∷ l) = length w
 abbrev pub count : List (List ℕ) → ℕ
 count l = length l
 
--- How many members of a list of paths from s to z have v inside.
+-- How many members of a list of walks from s to z have v inside; a walk counts once, however often it visits v.
 abbrev pub throughIn : Plan → ℕ → ℕ → List (List ℕ) → ℕ → ℕ
 throughIn p s z l v = length (select (isInterior p s z v) l)
 
--- How many shortest paths from s to z have v inside: document 01's through count, document 002's sigma_sz(v).
+-- How many shortest walks from s to z have v inside: document 01's through count, document 002's sigma_sz(v).
 -- 0 at v = s and at v = z.
 unfoldable pub through : Plan → ℕ → ℕ → ℕ → ℕ
-through p s z v = throughIn p s z (shortestPaths p s z) v
+through p s z v = throughIn p s z (shortestWalksTo p s z) v

@@ -13,7 +13,8 @@ use borrow.Author.Tests.{ltb-false}
 use lib.Dec.{ltb}
 use lib.ListN.{length, take, take-append-drop}
 use lib.Seq.{length-take-le}
-use Rattle.temporal.specs.Shortest.{shortestPaths, hops}
+use Rattle.temporal.specs.Walk.{isAt}
+use Rattle.temporal.specs.Shortest.{shortestWalksTo, hops}
 use Rattle.temporal.specs.Bytes.{planOf}
 use Rattle.temporal.specs.Cause.{first, unless, planCauses, pairCauses}
 use Rattle.temporal.specs.Cursor.{Reply, refused, Moved, stay, Operation, indexIn, move}
@@ -40,7 +41,7 @@ use Rattle.temporal.proofs.CauseLaws.{
 }
 use Rattle.temporal.proofs.ShortestLaws.{hops-bound}
 use Rattle.temporal.proofs.PlanLaws.{slots-within}
-use Rattle.temporal.proofs.Adequacy.{bounded-paths, in-complete-list, complete-list-rises}
+use Rattle.temporal.proofs.Adequacy.{bounded-ends, in-complete-list, complete-list-rises}
 use Rattle.trace.proofs.CursorLaws.{RisingPaths, index-behind, move-agrees}
 
 -- ---- the complete list
@@ -72,12 +73,12 @@ module _ (q : Question) (asked : Asked q) where
 
   -- they have no more positions than the plan has slots
   pub kept-within-slots : keptOf (listOf q) ≤ q .slots
-  unfolding listOf shortestPaths planOf
+  unfolding listOf shortestWalksTo planOf
   kept-within-slots =
       kept-within (listOf q) (q .slots)
       (hops-bound
-      (bounded-paths (planOf (q .bytes) (q .stations) (q .slots) (q .terms))
-      (slots-within (q .bytes) (q .stations) (q .slots) (q .terms) (asked .accepted)) (q .source) (q .destination)))
+      (bounded-ends (planOf (q .bytes) (q .stations) (q .slots) (q .terms))
+      (slots-within (q .bytes) (q .stations) (q .slots) (q .terms) (asked .accepted)) (q .source) (isAt (q .destination))))
 
 -- ---- a call
 

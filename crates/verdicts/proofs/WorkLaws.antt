@@ -8,10 +8,10 @@ use mathlib.Core.List.{List, [], _∷_, List·Memᴰ, List·Memᴰ·head}
 use mathlib.Core.Option.{some}
 use borrow.Author.Tests.{eqb-true}
 use lib.ListN.{length, getD, drop, replicate, length-replicate}
-use Rattle.temporal.specs.Lists.{distinct}
 use Rattle.temporal.specs.Plan.{Plan, Terms, start}
-use Rattle.temporal.specs.Walk.{run, lastOr, holds, isAt, isPath}
-use Rattle.temporal.specs.Shortest.{shortestPaths, hops}
+use Rattle.temporal.specs.Walk.{isAt, isWalkTo}
+use Rattle.temporal.proofs.WalkLaws.{ends-nil}
+use Rattle.temporal.specs.Shortest.{shortestWalksTo, hops}
 use Rattle.temporal.specs.Bytes.{planOf}
 use Rattle.temporal.specs.Cause.{planFault, tooMany}
 use Rattle.temporal.specs.Outcome.{Outcome, over, cleared, workSize}
@@ -34,21 +34,20 @@ use Rattle.verdicts.specs.declared.VerdictAnswer.the-variants.{Judged, R
 use Rattle.verdicts.specs.Answer.{verdictNumber, verdictGiven, verdictOutcome}
 use Rattle.verdicts.specs.Work.{VerdictReady, VerdictWorked}
 
--- the empty list is a path only from a station to itself
-empty-path : (p : Plan) (s z : ℕ) → isPath p s z [] ≡ true → s ≡ z
-unfolding isPath run lastOr holds
-empty-path p s z e = eqb-true s z (and-eq-true-iff (isAt z (start s)) (distinct (s ∷ [])) .0 e .0)
+-- the empty list is a walk only from a station to itself
+empty-walk : (p : Plan) (s z : ℕ) → isWalkTo p s z [] ≡ true → s ≡ z
+empty-walk p s z e = eqb-true s z (sym (ends-nil p (start s) (isAt z)) ∙ e)
 
--- two different stations have a hop between them, or no path
+-- two different stations have a hop between them, or no walk
 pub hops-some : (bs : List ℕ) (n t : ℕ) (terms : Terms) → planFault bs n t ≡ 0 → (s z : ℕ) → s ≢ z
-    → 0 < hops (shortestPaths (planOf bs n t terms) s z)
+    → 0 < hops (shortestWalksTo (planOf bs n t terms) s z)
 unfolding hops
-hops-some bs n t terms ok s z differ = go (shortestPaths (planOf bs n t terms) s z) refl
+hops-some bs n t terms ok s z differ = go (shortestWalksTo (planOf bs n t terms) s z) refl
   where
-    go : (l : List (List ℕ)) → shortestPaths (planOf bs n t terms) s z ≡ l → 0 < hops l
+    go : (l : List (List ℕ)) → shortestWalksTo (planOf bs n t terms) s z ≡ l → 0 < hops l
     go [] e = omega arith
     go ([] ∷ l) e =
-        absurd (differ (empty-path (planOf bs n t terms) s z
+        absurd (differ (empty-walk (planOf bs n t terms) s z
         (in-complete-list bs n t terms ok s z [] .0 (subst (List·Memᴰ []) (sym e) (List·Memᴰ·head refl)) .0)))
     go ((i ∷ w) ∷ l) e = omega arith
 

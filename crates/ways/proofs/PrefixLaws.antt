@@ -15,7 +15,7 @@ use lib.ListN.{length, length-append}
 use Rattle.temporal.specs.Lists.{tuples}
 use Rattle.temporal.specs.Plan.{Contact, Plan, Terms, Appearance, start}
 use Rattle.temporal.specs.Walk.{step, run, lastOr, holds, endsIn, isAt, isWalkTo}
-use Rattle.temporal.specs.Shortest.{ofHops, shortestPaths, hops}
+use Rattle.temporal.specs.Shortest.{ofHops, shortestWalksTo, hops}
 use Rattle.temporal.specs.Bytes.{contactAt, planOf}
 use Rattle.temporal.specs.Cause.{planFault}
 use Rattle.temporal.proofs.ListLaws.{not-both, select-ext, mem-tuples}
@@ -26,7 +26,7 @@ use Rattle.temporal.proofs.WalkLaws.{step-inv, run-append, run-join, last-appen
 use Rattle.temporal.proofs.WalkLaws.{ends-inv, ends-intro, ends-nil, ends-step, ends-after}
 use Rattle.temporal.proofs.Accepted.{accepted}
 use Rattle.temporal.proofs.PlanLaws.{contact-inv, contact-within, slots-within, slots-sorted}
-use Rattle.temporal.proofs.Adequacy.{bounded-ends, shortest-walks-are-paths, walk-ends-within}
+use Rattle.temporal.proofs.Adequacy.{bounded-ends, walk-ends-within}
 use Rattle.counting.proofs.Fewest.{shortest-ofHops}
 use Rattle.ways.specs.Home.{homeFrom}
 use Rattle.ways.specs.Prefix.{endAfter, completes}
@@ -164,13 +164,13 @@ module _ (bs : List ℕ) (n t : ℕ) (terms : Terms) (ok : planFault bs n t ≡ 
         go (i ∷ w) e size = absurd (omega arith)
 
   -- a pair with a path of k hops at least
-  module _ (s z k : ℕ) (inside : s < n) (fewest : k ≡ hops (shortestPaths p s z)) (near : k < 65535) where
-    -- (kept) the pair's hops are what the start has to go
+  module _ (s z k : ℕ) (inside : s < n) (fewest : k ≡ hops (shortestWalksTo p s z)) (near : k < 65535) where
+    -- the pair's hops are what the start has to go
     start-home : homeFrom p z (start s) ≡ k
-    unfolding homeFrom
-    start-home = ap hops (sym (shortest-walks-are-paths bs n t terms ok s z)) ∙ sym fewest
+    unfolding homeFrom shortestWalksTo
+    start-home = sym fewest
 
-    -- (kept) no positions with what their end has to go are fewer
+    -- no positions with what their end has to go are fewer
     start-fewest : (w : List ℕ) {x : Appearance} → endAfter p (start s) w ≡ some x → k ≤ length w + homeFrom p z x
     start-fewest w {x} e = by-cases (decLe 65535 (homeFrom p z x)) (λ h. omega arith) found-there
       where
@@ -193,7 +193,7 @@ module _ (bs : List ℕ) (n t : ℕ) (terms : Terms) (ok : planFault bs n t ≡ 
     unfolding completes holds
     completes-intro w there sum = rw there (eq-eqb _ _ sum)
 
-    -- (kept) no position completes
+    -- no position completes
     pub completes-nil : completes p s z k [] ≡ true
     completes-nil = completes-intro [] (end-nil p (start s)) (omega (arith, start-home))
 
@@ -205,7 +205,7 @@ module _ (bs : List ℕ) (n t : ℕ) (terms : Terms) (ok : planFault bs n t ≡ 
         let size : length (w ++ i ∷ []) ≡ suc (length w) = length-append w (i ∷ []) ∙ omega arith in
         rw (end-snoc p (start s) w i, there, size)
 
-    -- (kept) where one position more completes, so do those before it
+    -- where one position more completes, so do those before it
     pub completes-front : (w : List ℕ) (i : ℕ) → completes p s z k (w ++ i ∷ []) ≡ true → completes p s z k w ≡ true
     unfolding bind
     completes-front w i e =
@@ -277,33 +277,31 @@ module _ (bs : List ℕ) (n t : ℕ) (terms : Terms) (ok : planFault bs n t ≡ 
         go none q = refl
         go (some x) q = at-z x (end-slot s w inside q) (isAt z x) refl
 
-    -- (kept) The complete list is the list of the positions, as many as the pair's hops, that complete.
-    pub complete-list : shortestPaths p s z ≡ ofHops p (completes p s z k) k
-    unfolding ofHops
+    -- The complete list is the list of the positions, as many as the pair's hops, that complete.
+    pub complete-list : shortestWalksTo p s z ≡ ofHops p (completes p s z k) k
+    unfolding ofHops shortestWalksTo
     complete-list =
-        let walks = shortest-walks-are-paths bs n t terms ok s z in
         let m = length (p .contacts) in
-        walks
-        ∙ shortest-ofHops (bounded-ends p (slots-within bs n t terms ok) s (isAt z))
-        ∙ ap (ofHops p (isWalkTo p s z)) (ap hops (sym walks) ∙ sym fewest)
+        shortest-ofHops (bounded-ends p (slots-within bs n t terms ok) s (isAt z))
+        ∙ ap (ofHops p (isWalkTo p s z)) (sym fewest)
         ∙ select-ext (tuples m k) (λ w mem. completes-walk w (mem-tuples m k .0 mem .0))
 
-    -- (kept) Its members are the lists of the pair's hops that complete.
+    -- Its members are the lists of the pair's hops that complete.
     pub mem-complete : {w : List ℕ}
-        → List·Memᴰ w (shortestPaths p s z) ↔ ((length w ≡ k) × (completes p s z k w ≡ true))
+        → List·Memᴰ w (shortestWalksTo p s z) ↔ ((length w ≡ k) × (completes p s z k w ≡ true))
     mem-complete = rw complete-list (mem-ofHops-bounded completes-bounded k)
 
-    -- (kept) Positions that complete begin a member of the complete list: document 01's "leads home".
+    -- Positions that complete begin a member of the complete list: document 01's "leads home".
     pub completes-begins : (w : List ℕ) → completes p s z k w ≡ true
-        → (u : List ℕ) × List·Memᴰ (w ++ u) (shortestPaths p s z)
+        → (u : List ℕ) × List·Memᴰ (w ++ u) (shortestWalksTo p s z)
     completes-begins w e = go (k - length w) w e refl
       where
-        one-longer : (w : List ℕ) (i : ℕ) → (u : List ℕ) × List·Memᴰ ((w ++ i ∷ []) ++ u) (shortestPaths p s z)
-            → (u : List ℕ) × List·Memᴰ (w ++ u) (shortestPaths p s z)
+        one-longer : (w : List ℕ) (i : ℕ) → (u : List ℕ) × List·Memᴰ ((w ++ i ∷ []) ++ u) (shortestWalksTo p s z)
+            → (u : List ℕ) × List·Memᴰ (w ++ u) (shortestWalksTo p s z)
         one-longer w i (u, m) = (i ∷ u, rw append-assoc at m)
 
         go : (d : ℕ) (w : List ℕ) → completes p s z k w ≡ true → k - length w ≡ d
-            → (u : List ℕ) × List·Memᴰ (w ++ u) (shortestPaths p s z)
+            → (u : List ℕ) × List·Memᴰ (w ++ u) (shortestWalksTo p s z)
         go zero w e left =
             let (x, there, sum) = completes-inv w e in
             ([], mem-complete .1 (rw append-nil (omega arith, e)))
@@ -311,17 +309,16 @@ module _ (bs : List ℕ) (n t : ℕ) (terms : Terms) (ok : planFault bs n t ≡ 
             let (i, c) = completes-onward w e (omega arith) in
             one-longer w i (go d (w ++ i ∷ []) c (omega (arith, length-append w (i ∷ []))))
 
-    -- (kept) Positions that begin a member of the complete list complete.
-    pub begins-completes : (u w : List ℕ) → List·Memᴰ (w ++ u) (shortestPaths p s z) → completes p s z k w ≡ true
+    -- Positions that begin a member of the complete list complete.
+    pub begins-completes : (u w : List ℕ) → List·Memᴰ (w ++ u) (shortestWalksTo p s z) → completes p s z k w ≡ true
     begins-completes [] w m = rw append-nil at (mem-complete .0 m .1)
     begins-completes (i ∷ u) w m = completes-front w i (begins-completes u (w ++ i ∷ []) (rw append-assoc m))
 
-    -- (kept) The pair has no more hops than the plan has slots.
+    -- The pair has no more hops than the plan has slots.
     pub hops-within : k ≤ t
-    unfolding planOf
+    unfolding planOf shortestWalksTo
     hops-within =
-        let walks = shortest-walks-are-paths bs n t terms ok s z in
         ⊎-elim
-        (λ e. absurd (omega (arith, hops-empty (shortestPaths p s z) (walks ∙ e))))
-        (λ h. omega (arith, ap hops walks))
+        (λ e. absurd (omega (arith, hops-empty (shortestWalksTo p s z) e)))
+        (λ h. omega arith)
         (hops-bound (bounded-ends p (slots-within bs n t terms ok) s (isAt z)))

@@ -9,7 +9,7 @@ use lib.Dec.{ltb, eqb}
 use lib.ListN.{length, getD, set, take}
 use Rattle.temporal.specs.Plan.{Plan, Terms, turning, Appearance, start}
 use Rattle.temporal.specs.Walk.{step, holds}
-use Rattle.temporal.specs.Shortest.{shortestPaths, hops}
+use Rattle.temporal.specs.Shortest.{shortestWalksTo, hops}
 use Rattle.temporal.specs.Bytes.{records, planOf}
 use Rattle.temporal.specs.Cause.{planFault}
 use Rattle.temporal.specs.Outcome.{over}
@@ -45,7 +45,7 @@ abbrev pub planIn : List ℕ → Pair → Plan
 planIn bs q = planOf bs (q .stations) (q .slots) (termsIn q)
 
 abbrev pub listIn : List ℕ → Pair → List (List ℕ)
-listIn bs q = shortestPaths (planIn bs q) (q .source) (q .destination)
+listIn bs q = shortestWalksTo (planIn bs q) (q .source) (q .destination)
 
 abbrev pub begins : List ℕ → Pair → List ℕ → Bool
 begins bs q = completes (planIn bs q) (q .source) (q .destination) (q .hops)
