@@ -7,7 +7,7 @@ use mathlib.Core.Logic.{_≢_}
 use mathlib.Core.List.{List, [], _∷_}
 use borrow.Author.Tests.{lt-ltb, le-ltb, le-leb, lt-leb, eq-eqb, ne-eqb, ltb-false, leb-false, eqb-false}
 use lib.Dec.{ltb, leb, eqb}
-use Rattle.temporal.specs.Plan.{Terms}
+use Rattle.temporal.specs.Plan.{Terms, Keeps, Lasting}
 use Rattle.temporal.specs.Cause.{cause, first, wrongTurnaround, pairCauses}
 use Rattle.temporal.specs.Outcome.{workSize}
 use Rattle.calls.specs.Call.{pairCallFault}
@@ -93,7 +93,7 @@ module _ (n t : ℕ) (terms : Terms) (s z lent named area : ℕ) where
 -- what a call without such a cause keeps
 pub record FreeCall (n t : ℕ) (terms : Terms) (s z lent named area : ℕ) : Type 0 where
   pub right : wrongTurnaround terms ≡ false
-  pub turns : 0 < terms .turnaround
+  pub units : Lasting t terms
   pub source : s < n
   pub destination : z < n
   pub different : s ≢ z
@@ -102,9 +102,9 @@ pub record FreeCall (n t : ℕ) (terms : Terms) (s z lent named area : ℕ) : Ty
 
 pub free-call :
     (n t : ℕ) (terms : Terms) (s z lent named area : ℕ) → pairCallFault n t terms s z lent named area ≡ 0 →
-    FreeCall n t terms s z lent named area
+    Keeps t terms → FreeCall n t terms s z lent named area
 unfolding pairCallFault pairCauses
-free-call n t terms s z lent named area e =
+free-call n t terms s z lent named area e keeps =
     let right = first-head 11 (wrongTurnaround terms) _ e in
     let rest = first-tail 11 (wrongTurnaround terms) _ e in
     let stations = first-head 5 (leb n s || leb n z) _ rest in
@@ -113,7 +113,7 @@ free-call n t terms s z lent named area e =
     (first-tail 6 (eqb s z) _ (first-tail 5 (leb n s || leb n z) _ rest)) in
     record {
       right = right;
-      turns = terms-inv terms right .0;
+      units = record { turns = terms-inv terms right .0; keeps = keeps };
       source = leb-false n s (or-false-left (leb n s) (leb n z) stations);
       destination = leb-false n z (or-false-right (leb n s) (leb n z) stations);
       different = eqb-false s z same;

@@ -9,7 +9,8 @@ use mathlib.Core.Logic.{_≢_}
 use borrow.Author.Tests.{eqb-false}
 use lib.Dec.{eqb}
 use lib.ListN.{take}
-use Rattle.temporal.specs.Plan.{Terms}
+use Rattle.temporal.specs.Plan.{Terms, turning, Keeps}
+use Rattle.temporal.proofs.PlanLaws.{kept-always}
 use Rattle.temporal.specs.Lists.{below, sum}
 use Rattle.temporal.specs.Shortest.{through}
 use Rattle.temporal.specs.Bytes.{planOf}
@@ -39,43 +40,43 @@ without-cause bs n t terms s z short none =
     let call = first-append-right (planCauses bs n t) _ none in
     (first-append-left (planCauses bs n t) _ none, eqb-false s z (first-head 6 (eqb s z) _ (first-tail 5 _ _ (first-tail 11 _ _ call))))
 
--- pair, of its contract's own equation where the number is 0
+-- (kept) pair, of its contract's own equation where the number is 0
 pair-accounted :
-    (bs : List ℕ) (n t : ℕ) (terms : Terms) (s z : ℕ) (old b : PairBuffers) (x : PairValues) →
+    (bs : List ℕ) (n t : ℕ) (terms : Terms) (s z : ℕ) (old b : PairBuffers) (x : PairValues) → Keeps t terms →
     _≡_ {A = Outcome PairValues PairBuffers} (record { number = 0; values = x; buffers = b }) (pair bs n t terms s z old) →
     sum (take n (b .throughTable)) ≡ x .count * (x .hops - 1)
 unfolding pair
-pair-accounted bs n t terms s z old b x e =
+pair-accounted bs n t terms s z old b x keeps e =
     let (ok, other) = without-cause bs n t terms s z _ (no-first _ _ x old b (paired (planOf bs n t terms) s z old) e) in
     let (values, table) = pair-stored bs n t terms s z ok old b x (no-cause _ _ x old b (paired (planOf bs n t terms) s z old) e) in
     rw (values, table)
-    (first-entries (through (planOf bs n t terms) s z) n (old .throughTable) ∙ shortest-accounted bs n t terms ok s z other)
+    (first-entries (through (planOf bs n t terms) s z) n (old .throughTable) ∙ shortest-accounted bs n t terms ok keeps s z other)
 
 -- (kept) the operation on shortest foremost paths, likewise
 foremost-paths-accounted :
-    (bs : List ℕ) (n t : ℕ) (terms : Terms) (s z : ℕ) (old b : PairBuffers) (x : ForemostValues) →
-    _≡_ {A = Outcome ForemostValues PairBuffers} (record { number = 0; values = x; buffers = b }) (foremost bs n t terms s z old) →
+    (bs : List ℕ) (n t g s z : ℕ) (old b : PairBuffers) (x : ForemostValues) →
+    _≡_ {A = Outcome ForemostValues PairBuffers} (record { number = 0; values = x; buffers = b }) (foremost bs n t (turning g) s z old) →
     sum (take n (b .throughTable)) ≡ x .count * (x .hops - 1)
 unfolding foremost
-foremost-paths-accounted bs n t terms s z old b x e =
-    let (ok, other) = without-cause bs n t terms s z _ (no-first _ _ x old b (foremostPaired (planOf bs n t terms) s z old) e) in
-    let (values, table) = foremost-stored bs n t terms s z ok old b x (no-cause _ _ x old b (foremostPaired (planOf bs n t terms) s z old) e) in
+foremost-paths-accounted bs n t g s z old b x e =
+    let (ok, other) = without-cause bs n t (turning g) s z _ (no-first _ _ x old b (foremostPaired (planOf bs n t (turning g)) s z old) e) in
+    let (values, table) = foremost-stored bs n t (turning g) s z ok (kept-always bs n t ok) old b x (no-cause _ _ x old b (foremostPaired (planOf bs n t (turning g)) s z old) e) in
     rw (values, table)
-    (first-entries (foremostThrough (planOf bs n t terms) s z) n (old .throughTable) ∙ foremost-accounted bs n t terms ok s z other)
+    (first-entries (foremostThrough (planOf bs n t (turning g)) s z) n (old .throughTable) ∙ foremost-accounted bs n t (turning g) ok (kept-always bs n t ok) s z other)
 
 -- (kept) C-15.
 pub account-demand : AccountDemand
 unfolding through foremostThrough planOf
 account-demand =
     record {
-      of-shortest = λ bs n t terms s z ok other. record {
-        inside = shortest-interior bs n t terms ok s z other;
-        total = shortest-accounted bs n t terms ok s z other;
+      of-shortest = λ bs n t terms s z keeps ok other. record {
+        inside = shortest-interior bs n t terms ok keeps s z other;
+        total = shortest-accounted bs n t terms ok keeps s z other;
       };
-      of-shortest-foremost = λ bs n t terms s z ok other. record {
-        inside = foremost-interior bs n t terms ok s z other;
-        total = foremost-accounted bs n t terms ok s z other;
+      of-shortest-foremost = λ bs n t g s z ok other. record {
+        inside = foremost-interior bs n t (turning g) ok (kept-always bs n t ok) s z other;
+        total = foremost-accounted bs n t (turning g) ok (kept-always bs n t ok) s z other;
       };
-      of-pair = λ bs n t terms s z old new r e q. pair-accounted bs n t terms s z old new _ (rw q at e);
-      of-foremost = λ bs n t terms s z old new r e q. foremost-paths-accounted bs n t terms s z old new _ (rw q at e);
+      of-pair = λ bs n t terms s z old new r keeps e q. pair-accounted bs n t terms s z old new _ keeps (rw q at e);
+      of-foremost = λ bs n t g s z old new r e q. foremost-paths-accounted bs n t g s z old new _ (rw q at e);
     }

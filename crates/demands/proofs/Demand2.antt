@@ -10,7 +10,8 @@ use borrow.Author.Tests.{leb-false, eqb-true, eq-eqb}
 use lib.Arith.{digits-lt, digits-div, digits-mod}
 use lib.Dec.{leb}
 use lib.ListN.{length, getD}
-use Rattle.temporal.specs.Plan.{Terms, start}
+use Rattle.temporal.specs.Plan.{Terms, Keeps, start}
+use Rattle.temporal.proofs.PlanLaws.{kept-always}
 use Rattle.temporal.specs.Lists.{below, select}
 use Rattle.temporal.specs.Walk.{isAt, isWalk}
 use Rattle.temporal.specs.Shortest.{shortestWalks, shortestWalksTo, hops, count, through}
@@ -39,7 +40,7 @@ use Rattle.demands.proofs.BetweenLaws.{between-is-interior}
 
 -- ---- reach
 
-module _ (bs : List ℕ) (n t : ℕ) (terms : Terms) (s : ℕ) (ok : planFault bs n t ≡ 0) (inside : s < n) (old x : ReachTables)
+module _ (bs : List ℕ) (n t : ℕ) (terms : Terms) (s : ℕ) (ok : planFault bs n t ≡ 0) (keeps : Keeps t terms) (inside : s < n) (old x : ReachTables)
     (e : _≡_ {A = Outcome (Unit {0}) ReachTables} (record { number = 0; values = tt; buffers = x })
     (reached (planOf bs n t terms) s old)) where
   -- what the four tables hold where 9 is no cause either
@@ -77,7 +78,7 @@ module _ (bs : List ℕ) (n t : ℕ) (terms : Terms) (s : ℕ) (ok : planFault b
   station : (v : ℕ) → v < n → StationList (planOf bs n t terms) s v (getD (x .stationHops) v 0) (getD (x .stationCounts) v 0)
   station v h =
       rw (tables, station-entry hops (old .stationHops) v h, station-entry count (old .stationCounts) v h)
-      (station-listed bs n t terms ok s v)
+      (station-listed bs n t terms ok keeps s v)
 
   appearance :
       (v u : ℕ) → v < n → u < t + 1 →
@@ -108,14 +109,14 @@ module _ (bs : List ℕ) (n t : ℕ) (terms : Terms) (s : ℕ) (ok : planFault b
 
 -- (kept) reach, of its contract's own equation where the number is 0
 reach-accepted :
-    (bs : List ℕ) (n t : ℕ) (terms : Terms) (s : ℕ) (old x : ReachTables) →
+    (bs : List ℕ) (n t : ℕ) (terms : Terms) (s : ℕ) (old x : ReachTables) → Keeps t terms →
     _≡_ {A = Outcome (Unit {0}) ReachTables} (record { number = 0; values = tt; buffers = x }) (reach bs n t terms s old) →
     ReachTold (planOf bs n t terms) s x
 unfolding reach planFault stationCauses
-reach-accepted bs n t terms s old x e =
+reach-accepted bs n t terms s old x keeps e =
     let none = no-first _ tt tt old x (reached (planOf bs n t terms) s old) e in
     let no-six = first-head 5 (leb n s) _ (first-tail 11 _ _ (first-append-right (planCauses bs n t) _ none)) in
-    reach-told bs n t terms s (first-append-left (planCauses bs n t) _ none) (leb-false n s no-six) old x
+    reach-told bs n t terms s (first-append-left (planCauses bs n t) _ none) keeps (leb-false n s no-six) old x
     (no-cause _ tt tt old x (reached (planOf bs n t terms) s old) e)
 
 -- ---- pair
@@ -150,29 +151,30 @@ module _ (bs : List ℕ) (n t : ℕ) (terms : Terms) (s z : ℕ) (ok : planFault
       (true-or-false (tooMany (planOf bs n t terms) s))
 
   -- (kept)
-  pair-told : PairTold (planOf bs n t terms) s z x b
+  pair-told : Keeps t terms → PairTold (planOf bs n t terms) s z x b
   unfolding planOf
-  pair-told =
+  pair-told keeps =
       record {
-        list = rw (stored .0) (station-listed bs n t terms ok s z);
+        list = rw (stored .0) (station-listed bs n t terms ok keeps s z);
         between = λ v h. rw (stored .1) (written (through (planOf bs n t terms) s z) n v (old .throughTable) h ∙ through-between v);
       }
 
 -- (kept) pair, of its contract's own equation where the number is 0
 pair-accepted :
-    (bs : List ℕ) (n t : ℕ) (terms : Terms) (s z : ℕ) (old b : PairBuffers) (x : PairValues) →
+    (bs : List ℕ) (n t : ℕ) (terms : Terms) (s z : ℕ) (old b : PairBuffers) (x : PairValues) → Keeps t terms →
     _≡_ {A = Outcome PairValues PairBuffers} (record { number = 0; values = x; buffers = b }) (pair bs n t terms s z old) →
     PairTold (planOf bs n t terms) s z x b
 unfolding pair planFault
-pair-accepted bs n t terms s z old b x e =
+pair-accepted bs n t terms s z old b x keeps e =
     let none = no-first _ _ x old b (paired (planOf bs n t terms) s z old) e in
     pair-told bs n t terms s z (first-append-left (planCauses bs n t) _ none) old b x
-    (no-cause _ _ x old b (paired (planOf bs n t terms) s z old) e)
+    (no-cause _ _ x old b (paired (planOf bs n t terms) s z old) e) keeps
 
 -- (kept) Demand 2.
 pub demand2 : Demand2
 demand2 =
     record {
-      of-reach = λ bs n t terms s old new r e q. reach-accepted bs n t terms s old new (rw q at e);
-      of-pair = λ bs n t terms s z old new r e q. pair-accepted bs n t terms s z old new _ (rw q at e);
+      always = λ bs n t g ok. kept-always bs n t ok;
+      of-reach = λ bs n t terms s old new r keeps e q. reach-accepted bs n t terms s old new keeps (rw q at e);
+      of-pair = λ bs n t terms s z old new r keeps e q. pair-accepted bs n t terms s z old new _ keeps (rw q at e);
     }

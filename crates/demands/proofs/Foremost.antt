@@ -7,7 +7,8 @@ use mathlib.Core.List.{List, map, List·Memᴰ}
 use mathlib.Core.Logic.{_↔_, _≢_, ⊎-elim}
 use lib.ListN.{length, getD}
 use Rattle.temporal.specs.Lists.{below, select}
-use Rattle.temporal.specs.Plan.{Plan, Terms}
+use Rattle.temporal.specs.Plan.{Plan, Terms, turning, Keeps}
+use Rattle.temporal.proofs.PlanLaws.{kept-always}
 use Rattle.temporal.specs.Walk.{isAppearance, isWalk, isWalkTo}
 use Rattle.temporal.specs.Definition3.{isPath000}
 use Rattle.temporal.specs.Shortest.{shortestWalks, hops, count}
@@ -35,7 +36,7 @@ use Rattle.demands.specs.Foremost.{arrivesIn, ForemostTold, ForemostDema
 use Rattle.demands.proofs.BetweenLaws.{between-in-path}
 use Rattle.demands.proofs.ListedLaws.{listed}
 
-module _ (bs : List ℕ) (n t : ℕ) (terms : Terms) (s z : ℕ) (ok : planFault bs n t ≡ 0) where
+module _ (bs : List ℕ) (n t : ℕ) (terms : Terms) (s z : ℕ) (ok : planFault bs n t ≡ 0) (keeps : Keeps t terms) where
   few-slots : planOf bs n t terms .slots < 65535
   unfolding planOf
   few-slots = let most = accepted bs n t ok .slots in omega arith
@@ -51,7 +52,7 @@ module _ (bs : List ℕ) (n t : ℕ) (terms : Terms) (s z : ℕ) (ok : planFault
       let b = bounded-ends p (slots-within bs n t terms ok) s (isAppearance z (arrival p s z)) in
       listed b few-slots (λ w e. and-eq-true-iff (isPath000 p s z w) _ .0 e .1)
       (λ w m. and-eq-true-iff (isPath000 p s z w) _ .1
-      (path-meets-definition3 p s z w (foremost-walks-are-paths bs n t terms ok s z w m), shortest-mem b .0 m .0))
+      (path-meets-definition3 p s z w (foremost-walks-are-paths bs n t terms ok s z keeps w m), shortest-mem b .0 m .0))
 
   -- some walk arrives in the slot, where it is one
   reached : arrival (planOf bs n t terms) s z ≢ 65535 → (w : List ℕ) × (isWalk (planOf bs n t terms) s z (arrival (planOf bs n t terms) s z) w ≡ true)
@@ -80,7 +81,7 @@ module _ (bs : List ℕ) (n t : ℕ) (terms : Terms) (s z : ℕ) (ok : planFault
         λ e. absurd (let few = few-slots in omega arith),
         λ none-there. ⊎-elim
             (λ empty. absurd (let zero = count-zero (foremostPaths (planOf bs n t terms) s z) .1 empty in omega arith))
-            (λ m. absurd (none-there (m .0) (path-is-walk (planOf bs n t terms) s z (m .0) (foremost-walks-are-paths bs n t terms ok s z (m .0) (m .1)))))
+            (λ m. absurd (none-there (m .0) (path-is-walk (planOf bs n t terms) s z (m .0) (foremost-walks-are-paths bs n t terms ok s z keeps (m .0) (m .1)))))
             (empty-or-member (foremostPaths (planOf bs n t terms) s z)),
       )
 
@@ -96,7 +97,7 @@ module _ (bs : List ℕ) (n t : ℕ) (terms : Terms) (s z : ℕ) (ok : planFault
     through-between v =
         ap length
         (select-ext (foremostPaths (planOf bs n t terms) s z) (λ w m.
-        between-in-path (planOf bs n t terms) s z v w (foremost-walks-are-paths bs n t terms ok s z w m)))
+        between-in-path (planOf bs n t terms) s z v w (foremost-walks-are-paths bs n t terms ok s z keeps w m)))
 
     -- what is answered and stored where 9 is no cause either
     pub stored :
@@ -133,8 +134,9 @@ module _ (bs : List ℕ) (n t : ℕ) (terms : Terms) (s z : ℕ) (ok : planFault
 -- (kept) C-14.
 pub foremost-demand : ForemostDemand
 unfolding foremost planFault
-foremost-demand bs n t terms s z old new r e q =
+foremost-demand bs n t g s z old new r e q =
     let here = rw q at e in
-    let none = no-first _ _ (foremostValues r) old new (foremostPaired (planOf bs n t terms) s z old) here in
-    foremost-told bs n t terms s z (first-append-left (planCauses bs n t) _ none) old new (foremostValues r)
-    (no-cause _ _ (foremostValues r) old new (foremostPaired (planOf bs n t terms) s z old) here)
+    let none = no-first _ _ (foremostValues r) old new (foremostPaired (planOf bs n t (turning g)) s z old) here in
+    foremost-told bs n t (turning g) s z (first-append-left (planCauses bs n t) _ none)
+    (kept-always bs n t (first-append-left (planCauses bs n t) _ none)) old new (foremostValues r)
+    (no-cause _ _ (foremostValues r) old new (foremostPaired (planOf bs n t (turning g)) s z old) here)

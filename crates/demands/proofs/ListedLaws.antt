@@ -8,7 +8,7 @@ use mathlib.Core.List.{List, [], _∷_, List·Memᴰ, List·Memᴰ·head, List·
 use mathlib.Core.Logic.{_↔_}
 use lib.ListN.{length}
 use Rattle.temporal.specs.Lists.{NoneTwice}
-use Rattle.temporal.specs.Plan.{Plan, Terms}
+use Rattle.temporal.specs.Plan.{Plan, Terms, Keeps}
 use Rattle.temporal.specs.Walk.{isAt, isAppearance, isWalk}
 use Rattle.temporal.specs.Shortest.{shortest, shortestWalks, shortestWalksTo, hops, count}
 use Rattle.temporal.specs.Bytes.{planOf}
@@ -118,13 +118,13 @@ module _ (bs : List ℕ) (n t : ℕ) (terms : Terms) (ok : planFault bs n t ≡ 
 
   -- (kept) the list of a station
   pub station-listed :
-      (s v : ℕ) →
+      Keeps t terms → (s v : ℕ) →
       StationList (planOf bs n t terms) s v (hops (shortestWalksTo (planOf bs n t terms) s v)) (count (shortestWalksTo (planOf bs n t terms) s v))
   unfolding shortestWalksTo
-  station-listed s v =
+  station-listed keeps s v =
       let p = planOf bs n t terms in
       listed (bounded-ends p (slots-within bs n t terms ok) s (isAt v)) few-slots (definition3-is-walk p s v)
-      (λ w m. path-meets-definition3 p s v w (listed-path bs n t terms ok s v w m .0))
+      (λ w m. path-meets-definition3 p s v w (listed-path bs n t terms ok keeps s v w m .0))
 
   -- the list of an appearance
   pub appearance-listed :

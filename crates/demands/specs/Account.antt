@@ -6,7 +6,7 @@ use mathlib.Core.List.{List, map, List·Memᴰ}
 use mathlib.Core.Logic.{_≢_}
 use lib.ListN.{take}
 use Rattle.temporal.specs.Lists.{below, sum}
-use Rattle.temporal.specs.Plan.{Plan, Terms}
+use Rattle.temporal.specs.Plan.{Plan, Terms, turning, Keeps}
 use Rattle.temporal.specs.Walk.{HasInside}
 use Rattle.temporal.specs.Shortest.{shortestWalksTo, hops, count, throughIn}
 use Rattle.temporal.specs.Foremost.{foremostPaths}
@@ -28,20 +28,21 @@ pub record HopsAccounted (p : Plan) (s z : ℕ) (l : List (List ℕ)) : Type 0 w
 
 -- C-15. Where there is no path it holds too: the count is 0, and so is every through count.
 pub record AccountDemand : Type 0 where
-  -- the definitions, for two different stations of an accepted plan: the complete list, and the shortest foremost paths (C-14)
+  -- the definitions, for two different stations of an accepted plan: the complete list, where nothing goes stale, and the shortest
+  -- foremost paths (C-14)
   pub of-shortest :
-      (bs : List ℕ) (n t : ℕ) (terms : Terms) (s z : ℕ) → planFault bs n t ≡ 0 → s ≢ z →
+      (bs : List ℕ) (n t : ℕ) (terms : Terms) (s z : ℕ) → Keeps t terms → planFault bs n t ≡ 0 → s ≢ z →
       HopsAccounted (planOf bs n t terms) s z (shortestWalksTo (planOf bs n t terms) s z)
   pub of-shortest-foremost :
-      (bs : List ℕ) (n t : ℕ) (terms : Terms) (s z : ℕ) → planFault bs n t ≡ 0 → s ≢ z →
-      HopsAccounted (planOf bs n t terms) s z (foremostPaths (planOf bs n t terms) s z)
+      (bs : List ℕ) (n t g s z : ℕ) → planFault bs n t ≡ 0 → s ≢ z →
+      HopsAccounted (planOf bs n t (turning g)) s z (foremostPaths (planOf bs n t (turning g)) s z)
   -- the operations, for every call that the contract allows and that is not refused: the first n entries of the through table at
   -- exit, and the count and the hops that are answered
   pub of-pair :
-      (bs : List ℕ) (n t : ℕ) (terms : Terms) (s z : ℕ) (old new : PairBuffers) (r : PairAnswer) →
+      (bs : List ℕ) (n t : ℕ) (terms : Terms) (s z : ℕ) (old new : PairBuffers) (r : PairAnswer) → Keeps t terms →
       pairOutcome r new ≡ pair bs n t terms s z old → pairNumber r ≡ 0 →
       sum (take n (new .throughTable)) ≡ pairValues r .count * (pairValues r .hops - 1)
   pub of-foremost :
-      (bs : List ℕ) (n t : ℕ) (terms : Terms) (s z : ℕ) (old new : PairBuffers) (r : ForemostAnswer) →
-      foremostOutcome r new ≡ foremost bs n t terms s z old → foremostNumber r ≡ 0 →
+      (bs : List ℕ) (n t g s z : ℕ) (old new : PairBuffers) (r : ForemostAnswer) →
+      foremostOutcome r new ≡ foremost bs n t (turning g) s z old → foremostNumber r ≡ 0 →
       sum (take n (new .throughTable)) ≡ foremostValues r .count * (foremostValues r .hops - 1)

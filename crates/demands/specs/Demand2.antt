@@ -8,11 +8,12 @@ use mathlib.Core.List.{List, List·Memᴰ}
 use mathlib.Core.Logic.{_↔_}
 use lib.ListN.{length, take, getD}
 use Rattle.temporal.specs.Lists.{member, select, NoneTwice}
-use Rattle.temporal.specs.Plan.{Plan, Terms, start}
+use Rattle.temporal.specs.Plan.{Plan, Terms, turning, Keeps, start}
 use Rattle.temporal.specs.Walk.{run, stationsOf, holds, isWalkTo, isWalk}
 use Rattle.temporal.specs.Definition3.{isPath000}
 use Rattle.temporal.specs.Shortest.{shortestWalks, shortestWalksTo}
 use Rattle.temporal.specs.Bytes.{planOf}
+use Rattle.temporal.specs.Cause.{planFault}
 use Rattle.temporal.specs.Outcome.{ReachTables, reach}
 use Rattle.temporal.specs.OutcomePair.{PairValues, PairBuffers, pair}
 use Rattle.reach.specs.declared.ReachAnswer.{ReachAnswer}
@@ -68,11 +69,13 @@ pub record PairTold (p : Plan) (s z : ℕ) (x : PairValues) (b : PairBuffers) : 
   pub between :
       (v : ℕ) → v < p .stations → getD (b .throughTable) v 0 ≡ length (select (isBetween p s v) (shortestWalksTo p s z))
 
--- Demand 2, for every call of reach and of pair that its contract allows and that is not refused.
+-- Demand 2, for every call of reach and of pair that its contract allows and that is not refused, where nothing goes stale.
 pub record Demand2 : Type 0 where
+  -- in an accepted plan nothing does with the terms that the operations have
+  pub always : (bs : List ℕ) (n t g : ℕ) → planFault bs n t ≡ 0 → Keeps t (turning g)
   pub of-reach :
-      (bs : List ℕ) (n t : ℕ) (terms : Terms) (s : ℕ) (old new : ReachTables) (r : ReachAnswer) →
+      (bs : List ℕ) (n t : ℕ) (terms : Terms) (s : ℕ) (old new : ReachTables) (r : ReachAnswer) → Keeps t terms →
       reachOutcome r new ≡ reach bs n t terms s old → reachNumber r ≡ 0 → ReachTold (planOf bs n t terms) s new
   pub of-pair :
-      (bs : List ℕ) (n t : ℕ) (terms : Terms) (s z : ℕ) (old new : PairBuffers) (r : PairAnswer) →
+      (bs : List ℕ) (n t : ℕ) (terms : Terms) (s z : ℕ) (old new : PairBuffers) (r : PairAnswer) → Keeps t terms →
       pairOutcome r new ≡ pair bs n t terms s z old → pairNumber r ≡ 0 → PairTold (planOf bs n t terms) s z (pairValues r) new

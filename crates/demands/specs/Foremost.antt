@@ -9,7 +9,7 @@ use mathlib.Core.Logic.{_↔_, _≢_}
 use mathlib.Core.Option.{some}
 use lib.ListN.{length, getD}
 use Rattle.temporal.specs.Lists.{select, Rising}
-use Rattle.temporal.specs.Plan.{Plan, Terms, Appearance, start}
+use Rattle.temporal.specs.Plan.{Plan, Appearance, start, turning}
 use Rattle.temporal.specs.Walk.{run, lastOr, isWalkTo, isWalk}
 use Rattle.temporal.specs.Definition3.{isPath000}
 use Rattle.temporal.specs.Shortest.{shortestWalksTo, hops}
@@ -47,6 +47,6 @@ pub record ForemostTold (p : Plan) (s z : ℕ) (x : ForemostValues) (b : PairBuf
 -- C-14, for every call that the operation's contract allows and that is not refused, from one station to another.
 abbrev pub ForemostDemand : Type 0
 ForemostDemand =
-    (bs : List ℕ) (n t : ℕ) (terms : Terms) (s z : ℕ) (old new : PairBuffers) (r : ForemostAnswer) →
-    foremostOutcome r new ≡ foremost bs n t terms s z old → foremostNumber r ≡ 0 →
-    ForemostTold (planOf bs n t terms) s z (foremostValues r) new
+    (bs : List ℕ) (n t g s z : ℕ) (old new : PairBuffers) (r : ForemostAnswer) →
+    foremostOutcome r new ≡ foremost bs n t (turning g) s z old → foremostNumber r ≡ 0 →
+    ForemostTold (planOf bs n t (turning g)) s z (foremostValues r) new

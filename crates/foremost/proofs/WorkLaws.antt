@@ -54,7 +54,7 @@ module _ (bs : List ℕ) (n t : ℕ) (terms : Terms) (s : ℕ) (old : List ℕ) 
       let inside = ready .source in
       record {
         accepted = ready .accepted;
-        turns = ready .turns;
+        units = ready .units;
         source = ready .source;
         other = λ q. omega arith;
         fits = ready .fits;
@@ -90,7 +90,7 @@ module _ (bs : List ℕ) (n t : ℕ) (terms : Terms) (s z : ℕ) (table area : L
   whole-area =
       let fits = room in
       let lent = ready .area in
-      record { accepted = ready .accepted; turns = ready .turns; source = ready .source; fits = omega arith }
+      record { accepted = ready .accepted; units = ready .units; source = ready .source; fits = omega arith }
 
   module _ (mid : List ℕ) (b : Bool) (a : Appearances bs n t terms s area mid b) where
     area-same : drop (workSize n t) mid ≡ drop (workSize n t) area
@@ -120,7 +120,7 @@ module _ (bs : List ℕ) (n t : ℕ) (terms : Terms) (s z : ℕ) (table area : L
         record {
           ready = record {
             accepted = ready .accepted;
-            turns = ready .turns;
+            units = ready .units;
             source = ready .source;
             destination = ready .destination;
             different = ready .different;

@@ -7,7 +7,7 @@ use mathlib.Core.List.{List}
 use mathlib.Core.Logic.{_≢_}
 use lib.Dec.{eqb}
 use lib.ListN.{length, getD, drop}
-use Rattle.temporal.specs.Plan.{Terms}
+use Rattle.temporal.specs.Plan.{Terms, Lasting}
 use Rattle.temporal.specs.Bytes.{planOf}
 use Rattle.temporal.specs.Shortest.{hops, count}
 use Rattle.temporal.specs.Foremost.{arrival, foremostPaths}
@@ -27,7 +27,7 @@ metAppearance ended.AppearanceTooMany = true
 -- an accepted plan, a turnaround, a source and a work area that is long enough
 pub record AppearancesReady (bs : List ℕ) (n t : ℕ) (terms : Terms) (s : ℕ) (work : List ℕ) : Type 0 where
   pub accepted : planFault bs n t ≡ 0
-  pub turns : 0 < terms .turnaround
+  pub units : Lasting t terms
   pub source : s < n
   pub fits : areaSize n (waiting t terms) 0 ≤ length work
 

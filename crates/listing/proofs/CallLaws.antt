@@ -4,6 +4,7 @@ use native.Mathlib.Omega.{arith}
 use mathlib.Core.Path.{_≡_, sym, ap, _∙_}
 use mathlib.Core.List.{List}
 use lib.ListN.{length}
+use Rattle.temporal.specs.Plan.{Keeps}
 use Rattle.temporal.specs.Cause.{first, planFault, planCauses}
 use Rattle.temporal.specs.Cursor.{refused, Operation}
 use Rattle.temporal.specs.FirstNext.{Question, wayCauses, WayOutcome, wayWork, wayAnswer}
@@ -78,12 +79,12 @@ module _ (o : Operation) (q : Question) (way work : List ℕ) where
           rw (call-decides ok) (unless-none callFaultOf refusal (wayWork o q way work) none)
 
       -- it is ready for the work
-      pub way-ready : WayReady q way work
-      way-ready =
+      pub way-ready : Keeps (q .slots) (q .terms) → WayReady q way work
+      way-ready keeps =
           let none : callFaultOf ≡ 0 = sym answer ∙ ap callCheckNumber e in
           let free =
           free-call (q .stations) (q .slots) (q .terms) (q .source) (q .destination)
-          (length way) (q .slots) (length work) none in
+          (length way) (q .slots) (length work) none keeps in
           record {
             asked = record {
               accepted = ok;
@@ -91,7 +92,7 @@ module _ (o : Operation) (q : Question) (way work : List ℕ) where
               destination = free .destination;
               different = free .different;
             };
-            turns = free .turns;
+            units = free .units;
             room = free .lent-room;
             area = free .area-room;
           }

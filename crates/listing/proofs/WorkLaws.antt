@@ -95,6 +95,7 @@ pairOf q h =
       stations = q .stations;
       slots = q .slots;
       turnaround = q .terms .turnaround;
+      keeping = q .terms .keeping;
       source = q .source;
       destination = q .destination;
       hops = h;
@@ -130,7 +131,7 @@ module _ (q : Question) (way work : List ℕ) (ready : WayReady q way work) wher
       let area = ready .area in
       record {
         accepted = ready .asked .accepted;
-        turns = ready .turns;
+        units = ready .units;
         source = ready .asked .source;
         stations = omega arith;
         fits = omega arith;

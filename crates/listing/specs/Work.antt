@@ -4,6 +4,7 @@ use Prim.Native.Nat.{ℕ, _<_, _≤_}
 use mathlib.Core.Path.{_≡_}
 use mathlib.Core.List.{List}
 use lib.ListN.{length, drop}
+use Rattle.temporal.specs.Plan.{Lasting}
 use Rattle.temporal.specs.Outcome.{workSize}
 use Rattle.temporal.specs.Cursor.{Reply, Operation, Moved, indexIn, move}
 use Rattle.temporal.specs.FirstNext.{Question, listOf, overflow, WayOutcome}
@@ -12,7 +13,7 @@ use Rattle.temporal.specs.Trace.{Asked}
 -- an accepted plan, two different stations of it, a turnaround, and buffers that are long enough
 pub record WayReady (q : Question) (way work : List ℕ) : Type 0 where
   pub asked : Asked q
-  pub turns : 0 < q .terms .turnaround
+  pub units : Lasting (q .slots) (q .terms)
   pub room : q .slots ≤ length way
   pub area : workSize (q .stations) (q .slots) ≤ length work
 

@@ -6,7 +6,7 @@ use mathlib.Core.Bool.{Bool, true, false, cond, _||_}
 use mathlib.Core.List.{List, [], _∷_, map}
 use borrow.Author.Tests.{lt-ltb, le-ltb}
 use lib.ListN.{length, getD, drop, replicate}
-use Rattle.temporal.specs.Plan.{Terms}
+use Rattle.temporal.specs.Plan.{Terms, Keeps}
 use Rattle.temporal.specs.Lists.{below}
 use Rattle.temporal.specs.Load.{partialPairs, partialLoad, load, Busiest}
 use Rattle.temporal.specs.Bytes.{planOf}
@@ -147,9 +147,9 @@ module _ (bs : List ℕ) (n t : ℕ) (terms : Terms) (k : ℕ) (ps ls area : Lis
               entered-work tt _ _
 
           -- what the work asks
-          pub loads-ready : workSize n t ≤ length area → LoadsReady bs n t terms k ps ls area
-          loads-ready h =
-              record { accepted = ok; turns = terms-inv terms right .0; sources = few; pairs-room = a; loads-room = b; area = h }
+          pub loads-ready : workSize n t ≤ length area → Keeps t terms → LoadsReady bs n t terms k ps ls area
+          loads-ready h keeps =
+              record { accepted = ok; units = record { turns = terms-inv terms right .0; keeps = keeps }; sources = few; pairs-room = a; loads-room = b; area = h }
 
 -- the tallies end within the work area
 pub tally-room :
@@ -195,8 +195,8 @@ module _ (bs : List ℕ) (n t : ℕ) (terms : Terms) (area : List ℕ) where
           entered-pass 0 area _ 8 _ [] (le-ltb (length area) (workSize n t) h) ∙ entered-work 0 area _
 
       -- what the work asks
-      pub busiest-ready : workSize n t ≤ length area → BusiestReady bs n t terms area
-      busiest-ready h = record { accepted = ok; turns = terms-inv terms right .0; area = h }
+      pub busiest-ready : workSize n t ≤ length area → Keeps t terms → BusiestReady bs n t terms area
+      busiest-ready h keeps = record { accepted = ok; units = record { turns = terms-inv terms right .0; keeps = keeps }; area = h }
 
   module _ (area′ : List ℕ) (r : Bool) (f : Tallied bs n t terms n area area′ r) (area″ : List ℕ)
       (c : area″ ≡ over (replicate (workSize n t) 0) area′) where

@@ -7,7 +7,7 @@ use mathlib.Core.Bool.{cond}
 use mathlib.Core.List.{List}
 use lib.Dec.{ltb}
 use lib.ListN.{length, getD}
-use Rattle.temporal.specs.Plan.{Terms}
+use Rattle.temporal.specs.Plan.{Terms, Lasting}
 use Rattle.temporal.specs.Cause.{planFault}
 use Rattle.temporal.specs.Outcome.{workSize}
 
@@ -24,7 +24,7 @@ pub record Largest (l : List ℕ) (from k r : ℕ) : Type 0 where
 -- what partial loads asks once 1 to 8, 12 and 13 are excluded
 pub record LoadsReady (bs : List ℕ) (n t : ℕ) (terms : Terms) (k : ℕ) (pairTable loadTable work : List ℕ) : Type 0 where
   pub accepted : planFault bs n t ≡ 0
-  pub turns : 0 < terms .turnaround
+  pub units : Lasting t terms
   pub sources : k ≤ n
   pub pairs-room : n ≤ length pairTable
   pub loads-room : n ≤ length loadTable
@@ -33,5 +33,5 @@ pub record LoadsReady (bs : List ℕ) (n t : ℕ) (terms : Terms) (k : ℕ) (pai
 -- what busiest asks once 1 to 8 and 12 are excluded
 pub record BusiestReady (bs : List ℕ) (n t : ℕ) (terms : Terms) (work : List ℕ) : Type 0 where
   pub accepted : planFault bs n t ≡ 0
-  pub turns : 0 < terms .turnaround
+  pub units : Lasting t terms
   pub area : workSize n t ≤ length work

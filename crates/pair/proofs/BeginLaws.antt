@@ -5,7 +5,8 @@ use mathlib.Core.Path.{_≡_, sym, ap, _∙_}
 use mathlib.Core.Bool.{_||_}
 use mathlib.Core.List.{List, _++_}
 use lib.ListN.{length}
-use Rattle.temporal.specs.Plan.{Terms}
+use Rattle.temporal.specs.Plan.{Terms, turning}
+use Rattle.temporal.proofs.PlanLaws.{kept-always}
 use Rattle.temporal.specs.Cause.{planFault, planCauses, pairCauses}
 use Rattle.temporal.specs.Outcome.{Outcome, entered, short, workSize}
 use Rattle.temporal.specs.OutcomePair.{PairBuffers}
@@ -25,14 +26,14 @@ use Rattle.pair.specs.Throughs.{PairReady}
 
 -- an accepted plan and a free call are what counting asks
 pub call-free :
-    (bs : List ℕ) (n t : ℕ) (terms : Terms) (s z : ℕ) (table area : List ℕ) → planFault bs n t ≡ 0 → (r : CallCheck) →
-    callCheckNumber r ≡ pairCallFault n t terms s z (length table) n (length area) → r ≡ call-check.Free →
-    PairReady bs n t terms s z table area
-call-free bs n t terms s z table area ok r answer e =
-    let f = free-call n t terms s z (length table) n (length area) (sym answer ∙ ap callCheckNumber e) in
+    (bs : List ℕ) (n t g s z : ℕ) (table area : List ℕ) → planFault bs n t ≡ 0 → (r : CallCheck) →
+    callCheckNumber r ≡ pairCallFault n t (turning g) s z (length table) n (length area) → r ≡ call-check.Free →
+    PairReady bs n t (turning g) s z table area
+call-free bs n t g s z table area ok r answer e =
+    let f = free-call n t (turning g) s z (length table) n (length area) (sym answer ∙ ap callCheckNumber e) (kept-always bs n t ok) in
     record {
       accepted = ok;
-      turns = f .turns;
+      units = f .units;
       source = f .source;
       destination = f .destination;
       different = f .different;

@@ -71,7 +71,7 @@ module _ (bs : List ℕ) (n t : ℕ) (terms : Terms) (s z until low block : ℕ)
   -- the pass can be made
   pub block-pass : ColumnsReady bs n t terms s until block area
   block-pass =
-      record { accepted = ok; turns = ready .turns; source = ready .source; other = other; fits = ready .fits }
+      record { accepted = ok; units = ready .units; source = ready .source; other = other; fits = ready .fits }
 
   module _ (area′ : List ℕ) (r : Ended) (passed : ColumnsPassed bs n t terms s until (blockColumn low block) block area area′ r) where
     -- a count over 2^64 - 1
@@ -243,7 +243,7 @@ module _ (bs : List ℕ) (n t : ℕ) (terms : Terms) (s z until : ℕ) (table ar
       let kept = b .table-length in
       record {
         accepted = b .ready .ready .accepted;
-        turns = b .ready .ready .turns;
+        units = b .ready .ready .units;
         source = b .ready .ready .source;
         destination = b .ready .ready .destination;
         different = b .ready .ready .different;

@@ -7,7 +7,7 @@ use mathlib.Core.List.{List}
 use mathlib.Core.Logic.{_⊎_, _≢_}
 use lib.Dec.{eqb}
 use lib.ListN.{length, getD, drop}
-use Rattle.temporal.specs.Plan.{Terms}
+use Rattle.temporal.specs.Plan.{Terms, Lasting}
 use Rattle.temporal.specs.Bytes.{planOf}
 use Rattle.temporal.specs.Cause.{planFault, tooMany}
 use Rattle.temporal.specs.Shortest.{hops, count, throughIn}
@@ -52,7 +52,7 @@ pub record StoredBlock (n z low block k : ℕ) (work old new : List ℕ) : Type 
 -- what counting a pair asks
 pub record PairReady (bs : List ℕ) (n t : ℕ) (terms : Terms) (s z : ℕ) (through work : List ℕ) : Type 0 where
   pub accepted : planFault bs n t ≡ 0
-  pub turns : 0 < terms .turnaround
+  pub units : Lasting t terms
   pub source : s < n
   pub destination : z < n
   pub different : s ≢ z
@@ -73,7 +73,7 @@ pub record BlockReady (bs : List ℕ) (n t : ℕ) (terms : Terms) (s z until low
   pub source : s < n
   pub destination : z < n
   pub different : s ≢ z
-  pub turns : 0 < terms .turnaround
+  pub units : Lasting t terms
   pub asks : Asks n z until
   pub stations : low + block ≤ n
   pub table : n ≤ length through

@@ -21,7 +21,7 @@ use Rattle.temporal.proofs.ListLaws.{any-false, mem-below}
 use Rattle.temporal.proofs.RuleLaws.{Waits, waits-turnaround}
 use Rattle.temporal.proofs.Accepted.{accepted}
 use Rattle.temporal.proofs.ForemostLaws.{arrival-after-start}
-use Rattle.temporal.proofs.PlanLaws.{contact-there, contact-inv, contacts-length, slots-within, slots-sorted}
+use Rattle.temporal.proofs.PlanLaws.{kept-plan, contact-there, contact-inv, contacts-length, slots-within, slots-sorted}
 use Rattle.counting.proofs.Weights.{total, everywhere}
 use Rattle.counting.proofs.Recurrence.{atAppearance, arrivals}
 use Rattle.plan.specs.Record.{inSlot}
@@ -78,7 +78,7 @@ pub ready-waits : (bs : List ℕ) (n t : ℕ) (terms : Terms) (s until block : �
     → Waits (planOf bs n t terms) (waiting t terms)
 unfolding planOf
 ready-waits bs n t terms s until block w r =
-    waits-turnaround (planOf bs n t terms) (accepted bs n t (r .accepted) .some-slot) (r .turns)
+    waits-turnaround (planOf bs n t terms) (kept-plan bs n t terms (r .units .keeps)) (accepted bs n t (r .accepted) .some-slot) (r .units .turns)
 
 -- an area that is ready
 pub ready-area : (bs : List ℕ) (n t : ℕ) (terms : Terms) (s until block : ℕ) (w : List ℕ) → ColumnsReady bs n t terms s until block w
@@ -395,7 +395,7 @@ ready-begun bs n t terms s until block q old begins is ready e =
     let same = begun-length n block q old s (rw is (ready-area bs n t terms s until block old ready)) (ready .source) in
     record {
       accepted = ready .accepted;
-      turns = ready .turns;
+      units = ready .units;
       source = ready .source;
       other = ready .other;
       fits = rw e (omega arith);

@@ -204,7 +204,7 @@ block-ready bs n t terms s low block old ready =
     let inside = ready .source in
     record {
       accepted = ready .accepted;
-      turns = ready .turns;
+      units = ready .units;
       source = ready .source;
       other = λ q. omega arith;
       fits = ready .fits;
@@ -275,7 +275,7 @@ set-ready bs n t terms s z old ready =
     let inside = ready .source in
     record {
       accepted = ready .accepted;
-      turns = ready .turns;
+      units = ready .units;
       source = ready .source;
       other = λ q. omega arith;
       fits = ready .fits;

@@ -9,7 +9,7 @@ use mathlib.Core.List.{List}
 use mathlib.Core.Logic.{_≢_}
 use lib.Dec.{eqb}
 use lib.ListN.{length, getD, drop}
-use Rattle.temporal.specs.Plan.{Terms}
+use Rattle.temporal.specs.Plan.{Terms, Lasting}
 use Rattle.temporal.specs.Bytes.{planOf}
 use Rattle.temporal.specs.Cause.{planFault, tooMany}
 use Rattle.temporal.specs.Shortest.{shortestWalksTo, hops, count, through}
@@ -31,7 +31,7 @@ mostColumns n e q = min n (e / (1 + q) - 2)
 -- what the pass asks: an accepted plan, a turnaround, a source and a block of stations in it, and a work area that is long enough
 pub record PassReady (bs : List ℕ) (n t : ℕ) (terms : Terms) (s low block : ℕ) (work : List ℕ) : Type 0 where
   pub accepted : planFault bs n t ≡ 0
-  pub turns : 0 < terms .turnaround
+  pub units : Lasting t terms
   pub source : s < n
   pub stations : low + block ≤ n
   pub fits : areaSize n (waiting t terms) block ≤ length work
@@ -58,7 +58,7 @@ pub record Passed (bs : List ℕ) (n t : ℕ) (terms : Terms) (s low block : ℕ
 -- what the pass over a set asks: an accepted plan, a turnaround, a source and a destination in it, and a work area that is long enough
 pub record SetReady (bs : List ℕ) (n t : ℕ) (terms : Terms) (s z : ℕ) (work : List ℕ) : Type 0 where
   pub accepted : planFault bs n t ≡ 0
-  pub turns : 0 < terms .turnaround
+  pub units : Lasting t terms
   pub source : s < n
   pub destination : z < n
   pub fits : areaSize n (waiting t terms) 1 ≤ length work

@@ -8,7 +8,7 @@ use mathlib.Core.List.{List}
 use mathlib.Core.Logic.{_⊎_, _≢_}
 use lib.Dec.{ltb, eqb}
 use lib.ListN.{length, getD, drop}
-use Rattle.temporal.specs.Plan.{Terms}
+use Rattle.temporal.specs.Plan.{Terms, Lasting}
 use Rattle.temporal.specs.Bytes.{planOf}
 use Rattle.temporal.specs.Cause.{planFault, appearanceTooMany, stationTooMany}
 use Rattle.temporal.specs.Shortest.{shortestWalks, hops, count}
@@ -21,7 +21,7 @@ use Rattle.pass.specs.Passed.{waiting, areaSize}
 -- an accepted plan, a turnaround, a source in it that the pass does not wait for, and a work area that is long enough
 pub record ColumnsReady (bs : List ℕ) (n t : ℕ) (terms : Terms) (s until block : ℕ) (work : List ℕ) : Type 0 where
   pub accepted : planFault bs n t ≡ 0
-  pub turns : 0 < terms .turnaround
+  pub units : Lasting t terms
   pub source : s < n
   pub other : s ≢ until
   pub fits : areaSize n (waiting t terms) block ≤ length work

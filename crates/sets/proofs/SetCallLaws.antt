@@ -10,7 +10,7 @@ use mathlib.Core.Logic.{_≢_, by-cases, ⊎-elim}
 use borrow.Author.Tests.{lt-ltb, le-ltb, eq-eqb, ne-eqb}
 use lib.Dec.{ltb}
 use lib.ListN.{length, getD, replicate}
-use Rattle.temporal.specs.Plan.{Terms}
+use Rattle.temporal.specs.Plan.{Terms, Keeps}
 use Rattle.temporal.specs.Lists.{any, from, below}
 use Rattle.temporal.specs.Shortest.{shortestWalksTo, hops}
 use Rattle.temporal.specs.Set.{touched}
@@ -34,7 +34,7 @@ use Rattle.plan.proofs.Answers.{number-positive, call-number-within}
 use Rattle.calls.specs.Call.{pairCallFault, callCheckNumber}
 use Rattle.calls.specs.declared.CallCheck.{CallCheck}
 use Rattle.calls.specs.declared.CallCheck.the-variants as call-check
-use Rattle.calls.proofs.CallLaws.{terms-inv, call-free, free-call}
+use Rattle.calls.proofs.CallLaws.{call-free, free-call}
 use Rattle.entries.proofs.SearchLaws.{any-found, any-pass, any-end, any-start}
 use Rattle.pass.specs.Passed.{waiting, areaSize, Counted, SetReady, SetPassed}
 use Rattle.pass.proofs.SizeLaws.{small-fits, first-part}
@@ -155,7 +155,7 @@ pub pass-ready :
 pass-ready bs n t terms s z set area asked =
     record {
       accepted = asked .accepted;
-      turns = terms-inv terms (asked .right) .0;
+      units = asked .units;
       source = asked .source;
       destination = asked .destination;
       fits = let room = asked .area in omega (arith, few-rows bs n t terms (asked .accepted));
@@ -198,12 +198,13 @@ module _ (bs : List ℕ) (n t : ℕ) (terms : Terms) (s z : ℕ) (set area : Lis
           sym (entered-call 0 area work bs n t _ ok ∙ unless-some _ _ _ (omega arith))
 
       -- none of them
-      pub set-asked : r ≡ call-check.Free → SetAsked bs n t terms s z set area
-      set-asked e =
-          let f = free-call n t terms s z (length set) n (length area) (sym answer ∙ ap callCheckNumber e) in
+      pub set-asked : Keeps t terms → r ≡ call-check.Free → SetAsked bs n t terms s z set area
+      set-asked keeps e =
+          let f = free-call n t terms s z (length set) n (length area) (sym answer ∙ ap callCheckNumber e) keeps in
           record {
             accepted = ok;
             right = f .right;
+            units = f .units;
             source = f .source;
             destination = f .destination;
             different = f .different;

@@ -7,7 +7,7 @@ use mathlib.Core.List.{List}
 use mathlib.Core.Logic.{_≢_}
 use lib.Dec.{eqb}
 use lib.ListN.{length, getD}
-use Rattle.temporal.specs.Plan.{Terms}
+use Rattle.temporal.specs.Plan.{Terms, Lasting}
 use Rattle.temporal.specs.Cause.{planFault, wrongTurnaround}
 use Rattle.temporal.specs.Outcome.{workSize}
 
@@ -15,6 +15,7 @@ use Rattle.temporal.specs.Outcome.{workSize}
 pub record SetAsked (bs : List ℕ) (n t : ℕ) (terms : Terms) (s z : ℕ) (set work : List ℕ) : Type 0 where
   pub accepted : planFault bs n t ≡ 0
   pub right : wrongTurnaround terms ≡ false
+  pub units : Lasting t terms
   pub source : s < n
   pub destination : z < n
   pub different : s ≢ z

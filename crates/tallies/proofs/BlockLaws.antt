@@ -64,7 +64,7 @@ module _ (bs : List ℕ) (n t : ℕ) (terms : Terms) (base s low block : ℕ) (o
   block-ready =
       record {
         accepted = pre .accepted;
-        turns = pre .turns;
+        units = pre .units;
         source = pre .source;
         stations = pre .inside;
         fits = let r = pre .room in let a = pre .area in omega arith;
@@ -158,7 +158,7 @@ module _ (bs : List ℕ) (n t : ℕ) (terms : Terms) (base block s : ℕ) (old :
           record {
             accepted = pre .accepted;
             source = pre .source;
-            turns = pre .turns;
+            units = pre .units;
             inside = omega arith;
             area = let a = pre .area in omega (arith, area-less n (waiting t terms) size block (omega arith));
             room =

@@ -79,7 +79,7 @@ module _ (bs : List ℕ) (n t : ℕ) (terms : Terms) (k base block : ℕ) (old :
             record {
               accepted = pre .asked .accepted;
               sources = pre .asked .sources;
-              turns = pre .asked .turns;
+              units = pre .asked .units;
               fits = let f = pre .asked .fits in omega (arith, ap length e, filled-length old base (2 * n) 0);
             };
         block-there = pre .block-there;
@@ -123,7 +123,7 @@ module _ (bs : List ℕ) (n t : ℕ) (terms : Terms) (k base block : ℕ) (old :
         record {
           accepted = pre .asked .accepted;
           source = let few = pre .asked .sources in omega arith;
-          turns = pre .asked .turns;
+          units = pre .asked .units;
           some-block = omega arith;
           area = there;
           room =

@@ -5,7 +5,7 @@ use Prim.Native.Nat.{ℕ, _+_, _<_, _≤_}
 use mathlib.Core.Path.{_≡_}
 use mathlib.Core.Bool.{Bool, false}
 use mathlib.Core.List.{List}
-use Rattle.temporal.specs.Plan.{Terms}
+use Rattle.temporal.specs.Plan.{Terms, Lasting}
 use Rattle.temporal.specs.Bytes.{planOf}
 use Rattle.temporal.specs.Cause.{planFault, tooMany}
 use Rattle.pass.specs.Passed.{waiting, areaSize}
@@ -16,7 +16,7 @@ use Rattle.tallies.specs.Progress.{TallyEntry, State, Room, Kept}
 pub record BlockReady (bs : List ℕ) (n t : ℕ) (terms : Terms) (base s low block : ℕ) (work : List ℕ) : Type 0 where
   pub accepted : planFault bs n t ≡ 0
   pub source : s < n
-  pub turns : 0 < terms .turnaround
+  pub units : Lasting t terms
   pub inside : low + block ≤ n
   pub area : areaSize n (waiting t terms) block ≤ base
   pub room : Room n base block work
@@ -32,7 +32,7 @@ pub record BlockDone (bs : List ℕ) (n t : ℕ) (terms : Terms) (base s low blo
 pub record SourceReady (bs : List ℕ) (n t : ℕ) (terms : Terms) (base block s : ℕ) (work : List ℕ) : Type 0 where
   pub accepted : planFault bs n t ≡ 0
   pub source : s < n
-  pub turns : 0 < terms .turnaround
+  pub units : Lasting t terms
   pub some-block : 0 < block
   pub area : areaSize n (waiting t terms) block ≤ base
   pub room : Room n base block work

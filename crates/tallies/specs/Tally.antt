@@ -7,7 +7,7 @@ use mathlib.Core.Path.{_≡_}
 use mathlib.Core.Bool.{Bool, false}
 use mathlib.Core.List.{List}
 use lib.ListN.{length, getD, drop}
-use Rattle.temporal.specs.Plan.{Terms}
+use Rattle.temporal.specs.Plan.{Terms, Lasting}
 use Rattle.temporal.specs.Bytes.{planOf}
 use Rattle.temporal.specs.Cause.{planFault, tooManyBelow}
 use Rattle.temporal.specs.Load.{partialPairs, partialLoad}
@@ -26,7 +26,7 @@ tallyBase n t terms = areaSize n (waiting t terms) (blockOf n t terms)
 pub record Tallyable (bs : List ℕ) (n t : ℕ) (terms : Terms) (k : ℕ) (work : List ℕ) : Type 0 where
   pub accepted : planFault bs n t ≡ 0
   pub sources : k ≤ n
-  pub turns : 0 < terms .turnaround
+  pub units : Lasting t terms
   pub fits : workSize n t ≤ length work
 
 -- What the tallies promise: whether a count from a source below k is over 2^64 - 1, exactly; where none is, the pairs and the

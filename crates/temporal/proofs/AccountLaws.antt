@@ -14,7 +14,7 @@ use borrow.Author.Tests.{eqb-false, ne-eqb, not-true}
 use lib.Dec.{eqb}
 use lib.ListN.{length, length-map, getElem?}
 use Rattle.temporal.specs.Lists.{below, sum, select, member, distinct}
-use Rattle.temporal.specs.Plan.{Contact, Plan, Terms, Appearance, start, leadsTo}
+use Rattle.temporal.specs.Plan.{Contact, Plan, Terms, Keeps, Appearance, start, leadsTo}
 use Rattle.temporal.specs.Walk.{run, lastOr, stationsOf, isPath, isInterior, HasInside}
 use Rattle.temporal.specs.Shortest.{shortestWalksTo, hops, count, through}
 use Rattle.temporal.specs.Foremost.{arrival, foremostPaths}
@@ -161,12 +161,12 @@ module _ (p : Plan) (g : StationsWithin p) where
 
 -- ---- the complete list, and the shortest foremost paths
 
-module _ (bs : List ℕ) (n t : ℕ) (terms : Terms) (ok : planFault bs n t ≡ 0) (s z : ℕ) (other : s ≢ z) where
+module _ (bs : List ℕ) (n t : ℕ) (terms : Terms) (ok : planFault bs n t ≡ 0) (keeps : Keeps t terms) (s z : ℕ) (other : s ≢ z) where
   -- (kept) Each shortest walk between two different stations of an accepted plan has exactly hops - 1 stations inside, all different.
   pub shortest-interior :
       (w : List ℕ) → List·Memᴰ w (shortestWalksTo (planOf bs n t terms) s z) →
       HasInside (planOf bs n t terms) s z w (hops (shortestWalksTo (planOf bs n t terms) s z) - 1)
-  shortest-interior w m = path-interior-of (planOf bs n t terms) s z other _ w (listed-path bs n t terms ok s z w m)
+  shortest-interior w m = path-interior-of (planOf bs n t terms) s z other _ w (listed-path bs n t terms ok keeps s z w m)
 
   -- (kept) Every hop accounted: their through counts add up to count × (hops - 1). Where there is no path both are 0.
   pub shortest-accounted :
@@ -175,7 +175,7 @@ module _ (bs : List ℕ) (n t : ℕ) (terms : Terms) (ok : planFault bs n t ≡ 
   unfolding through planOf
   shortest-accounted =
       account (planOf bs n t terms) (stations-within bs n t terms ok) s z other (hops (shortestWalksTo (planOf bs n t terms) s z))
-      (shortestWalksTo (planOf bs n t terms) s z) (listed-path bs n t terms ok s z)
+      (shortestWalksTo (planOf bs n t terms) s z) (listed-path bs n t terms ok keeps s z)
 
   -- (kept) a shortest foremost path is a path with the list's hops
   foremost-path :
@@ -183,7 +183,7 @@ module _ (bs : List ℕ) (n t : ℕ) (terms : Terms) (ok : planFault bs n t ≡ 
       (isPath (planOf bs n t terms) s z w ≡ true) × (length w ≡ hops (foremostPaths (planOf bs n t terms) s z))
   unfolding foremostPaths
   foremost-path w m = (
-    foremost-walks-are-paths bs n t terms ok s z w m,
+    foremost-walks-are-paths bs n t terms ok s z keeps w m,
     in-shortest-walks bs n t terms ok s z (arrival (planOf bs n t terms) s z) w .0 m .1,
   )
 

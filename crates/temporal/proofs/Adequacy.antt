@@ -1,5 +1,5 @@
 -- The definitions say what document 01 means: theorems by which no reader has to trust an enumeration or a bound. A law
--- marked (kept) rests on a reading being kept until the plan ends (RuleLaws, follows-earlier).
+-- marked (kept) asks that nothing goes stale (RuleLaws, follows-earlier).
 -- Assumes nothing.
 use Prim.Native.Nat.{ℕ, _+_, _≤_, _<_}
 use native.Mathlib.Omega.{arith}
@@ -12,7 +12,7 @@ use borrow.Author.Tests.{eqb-true}
 use lib.Dec.{eqb}
 use lib.ListN.{length, getElem?}
 use Rattle.temporal.specs.Lists.{sum, below, Rising}
-use Rattle.temporal.specs.Plan.{Contact, Plan, Terms, Appearance, start}
+use Rattle.temporal.specs.Plan.{Contact, Plan, Terms, Keeps, Appearance, start}
 use Rattle.temporal.specs.Walk.{run, lastOr, endsIn, isAt, isWalkTo, isAppearance, isWalk, isPath}
 use Rattle.temporal.specs.Walk.{stationsOf}
 use Rattle.temporal.specs.Shortest.{shortest, shortestWalks, shortestWalksTo, shortestPaths, hops, count}
@@ -20,7 +20,7 @@ use Rattle.temporal.specs.Definition3.{startingPoints, isPath000}
 use Rattle.temporal.specs.Bytes.{contactAt, records, planOf}
 use Rattle.temporal.specs.Cause.{planFault}
 use Rattle.temporal.proofs.Accepted.{accepted}
-use Rattle.temporal.proofs.PlanLaws.{contact-within, slots-within}
+use Rattle.temporal.proofs.PlanLaws.{kept-plan, contact-within, slots-within}
 use Rattle.temporal.proofs.ListLaws.{mem-below, length-below}
 use Rattle.temporal.proofs.ShortestLaws.{
   Bounded,
@@ -128,32 +128,35 @@ module _ (bs : List ℕ) (n t : ℕ) (terms : Terms) (ok : planFault bs n t ≡ 
   unfolding shortestPaths
   in-shortest-paths s z w = shortest-mem (bounded-paths (planOf bs n t terms) (slots-within bs n t terms ok) s z)
 
-  -- (kept) The shortest walks to a station are its shortest paths: the fewest hops over walks and over paths are equal, and
-  -- every walk with that fewest is a path.
-  pub shortest-walks-are-paths :
-      (s z : ℕ) → shortestWalksTo (planOf bs n t terms) s z ≡ shortestPaths (planOf bs n t terms) s z
-  unfolding shortestPaths shortestWalksTo
-  shortest-walks-are-paths s z =
-      sym
-      (shortest-agree (bounded-ends p (slots-within bs n t terms ok) s (isAt z)) (path-is-walk p s z)
-      (λ w e. ⊎-elim inl (λ h. inr (h .walk, h .ends, h .fewer))
-      (walk-or-shorter p (isAt z) (λ x x′ same earlier q. ap (λ v. eqb v z) same ∙ q) z (λ x q. eqb-true (x .station) z q) s w e)))
-    where
-      p : Plan
-      p = planOf bs n t terms
+  -- (kept) Where nothing goes stale
+  module _ (keeps : Keeps t terms) where
+    -- the shortest walks to a station are its shortest paths: the fewest hops over walks and over paths are equal, and every walk
+    -- with that fewest is a path;
+    pub shortest-walks-are-paths :
+        (s z : ℕ) → shortestWalksTo (planOf bs n t terms) s z ≡ shortestPaths (planOf bs n t terms) s z
+    unfolding shortestPaths shortestWalksTo
+    shortest-walks-are-paths s z =
+        sym
+        (shortest-agree (bounded-ends p (slots-within bs n t terms ok) s (isAt z)) (path-is-walk p s z)
+        (λ w e. ⊎-elim inl (λ h. inr (h .walk, h .ends, h .fewer))
+        (walk-or-shorter p (kept-plan bs n t terms keeps) (slots-within bs n t terms ok) (isAt z)
+        (λ x x′ same earlier q. ap (λ v. eqb v z) same ∙ q) z (λ x q. eqb-true (x .station) z q) s w e)))
+      where
+        p : Plan
+        p = planOf bs n t terms
 
-  -- (kept) Every walk from s to z with the pair's hops is a path.
-  pub fewest-walk-is-path :
-      (s z : ℕ) (w : List ℕ) → isWalkTo (planOf bs n t terms) s z w ≡ true →
-      length w ≡ hops (shortestWalksTo (planOf bs n t terms) s z) → isPath (planOf bs n t terms) s z w ≡ true
-  fewest-walk-is-path s z w e fewest =
-      in-shortest-paths s z w .0 (rw (← shortest-walks-are-paths) (in-complete-list s z w .1 (e, fewest))) .0
+    -- every walk from s to z with the pair's hops is a path;
+    pub fewest-walk-is-path :
+        (s z : ℕ) (w : List ℕ) → isWalkTo (planOf bs n t terms) s z w ≡ true →
+        length w ≡ hops (shortestWalksTo (planOf bs n t terms) s z) → isPath (planOf bs n t terms) s z w ≡ true
+    fewest-walk-is-path s z w e fewest =
+        in-shortest-paths s z w .0 (rw (← shortest-walks-are-paths) (in-complete-list s z w .1 (e, fewest))) .0
 
-  -- (kept) A member of the complete list is a path with the pair's hops.
-  pub listed-path :
-      (s z : ℕ) (w : List ℕ) → List·Memᴰ w (shortestWalksTo (planOf bs n t terms) s z) →
-      (isPath (planOf bs n t terms) s z w ≡ true) × (length w ≡ hops (shortestWalksTo (planOf bs n t terms) s z))
-  listed-path s z w m = let (walk, size) = in-complete-list s z w .0 m in (fewest-walk-is-path s z w walk size, size)
+    -- a member of the complete list is a path with the pair's hops.
+    pub listed-path :
+        (s z : ℕ) (w : List ℕ) → List·Memᴰ w (shortestWalksTo (planOf bs n t terms) s z) →
+        (isPath (planOf bs n t terms) s z w ≡ true) × (length w ≡ hops (shortestWalksTo (planOf bs n t terms) s z))
+    listed-path s z w m = let (walk, size) = in-complete-list s z w .0 m in (fewest-walk-is-path s z w walk size, size)
 
   -- Every walk from s to the appearance (v, u) has at least its hops.
   pub appearance-walk-at-least :

@@ -13,7 +13,7 @@ use borrow.Author.Tests.{eqb-true, eq-eqb, ne-eqb, leb-true, le-leb, lt-leb, ltb
 use lib.Dec.{eqb, leb, ltb}
 use lib.ListN.{length}
 use Rattle.temporal.specs.Lists.{below, firstWhere, Rising}
-use Rattle.temporal.specs.Plan.{Plan, Terms, Appearance, start}
+use Rattle.temporal.specs.Plan.{Plan, Terms, Keeps, Appearance, start}
 use Rattle.temporal.specs.Walk.{run, lastOr, holds, endsIn, isAt, isAppearance, isWalk, isWalkTo, isPath}
 use Rattle.temporal.specs.Shortest.{shortest, shortestWalks, shortestWalksTo, hops, count}
 use Rattle.temporal.specs.Foremost.{arrival, foremostPaths, arrivesBy, walksBy}
@@ -24,8 +24,9 @@ use Rattle.temporal.proofs.Adequacy.{bounded-ends, in-complete-list, in
 use Rattle.temporal.proofs.Adequacy.{appearance-walk-at-least, shortest-walks-rise, walk-ends-within}
 use Rattle.temporal.proofs.ListLaws.{not-both, true-or-false, empty-or-member, length-zero, FirstBelow}
 use Rattle.temporal.proofs.ListLaws.{passes-nowhere, passes-first, first-below, member-not-empty}
-use Rattle.temporal.proofs.PathLaws.{path-is-walk, path-inv, walk-or-shorter}
-use Rattle.temporal.proofs.PlanLaws.{slots-within}
+use Rattle.temporal.proofs.RuleLaws.{Kept}
+use Rattle.temporal.proofs.PathLaws.{walk-or-shorter}
+use Rattle.temporal.proofs.PlanLaws.{kept-plan, slots-within}
 use Rattle.temporal.proofs.ShortestLaws.{Bounded, shortest-mem, shortest-least, shortest-fails, shortest-ext}
 use Rattle.temporal.proofs.ShortestLaws.{count-zero, hops-bound, hops-implies, found, nowhere, at-hops, Found, least-member}
 use Rattle.temporal.proofs.WalkLaws.{SlotsWithin, run-length, run-slots, run-last-within, ends-inv, ends-intro}
@@ -73,15 +74,15 @@ some-shortest {p} {t} b w q = go (found b)
 
 module _ (p : Plan) (fits : SlotsWithin p) (s z : ℕ) where
   -- (kept) The shortest walks by a slot are paths.
-  pub walks-by-are-paths : (e : ℕ) (w : List ℕ) → List·Memᴰ w (walksBy p s z e) → isPath p s z w ≡ true
+  pub walks-by-are-paths : Kept p → (e : ℕ) (w : List ℕ) → List·Memᴰ w (walksBy p s z e) → isPath p s z w ≡ true
   unfolding walksBy
-  walks-by-are-paths e w m =
+  walks-by-are-paths kept e w m =
       let b = bounded-ends p fits s (arrivesBy z e) in
       let (q, fewest) = shortest-mem b .0 m in
       ⊎-elim
       (λ path. path)
       (λ h. absurd (let least = shortest-least b (h .ends) in let fewer = h .fewer in omega arith))
-      (walk-or-shorter p (arrivesBy z e) (by-sooner z e) z (by-station z e) s w q)
+      (walk-or-shorter p kept fits (arrivesBy z e) (by-sooner z e) z (by-station z e) s w q)
 
   -- By the plan's last slot they are the shortest of all walks to z.
   pub walks-by-last : walksBy p s z (p .slots) ≡ shortest p (isWalkTo p s z)
@@ -161,7 +162,7 @@ module _ (p : Plan) (fits : SlotsWithin p) (s z : ℕ) where
           (λ sooner. absurd (unreached last (n last sooner) w (in-its-slot w l runs there)))
           (λ other. omega arith)
 
-  -- (kept) By the arrival, or by the last slot where it is never reached, they are the shortest foremost paths.
+  -- By the arrival, or by the last slot where it is never reached, they are the shortest foremost paths.
   pub walks-by-arrival : p .slots < 65535 → walksBy p s z (min (p .slots) (arrival p s z)) ≡ foremostPaths p s z
   unfolding walksBy foremostPaths shortestWalks isWalk arrivesBy
   walks-by-arrival few = go arrival-or-never
@@ -287,13 +288,14 @@ module _ (bs : List ℕ) (n t : ℕ) (terms : Terms) (ok : planFault bs n t ≡ 
 
   -- (kept) Every shortest foremost path is a path: it visits no station twice, its source and destination among them.
   pub foremost-walks-are-paths :
-      (w : List ℕ) → List·Memᴰ w (foremostPaths (planOf bs n t terms) s z) → isPath (planOf bs n t terms) s z w ≡ true
-  foremost-walks-are-paths w m =
-      walks-by-are-paths (planOf bs n t terms) (slots-within bs n t terms ok) s z (min t (arrival (planOf bs n t terms) s z)) w
+      Keeps t terms → (w : List ℕ) → List·Memᴰ w (foremostPaths (planOf bs n t terms) s z) → isPath (planOf bs n t terms) s z w ≡ true
+  foremost-walks-are-paths keeps w m =
+      walks-by-are-paths (planOf bs n t terms) (slots-within bs n t terms ok) s z (kept-plan bs n t terms keeps) (min t (arrival (planOf bs n t terms) s z)) w
       (subst (λ l. List·Memᴰ w l) (sym foremost-by-arrival) m)
 
   -- A number that is no station's is never reached.
   pub arrival-outside : s < n → n ≤ z → arrival (planOf bs n t terms) s z ≡ 65535
+  unfolding foremostPaths isWalk
   arrival-outside source outside = go (arrival-or-never (planOf bs n t terms) (slots-within bs n t terms ok) s z)
     where
       go : Arrival (planOf bs n t terms) (slots-within bs n t terms ok) s z → arrival (planOf bs n t terms) s z ≡ 65535
@@ -302,9 +304,10 @@ module _ (bs : List ℕ) (n t : ℕ) (terms : Terms) (ok : planFault bs n t ≡ 
           ⊎-elim
           (λ empty. absurd (let zero = count-zero (foremostPaths (planOf bs n t terms) s z) .1 empty in omega arith))
           (λ m.
-          let r = path-inv (planOf bs n t terms) s z (m .0) (foremost-walks-are-paths (m .0) (m .1)) in
+          let r = ends-inv (planOf bs n t terms) (start s) (isAppearance z (arrival (planOf bs n t terms) s z)) (m .0)
+          (in-shortest-walks bs n t terms ok s z (arrival (planOf bs n t terms) s z) (m .0) .0 (m .1) .0) in
           let inside = walk-ends-within bs n t terms ok s (m .0) (r .visits) source (r .runs) .0 in
-          let ends = r .ends in
+          let ends = eqb-true _ z (and-eq-true-iff _ _ .0 (r .passes) .0) in
           absurd (omega arith))
           (empty-or-member (foremostPaths (planOf bs n t terms) s z))
 
@@ -322,15 +325,15 @@ module _ (bs : List ℕ) (n t : ℕ) (terms : Terms) (ok : planFault bs n t ≡ 
   -- (kept) A list of positions is among the shortest foremost paths exactly if it is a path from s to z that arrives in the
   -- earliest slot, and no path that does has fewer hops.
   pub in-foremost-paths :
-      (w : List ℕ) →
+      Keeps t terms → (w : List ℕ) →
       List·Memᴰ w (foremostPaths (planOf bs n t terms) s z) ↔
       ((isPath (planOf bs n t terms) s z w ≡ true) × (isWalk (planOf bs n t terms) s z (arrival (planOf bs n t terms) s z) w ≡ true) ×
       ((u : List ℕ) → isPath (planOf bs n t terms) s z u ≡ true →
       isWalk (planOf bs n t terms) s z (arrival (planOf bs n t terms) s z) u ≡ true → length w ≤ length u))
   unfolding foremostPaths
-  in-foremost-paths w = (
+  in-foremost-paths keeps w = (
     λ m. let (walks, fewest) = in-shortest-walks bs n t terms ok s z a w .0 m in (
-      foremost-walks-are-paths w m,
+      foremost-walks-are-paths keeps w m,
       walks,
       λ u path q. let least = appearance-walk-at-least bs n t terms ok s z a u q in omega arith,
     ),
@@ -353,7 +356,7 @@ module _ (bs : List ℕ) (n t : ℕ) (terms : Terms) (ok : planFault bs n t ≡ 
           (λ m.
           let (walks, same) = in-shortest-walks bs n t terms ok s z a (m .0) .0 (m .1) in
           let low = appearance-walk-at-least bs n t terms ok s z a w q in
-          let high = least (m .0) (foremost-walks-are-paths (m .0) (m .1)) walks in
+          let high = least (m .0) (foremost-walks-are-paths keeps (m .0) (m .1)) walks in
           omega arith)
           (empty-or-member (shortestWalks (planOf bs n t terms) s z a))
 
@@ -381,10 +384,12 @@ module _ (bs : List ℕ) (n t : ℕ) (terms : Terms) (ok : planFault bs n t ≡ 
   pub foremost-among-shortest :
       hops (foremostPaths (planOf bs n t terms) s z) ≡ hops (shortestWalksTo (planOf bs n t terms) s z) → (w : List ℕ) →
       List·Memᴰ w (foremostPaths (planOf bs n t terms) s z) → List·Memᴰ w (shortestWalksTo (planOf bs n t terms) s z)
-  unfolding foremostPaths
+  unfolding foremostPaths isWalk
   foremost-among-shortest same w m =
+      let (walk, size) = in-shortest-walks bs n t terms ok s z (arrival (planOf bs n t terms) s z) w .0 m in
+      let r = ends-inv (planOf bs n t terms) (start s) (isAppearance z (arrival (planOf bs n t terms) s z)) w walk in
       in-complete-list bs n t terms ok s z w .1
-      (path-is-walk (planOf bs n t terms) s z w (foremost-walks-are-paths w m), in-shortest-walks bs n t terms ok s z (arrival (planOf bs n t terms) s z) w .0 m .1 ∙ same)
+      (ends-intro (planOf bs n t terms) (start s) (isAt z) w (r .runs) (and-eq-true-iff _ _ .0 (r .passes) .0), size ∙ same)
 
 -- They rise in lexicographic order, so none stands among them twice.
 pub foremost-paths-rise : (p : Plan) (s z : ℕ) → Rising (foremostPaths p s z)

@@ -20,6 +20,7 @@ use Rattle.temporal.specs.Walk.{isAt, isWalkTo, isAppearance, isWalk, is
 use Rattle.temporal.specs.Definition3.{startingPoints, isPath000}
 use Rattle.temporal.proofs.OptionLaws.{holds-inv}
 use Rattle.temporal.proofs.ListLaws.{member-true, distinct-cons, sum-zero, sum-of-guarded}
+use Rattle.temporal.proofs.RuleLaws.{Kept}
 use Rattle.temporal.proofs.WalkLaws.{step-later, step-earlier, run-nil, run-cons, SlotsWithin, run-last-within}
 use Rattle.temporal.proofs.WalkLaws.{ends-inv, ends-intro, ends-nil, ends-step, ends-after}
 
@@ -60,7 +61,7 @@ pub record Shorter (p : Plan) (x : Appearance) (t : Appearance → Bool) (w : Li
   pub fewer : length walk < length w
 
 -- Walks that end in a test which an earlier appearance passes wherever a later one of its station does.
-module _ (p : Plan) (t : Appearance → Bool)
+module _ (p : Plan) (kept : Kept p) (fits : SlotsWithin p) (t : Appearance → Bool)
     (sooner : (x x′ : Appearance) → x′ .station ≡ x .station → x′ .slot ≤ x .slot → t x ≡ true → t x′ ≡ true) where
   -- (kept) Such a walk from an appearance is one from each earlier appearance of its station.
   pub ends-earlier :
@@ -69,7 +70,7 @@ module _ (p : Plan) (t : Appearance → Bool)
   ends-earlier x x′ [] same earlier e = ends-nil p x′ t ∙ sooner x x′ same earlier (sym (ends-nil p x t) ∙ e)
   ends-earlier x x′ (i ∷ w) same earlier e =
       let (y, steps, rest) = ends-step p x t i w e in
-      ends-after p x′ t i w (step-earlier p x x′ i same earlier steps) rest
+      ends-after p x′ t i w (step-earlier p kept fits x x′ i same earlier steps) rest
 
   -- (kept) Of a walk that visits the station of x in a later slot, what follows that visit may follow x.
   shortcut :

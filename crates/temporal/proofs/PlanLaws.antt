@@ -10,12 +10,13 @@ use mathlib.Core.List.{List, [], _∷_, map}
 use mathlib.Core.Option.{Option, some}
 use lib.ListN.{length, length-map, getElem?}
 use Rattle.temporal.specs.Lists.{from, below}
-use Rattle.temporal.specs.Plan.{Contact, Terms}
+use Rattle.temporal.specs.Plan.{Contact, Terms, Keeps}
 use Rattle.temporal.specs.Bytes.{contactAt, records, planOf}
 use Rattle.temporal.specs.Cause.{isAbove, planFault}
 use Rattle.temporal.proofs.Accepted.{Accepted, ContactWithin, accepted}
 use Rattle.temporal.proofs.ListLaws.{length-below}
 use Rattle.temporal.proofs.OptionLaws.{position-below}
+use Rattle.temporal.proofs.RuleLaws.{Kept}
 use Rattle.temporal.proofs.WalkLaws.{SlotsWithin}
 
 getElem-map-from : {A : Type 0} (f : ℕ → A) (i k j : ℕ) → j < k → getElem? (map f (from i k)) j ≡ some (f (i + j))
@@ -36,6 +37,15 @@ above-slots c d e =
   where
     neither : (c .slot < d .slot → ⊥) → (c .slot ≡ d .slot → ⊥) → isAbove c d ≡ false
     neither h q = rw (le-ltb (c .slot) (d .slot) (omega arith), ne-eqb (c .slot) (d .slot) q)
+
+-- in an accepted plan nothing goes stale that is kept for 255 slots
+pub kept-always : (bs : List ℕ) (n t : ℕ) → planFault bs n t ≡ 0 → t ≤ 255 + 1
+kept-always bs n t ok = let most = accepted bs n t ok .slots in omega arith
+
+-- in a plan of t slots nothing goes stale where nothing does in t slots
+pub kept-plan : (bs : List ℕ) (n t : ℕ) (terms : Terms) → Keeps t terms → Kept (planOf bs n t terms)
+unfolding planOf
+kept-plan bs n t terms keeps = record { lasts = keeps }
 
 module _ (bs : List ℕ) (n t : ℕ) (terms : Terms) where
   -- the contact at a position is the record there

@@ -51,41 +51,65 @@ pub follows-later : (p : Plan) (t u : ℕ) → mayFollow p t u ≡ true → t < 
 unfolding mayFollow
 follows-later p t u e = ltb-true t u (and-eq-true-iff (ltb t u) _ .0 e .0)
 
--- it does where it is in a later slot and the start comes before it, or as many slots lie between as the turnaround asks
-pub follows-intro : (p : Plan) (t u : ℕ) → t < u → (t ≡ 0) ⊎ (t + p .terms .turnaround ≤ u) → mayFollow p t u ≡ true
+-- as many slots lie between as the turnaround asks, and no more than a reading is kept
+pub record InTime (p : Plan) (t u : ℕ) : Type 0 where
+  pub turned : t + p .terms .turnaround ≤ u
+  pub fresh : u ≤ t + p .terms .keeping
+
+-- it does where it is in a later slot, and the start comes before it or it is in time
+pub follows-intro : (p : Plan) (t u : ℕ) → t < u → (t ≡ 0) ⊎ InTime p t u → mayFollow p t u ≡ true
 unfolding mayFollow
 follows-intro p t u later (inl first) = rw (lt-ltb t u later, eq-eqb t 0 first)
-follows-intro p t u later (inr waits) = rw (lt-ltb t u later, le-leb (t + p .terms .turnaround) u waits) (or-true (eqb t 0))
+follows-intro p t u later (inr w) =
+    rw (lt-ltb t u later, le-leb (t + p .terms .turnaround) u (w .turned), le-leb u (t + p .terms .keeping) (w .fresh)) (or-true (eqb t 0))
 
 -- after the start any slot will do
 pub follows-start : (p : Plan) (u : ℕ) → 0 < u → mayFollow p 0 u ≡ true
 follows-start p u later = follows-intro p 0 u later (inl refl)
 
 -- and in no other case
-pub follows-inv : (p : Plan) (t u : ℕ) → mayFollow p t u ≡ true → (t < u) × ((t ≡ 0) ⊎ (t + p .terms .turnaround ≤ u))
+pub follows-inv : (p : Plan) (t u : ℕ) → mayFollow p t u ≡ true → (t < u) × ((t ≡ 0) ⊎ InTime p t u)
 unfolding mayFollow
 follows-inv p t u e =
     let both = and-eq-true-iff (ltb t u) _ .0 e in
     (ltb-true t u (both .0), go (eqb t 0) refl (both .1))
   where
-    go : (b : Bool) → eqb t 0 ≡ b → (b || leb (t + p .terms .turnaround) u) ≡ true
-        → (t ≡ 0) ⊎ (t + p .terms .turnaround ≤ u)
+    go : (b : Bool) → eqb t 0 ≡ b → (b || (leb (t + p .terms .turnaround) u && leb u (t + p .terms .keeping))) ≡ true
+        → (t ≡ 0) ⊎ InTime p t u
     go true q h = inl (eqb-true t 0 q)
-    go false q h = inr (leb-true (t + p .terms .turnaround) u h)
+    go false q h =
+        let (turned, fresh) = and-eq-true-iff (leb (t + p .terms .turnaround) u) (leb u (t + p .terms .keeping)) .0 h in
+        inr (record { turned = leb-true (t + p .terms .turnaround) u turned; fresh = leb-true u (t + p .terms .keeping) fresh })
 
--- What may follow an appearance may follow an earlier one. This law rests on a reading being kept until the plan ends;
--- each law that cites it, directly or through another, is marked "(kept)".
-pub follows-earlier : (p : Plan) (t t′ u : ℕ) → t′ ≤ t → mayFollow p t u ≡ true → mayFollow p t′ u ≡ true
-follows-earlier p t t′ u h e =
+-- Nothing goes stale: what is heard in a plan is kept until it ends. A law that asks for this is marked "(kept)".
+pub record Kept (p : Plan) : Type 0 where
+  pub lasts : p .slots ≤ p .terms .keeping + 1
+
+-- (kept) What may follow an appearance may follow an earlier one.
+pub follows-earlier :
+    (p : Plan) → Kept p → (t t′ u : ℕ) → t′ ≤ t → u ≤ p .slots → mayFollow p t u ≡ true → mayFollow p t′ u ≡ true
+follows-earlier p kept t t′ u h inside e =
     let (later, waits) = follows-inv p t u e in
-    follows-intro p t′ u (omega arith) (⊎-elim (λ first. inl (omega arith)) (λ long. inr (omega arith)) waits)
+    by-cases (ℕ-discrete t′ 0)
+    (λ first. follows-intro p t′ u (omega arith) (inl first))
+    (λ other.
+    ⊎-elim
+    (λ first. absurd (omega arith))
+    (λ w. let turned = w .turned in let lasts = kept .lasts in
+    follows-intro p t′ u (omega arith) (inr (record { turned = omega arith; fresh = omega arith })))
+    waits)
 
--- With a turnaround of one slot the rule is that slots rise strictly.
-pub turning-one : (p : Plan) (t u : ℕ) → p .terms .turnaround ≡ 1 → mayFollow p t u ≡ ltb t u
-turning-one p t u one = go (ltb t u) refl
+-- (kept) With a turnaround of one slot the rule is, in the slots of the plan, that slots rise strictly.
+pub turning-one : (p : Plan) → Kept p → (t u : ℕ) → p .terms .turnaround ≡ 1 → u ≤ p .slots → mayFollow p t u ≡ ltb t u
+turning-one p kept t u one inside = go (ltb t u) refl
   where
     go : (b : Bool) → ltb t u ≡ b → mayFollow p t u ≡ b
-    go true q = let later = ltb-true t u q in follows-intro p t u later (inr (omega arith))
+    go true q =
+        let later = ltb-true t u q in
+        let lasts = kept .lasts in
+        follows-intro p t u later
+        (by-cases (ℕ-discrete t 0) (λ first. inl first)
+        (λ other. inr (record { turned = omega arith; fresh = omega arith })))
     go false q =
         let by = ltb-false t u q in
         not-true-false (mayFollow p t u) (λ e. let later = follows-later p t u e in omega arith)
@@ -98,8 +122,9 @@ pub record Waits (p : Plan) (q : ℕ) : Type 0 where
   pub follows : (t u : ℕ) → 0 < u → u ≤ p .slots → mayFollow p t u ≡ leb t (u - q)
 
 -- (kept) what is heard waits as many slots as the turnaround says, but no longer than there are slots
-pub waits-turnaround : (p : Plan) → 0 < p .slots → 0 < p .terms .turnaround → Waits p (min (p .terms .turnaround) (p .slots))
-waits-turnaround p has turns =
+pub waits-turnaround :
+    (p : Plan) → Kept p → 0 < p .slots → 0 < p .terms .turnaround → Waits p (min (p .terms .turnaround) (p .slots))
+waits-turnaround p kept has turns =
     record { some = omega arith; most = omega arith; follows = λ t u low high. go t u low high (leb t (u - q)) refl }
   where
     q : ℕ
@@ -108,15 +133,17 @@ waits-turnaround p has turns =
     go : (t u : ℕ) → 0 < u → u ≤ p .slots → (b : Bool) → leb t (u - q) ≡ b → mayFollow p t u ≡ b
     go t u low high true e =
         let by = leb-true t (u - q) e in
+        let lasts = kept .lasts in
         follows-intro p t u (omega arith)
-        (by-cases (ℕ-discrete t 0) (λ first. inl first) (λ other. inr (omega arith)))
+        (by-cases (ℕ-discrete t 0) (λ first. inl first)
+        (λ other. inr (record { turned = omega arith; fresh = omega arith })))
     go t u low high false e =
         let past = leb-false t (u - q) e in
         not-true-false (mayFollow p t u) (λ f. none (follows-inv p t u f) past)
       where
-        none : (t < u) × ((t ≡ 0) ⊎ (t + p .terms .turnaround ≤ u)) → u - q < t → ⊥
+        none : (t < u) × ((t ≡ 0) ⊎ InTime p t u) → u - q < t → ⊥
         none (later, inl first) past = omega arith
-        none (later, inr long) past = omega arith
+        none (later, inr w) past = let turned = w .turned in omega arith
 
 -- a contact leads to its hearer
 pub leads-below : (c : Contact) (v w n : ℕ) → c .hearer < n → leadsTo c v ≡ some w → w < n

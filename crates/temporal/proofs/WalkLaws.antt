@@ -10,7 +10,7 @@ use native.Mathlib.Omega.{arith}
 use lib.ListN.{length, getElem?}
 use Rattle.temporal.specs.Plan.{Contact, Plan, Appearance, start, leadsTo, mayFollow}
 use Rattle.temporal.specs.Walk.{along, step, run, lastOr, holds, endsIn}
-use Rattle.temporal.proofs.RuleLaws.{follows-later, follows-earlier, leads-below}
+use Rattle.temporal.proofs.RuleLaws.{Kept, follows-later, follows-earlier, leads-below}
 use Rattle.temporal.proofs.OptionLaws.{position-below, guarded, holds-inv}
 
 -- what a step from x by the contact at position i to y consists of
@@ -20,6 +20,10 @@ pub record StepBy (p : Plan) (x : Appearance) (i : ℕ) (y : Appearance) : Type 
   pub same-slot : y .slot ≡ contact .slot
   pub follows : mayFollow p (x .slot) (contact .slot) ≡ true
   pub leads : leadsTo contact (x .station) ≡ some (y .station)
+
+-- no contact of a plan is in a slot past its last
+pub record SlotsWithin (p : Plan) : Type 0 where
+  pub within : (i : ℕ) (c : Contact) → getElem? (p .contacts) i ≡ some c → c .slot ≤ p .slots
 
 -- what a run from x over i and then w consists of
 pub record RunBy (p : Plan) (x : Appearance) (i : ℕ) (w : List ℕ) (l : List Appearance) : Type 0 where
@@ -63,9 +67,9 @@ module _ (p : Plan) where
 
   -- (kept) A step from an appearance is one from each earlier appearance of its station.
   pub step-earlier :
-      (x x′ : Appearance) (i : ℕ) {y : Appearance} → x′ .station ≡ x .station → x′ .slot ≤ x .slot →
+      Kept p → SlotsWithin p → (x x′ : Appearance) (i : ℕ) {y : Appearance} → x′ .station ≡ x .station → x′ .slot ≤ x .slot →
       step p x i ≡ some y → step p x′ i ≡ some y
-  step-earlier x x′ i {y} same earlier e = step-intro x′ i (again (step-inv x i e))
+  step-earlier kept fits x x′ i {y} same earlier e = step-intro x′ i (again (step-inv x i e))
     where
       again : StepBy p x i y → StepBy p x′ i y
       again s =
@@ -73,7 +77,9 @@ module _ (p : Plan) where
             contact = s .contact;
             at-position = s .at-position;
             same-slot = s .same-slot;
-            follows = follows-earlier p (x .slot) (x′ .slot) (s .contact .slot) earlier (s .follows);
+            follows =
+                follows-earlier p kept (x .slot) (x′ .slot) (s .contact .slot) earlier
+                (fits .within i (s .contact) (s .at-position)) (s .follows);
             leads = ap (leadsTo (s .contact)) same ∙ s .leads;
           }
 
@@ -176,10 +182,6 @@ pub last-append : (x : Appearance) (l m : List Appearance) → lastOr x (l ++ m)
 unfolding lastOr
 last-append x [] m = refl
 last-append x (y ∷ l) m = last-append y l m
-
--- no contact of a plan is in a slot past its last
-pub record SlotsWithin (p : Plan) : Type 0 where
-  pub within : (i : ℕ) (c : Contact) → getElem? (p .contacts) i ≡ some c → c .slot ≤ p .slots
 
 module _ (p : Plan) (g : SlotsWithin p) where
   -- a run from a slot of the plan ends in a slot of the plan

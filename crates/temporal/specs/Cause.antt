@@ -87,7 +87,7 @@ abbrev pub appearanceTooMany : Plan → ℕ → Bool
 appearanceTooMany p s =
     any (λ v. any (λ t. ltb (2 ^ 64 - 1) (count (shortestWalks p s v t))) (below (p .slots + 1))) (below (p .stations))
 
--- a station has over 2^64 - 1 shortest walks from s; these are its shortest paths (Adequacy); every station is looked at
+-- a station has over 2^64 - 1 shortest walks from s; every station is looked at
 abbrev pub stationTooMany : Plan → ℕ → Bool
 stationTooMany p s = any (λ v. ltb (2 ^ 64 - 1) (count (shortestWalksTo p s v))) (below (p .stations))
 

@@ -1,6 +1,6 @@
 -- A plan of slots, and the two rules by which a reading is passed on. Definitions only.
 -- Assumes nothing.
-use Prim.Native.Nat.{ℕ, _+_}
+use Prim.Native.Nat.{ℕ, _+_, _≤_, _<_}
 use mathlib.Core.Bool.{Bool, cond, _&&_, _||_}
 use mathlib.Core.List.{List}
 use mathlib.Core.Option.{Option, none, some}
@@ -13,13 +13,27 @@ pub record Contact : Type 0 where
   pub sender : ℕ
   pub hearer : ℕ
 
--- The units' terms: document 02's turnaround g (C-17), the number of slots from hearing a reading to sending it on.
+-- The units' terms: document 02's turnaround g (C-17), the number of slots from hearing a reading to sending it on; and for how many
+-- slots after hearing it a unit keeps a reading, document 002's delta (section 4.3).
 pub record Terms : Type 0 where
   pub turnaround : ℕ
+  pub keeping : ℕ
 
--- units with a turnaround
+abbrev pub units : ℕ → ℕ → Terms
+units g h = record { turnaround = g; keeping = h }
+
+-- units with a turnaround that keep a reading until the plan ends: no plan has over 255 slots
 abbrev pub turning : ℕ → Terms
-turning g = record { turnaround = g }
+turning g = units g 255
+
+-- Nothing goes stale in t slots: what is heard in one of them is kept until the last. The start is not heard.
+abbrev pub Keeps : ℕ → Terms → Type 0
+Keeps t terms = t ≤ terms .keeping + 1
+
+-- units that turn round, and in whose t slots nothing goes stale; for inner contracts
+pub record Lasting (t : ℕ) (terms : Terms) : Type 0 where
+  pub turns : 0 < terms .turnaround
+  pub keeps : Keeps t terms
 
 -- Document 01's plan, document 000's temporal graph (V, E, T) (Def. 1): stations 0 to stations - 1, slots 1 to slots,
 -- the contacts in the order of their records, and the terms of its units. A contact's place in the list is its position, counted
@@ -47,6 +61,6 @@ leadsTo c v = cond (eqb v (c .sender)) (some (c .hearer)) none
 
 -- Second rule: whether, in a plan, a contact in slot u may follow an appearance in slot t. Strictly later (document 000, Def. 2,
 -- strict), so nothing is sent on in the slot of hearing; and what is heard in slot t goes out in slot t + g or later (document 02,
--- C-17). After the start, which is slot 0, any slot will do.
+-- C-17), and no later than it is kept (document 002, section 4.3). After the start, which is slot 0, any slot will do.
 unfoldable pub mayFollow : Plan → ℕ → ℕ → Bool
-mayFollow p t u = ltb t u && (eqb t 0 || leb (t + p .terms .turnaround) u)
+mayFollow p t u = ltb t u && (eqb t 0 || (leb (t + p .terms .turnaround) u && leb u (t + p .terms .keeping)))

@@ -32,12 +32,12 @@ unfoldable pub shortestWalks : Plan → ℕ → ℕ → ℕ → List (List ℕ)
 shortestWalks p s v t = shortest p (isWalk p s v t)
 
 -- The shortest walks from s to station z, in whatever slot: the complete list of a pair, document 02's least chains (C-21). Empty
--- where there is no walk. They are the shortest paths below (Adequacy).
+-- where there is no walk. Where nothing goes stale they are the shortest paths below (Adequacy).
 unfoldable pub shortestWalksTo : Plan → ℕ → ℕ → List (List ℕ)
 shortestWalksTo p s z = shortest p (isWalkTo p s z)
 
--- The shortest paths from s to z: document 01's least ways, document 002's shortest temporal paths (section 2). They are also
--- shortest among walks, as document 000 has it (Def. 4; Adequacy). Empty where there is no path.
+-- The shortest paths from s to z: document 01's least ways, document 002's shortest temporal paths (section 2). Where
+-- nothing goes stale they are also shortest among walks, as document 000 has it (Def. 4; Adequacy). Empty where there is no path.
 unfoldable pub shortestPaths : Plan → ℕ → ℕ → List (List ℕ)
 shortestPaths p s z = shortest p (isPath p s z)
 

@@ -6,6 +6,7 @@ use mathlib.Core.List.{List}
 use mathlib.Core.Option.{Option, none}
 use lib.ListN.{length}
 use Rattle.temporal.specs.Plan.{Terms}
+use Rattle.temporal.proofs.PlanLaws.{kept-always}
 use Rattle.temporal.specs.Bytes.{planOf}
 use Rattle.temporal.specs.Cause.{planFault}
 use Rattle.temporal.specs.Outcome.{Outcome, entered}
@@ -64,9 +65,9 @@ pub verdict-ready :
     callCheckNumber r ≡ pairCallFault n t (question bs n t g s z .terms) s z 0 0 (length area) → r ≡ call-check.Free →
     VerdictReady (question bs n t g s z) area
 verdict-ready bs n t g s z area ok r answer e =
-    let f = free-call n t (question bs n t g s z .terms) s z 0 0 (length area) (sym answer ∙ ap callCheckNumber e) in
+    let f = free-call n t (question bs n t g s z .terms) s z 0 0 (length area) (sym answer ∙ ap callCheckNumber e) (kept-always bs n t ok) in
     record {
       asked = record { accepted = ok; source = f .source; destination = f .destination; different = f .different };
-      turns = f .turns;
+      units = f .units;
       area = f .area-room;
     }

@@ -60,7 +60,7 @@ module _ (q : Question) (list work : List ℕ) (ready : VerdictReady q work) whe
   way-ready =
       record {
         asked = ready .asked;
-        turns = ready .turns;
+        units = ready .units;
         room = omega (arith, length-replicate {A = ℕ} (q .slots) 0);
         area = ready .area;
       }

@@ -4,6 +4,7 @@ use Prim.Native.Nat.{ℕ, _<_, _≤_}
 use mathlib.Core.Path.{_≡_}
 use mathlib.Core.List.{List}
 use lib.ListN.{length, drop}
+use Rattle.temporal.specs.Plan.{Lasting}
 use Rattle.temporal.specs.Bytes.{planOf}
 use Rattle.temporal.specs.Outcome.{workSize}
 use Rattle.temporal.specs.OutcomeVerdict.{judged}
@@ -15,7 +16,7 @@ use Rattle.verdicts.specs.Answer.{verdictNumber, verdictGiven}
 -- an accepted plan, two different stations of it, a turnaround, and a work area that is long enough
 pub record VerdictReady (q : Question) (work : List ℕ) : Type 0 where
   pub asked : Asked q
-  pub turns : 0 < q .terms .turnaround
+  pub units : Lasting (q .slots) (q .terms)
   pub area : workSize (q .stations) (q .slots) ≤ length work
 
 -- The answer is the definition's; past the operation's part of it the work area is as it was.

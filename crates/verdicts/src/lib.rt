@@ -47,6 +47,7 @@ fn verdict_work(
         stations: n,
         slots: t,
         turnaround: g,
+        keeping: 255,
         source,
         destination,
         hops: h,

@@ -4,7 +4,7 @@ use Prim.Native.Nat.{ℕ, suc, _+_, _-_, _*_, _/_, _≤_, _<_}
 use mathlib.Core.Path.{_≡_, refl, sym, ap, _∙_}
 use mathlib.Core.Bool.{Bool, true, false}
 use mathlib.Core.List.{List, _++_}
-use mathlib.Core.Logic.{_⊎_, inl, inr, _≢_}
+use mathlib.Core.Logic.{_⊎_, inl, inr, ⊎-elim, _≢_}
 use mathlib.Core.Option.{Option, none, some, Option·map, bind}
 use native.Mathlib.Omega.{arith}
 use native.Mathlib.Numerals.{add-one}
@@ -13,11 +13,11 @@ use lib.Arith.{digits-lt}
 use lib.Dec.{leb, eqb}
 use lib.ListN.{length, getD, take}
 use lib.Seq.{take-suc, take-add}
-use Rattle.temporal.specs.Plan.{Contact, Plan, Terms, turning, Appearance, leadsTo, mayFollow}
+use Rattle.temporal.specs.Plan.{Contact, Plan, Terms, units, Appearance, leadsTo, mayFollow}
 use Rattle.temporal.specs.Walk.{step, run, lastOr, holds}
 use Rattle.temporal.specs.Bytes.{contactAt, records, planOf}
 use Rattle.temporal.proofs.ListLaws.{not-both, not-true-false}
-use Rattle.temporal.proofs.RuleLaws.{follows-later, follows-intro, follows-inv, leads-from-sender, leads-none}
+use Rattle.temporal.proofs.RuleLaws.{InTime, follows-later, follows-intro, follows-inv, leads-from-sender, leads-none}
 use Rattle.temporal.proofs.Accepted.{accepted}
 use Rattle.temporal.proofs.PlanLaws.{contact-there, contact-inv, contacts-length}
 use Rattle.temporal.proofs.WalkLaws.{StepBy, step-inv, step-intro, step-position, run-append}
@@ -50,25 +50,33 @@ module _ (p : Plan) (t u : ℕ) where
   pub follow-start : t < u → t ≡ 0 → true ≡ mayFollow p t u
   follow-start later h = sym (follows-intro p t u later (inl h))
 
-  -- after any other slot those from the turnaround on
-  pub follow-heard : (g : ℕ) → p .terms ≡ turning g → t < u → t ≢ 0 → leb g (u - t) ≡ mayFollow p t u
-  follow-heard g same later heard = go (leb g (u - t)) refl
-    where
-      turns : p .terms .turnaround ≡ g
-      turns = ap (λ (x : Terms). x .turnaround) same
+  -- after any other slot those from the turnaround on, as long as a reading is kept
+  module _ (g h : ℕ) (same : p .terms ≡ units g h) (later : t < u) (heard : t ≢ 0) where
+    turns : p .terms .turnaround ≡ g
+    turns = ap (λ (x : Terms). x .turnaround) same
 
-      too-soon : (t ≡ 0) ⊎ (t + p .terms .turnaround ≤ u) → u - t < g → ⊥
-      too-soon (inl h) short = heard h
-      too-soon (inr h) short = let e = turns in omega arith
+    keeps : p .terms .keeping ≡ h
+    keeps = ap (λ (x : Terms). x .keeping) same
 
-      go : (b : Bool) → leb g (u - t) ≡ b → b ≡ mayFollow p t u
-      go true q =
-          let long = leb-true g (u - t) q in
-          let e = turns in
-          sym (follows-intro p t u later (inr (omega arith)))
-      go false q =
-          let short = leb-false g (u - t) q in
-          sym (not-true-false (mayFollow p t u) (λ e. too-soon (follows-inv p t u e .1) short))
+    in-time : mayFollow p t u ≡ true → InTime p t u
+    in-time e = ⊎-elim (λ first. absurd (heard first)) (λ w. w) (follows-inv p t u e .1)
+
+    pub follow-soon : u - t < g → false ≡ mayFollow p t u
+    follow-soon short =
+        sym (not-true-false (mayFollow p t u) (λ e. let turned = in-time e .turned in let q = turns in omega arith))
+
+    pub follow-heard : g ≤ u - t → leb (u - t) h ≡ mayFollow p t u
+    follow-heard long = go (leb (u - t) h) refl
+      where
+        go : (b : Bool) → leb (u - t) h ≡ b → b ≡ mayFollow p t u
+        go true q =
+            let by = leb-true (u - t) h q in
+            let x = turns in
+            let y = keeps in
+            sym (follows-intro p t u later (inr (record { turned = omega arith; fresh = omega arith })))
+        go false q =
+            let past = leb-false (u - t) h q in
+            sym (not-true-false (mayFollow p t u) (λ e. let fresh = in-time e .fresh in let y = keeps in omega arith))
 
 module _ (bs : List ℕ) (n t : ℕ) (terms : Terms) (x : Appearance) (i : ℕ) where
   -- there is no such record

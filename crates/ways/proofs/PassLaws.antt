@@ -18,9 +18,10 @@ use Rattle.temporal.specs.Plan.{Contact, Plan, Terms, mayFollow}
 use Rattle.temporal.specs.Walk.{endsIn, isAt}
 use Rattle.temporal.specs.Bytes.{contactAt, records, planOf}
 use Rattle.temporal.specs.Outcome.{over}
-use Rattle.temporal.proofs.RuleLaws.{follows-later, follows-earlier, waits-turnaround, leads-from-sender, leads-none}
+use Rattle.temporal.proofs.RuleLaws.{Kept, follows-later, follows-earlier, waits-turnaround, leads-from-sender, leads-none}
 use Rattle.temporal.proofs.Accepted.{accepted}
-use Rattle.temporal.proofs.PlanLaws.{contact-there, contact-inv, contacts-length, slots-within, slots-sorted}
+use Rattle.temporal.proofs.PlanLaws.{kept-plan, contact-there, contact-inv, contacts-length, slots-within, slots-sorted}
+use Rattle.temporal.proofs.WalkLaws.{SlotsWithin}
 use Rattle.ways.specs.Home.{appearance, homeHops, Completable, Completed}
 use Rattle.ways.specs.Column.{foldedBack, copiedFrom, begunBack, waiting, leftBefore, foldedColumn}
 use Rattle.ways.specs.Column.{turnedBack, FoldableColumn, TurnableBack}
@@ -153,7 +154,7 @@ module _ (bs : List ℕ) (n t : ℕ) (terms : Terms) (z : ℕ) (old : List ℕ) 
       record {
         ready = record {
           accepted = g .accepted;
-          turns = g .turns;
+          units = g .units;
           destination = g .destination;
           fits = let same = ap length e ∙ begun-length in let room = g .fits in omega arith;
         };
@@ -254,10 +255,12 @@ module _ (bs : List ℕ) (n t : ℕ) (terms : Terms) (z : ℕ) (old : List ℕ) 
         record {
           slot = let h = s .slot in omega arith;
           position = s .position;
-          taken = λ i h k. follows-earlier p u x (c i .slot) (omega arith) (s .taken i h k);
+          taken = λ i h k.
+              follows-earlier p kept u x (c i .slot) (omega arith)
+              (fits .within i (c i) (contact-there bs n t terms i k)) (s .taken i h k);
           column = λ v h.
               rw (copied-station n (t + 1) x next l 0 n v fits-now (omega arith) (omega arith) (omega arith))
-              (ahead-earlier p z v x j _ ahead (before v h));
+              (ahead-earlier p z kept fits v x j _ ahead (before v h));
           done = λ v y h k m. copied-slot n (t + 1) x next l 0 n v y m (omega arith) ∙
               by-cases (ℕ-discrete y u)
               (λ q. rw q (finished none v h))
@@ -266,6 +269,12 @@ module _ (bs : List ℕ) (n t : ℕ) (terms : Terms) (z : ℕ) (old : List ℕ) 
           same = copied-length n (t + 1) x next l 0 n ∙ s .same;
         }
       where
+        kept : Kept p
+        kept = kept-plan bs n t terms (g .units .keeps)
+
+        fits : SlotsWithin p
+        fits = slots-within bs n t terms (g .accepted)
+
         next : x + 1 < t + 1
         next = let h = s .slot in omega arith
 
@@ -286,7 +295,7 @@ module _ (bs : List ℕ) (n t : ℕ) (terms : Terms) (z : ℕ) (old : List ℕ) 
   waits x i inside =
       let a = accepted bs n t (g .accepted) in
       let k = a .contact i inside in
-      waits-turnaround p (a .some-slot) (g .turns) .follows x (c i .slot) (k .from-one) (k .to-last)
+      waits-turnaround p (kept-plan bs n t terms (g .units .keeps)) (a .some-slot) (g .units .turns) .follows x (c i .slot) (k .from-one) (k .to-last)
 
   -- (kept) the records of slot k are folded in
   passing-column : (u k : ℕ) → u ≤ k - waiting t terms → (j : ℕ) (l : List ℕ) → Passing bs n t terms z old u j l

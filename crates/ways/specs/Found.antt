@@ -7,7 +7,7 @@ use mathlib.Core.List.{List, []}
 use mathlib.Core.Option.{Option, none, some, bind}
 use lib.Dec.{ltb, eqb}
 use lib.ListN.{length, getD, set, take}
-use Rattle.temporal.specs.Plan.{Plan, Terms, turning, Appearance, start}
+use Rattle.temporal.specs.Plan.{Plan, Terms, units, Appearance, start}
 use Rattle.temporal.specs.Walk.{step, holds}
 use Rattle.temporal.specs.Shortest.{shortestWalksTo, hops}
 use Rattle.temporal.specs.Bytes.{records, planOf}
@@ -39,7 +39,7 @@ foundOf found.Nothing = none
 
 -- the terms, the plan, the complete list of the pair, and the test whether positions begin a member of it
 abbrev pub termsIn : Pair → Terms
-termsIn q = turning (q .turnaround)
+termsIn q = units (q .turnaround) (q .keeping)
 
 abbrev pub planIn : List ℕ → Pair → Plan
 planIn bs q = planOf bs (q .stations) (q .slots) (termsIn q)

@@ -4,7 +4,7 @@ use Prim.Native.Nat.{ℕ, _+_, _*_, _<_, _≤_}
 use mathlib.Core.Path.{_≡_}
 use mathlib.Core.List.{List}
 use lib.ListN.{length, getD, drop}
-use Rattle.temporal.specs.Plan.{Plan, Terms, Appearance}
+use Rattle.temporal.specs.Plan.{Plan, Terms, Appearance, Lasting}
 use Rattle.temporal.specs.Walk.{endsIn, isAt}
 use Rattle.temporal.specs.Shortest.{shortest, hops}
 use Rattle.temporal.specs.Bytes.{planOf}
@@ -30,7 +30,7 @@ pub record Table (bs : List ℕ) (n t : ℕ) (terms : Terms) (z : ℕ) (l : List
 -- what filling the table asks: an accepted plan, a turnaround, a destination in the plan, and room
 pub record Completable (bs : List ℕ) (n t : ℕ) (terms : Terms) (z : ℕ) (l : List ℕ) : Type 0 where
   pub accepted : planFault bs n t ≡ 0
-  pub turns : 0 < terms .turnaround
+  pub units : Lasting t terms
   pub destination : z < n
   pub fits : n * (t + 1) ≤ length l
 

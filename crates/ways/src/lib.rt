@@ -4,7 +4,7 @@ ghost use mathlib.Core.Path.{_≡_};
 ghost use mathlib.Core.List.{[]};
 ghost use Prim.Native.Nat.{ℕ, _+_, _-_, _*_, _<_, _≤_, min};
 ghost use lib.ListN.{length, getD, set, take};
-ghost use Rattle.temporal.specs.Plan.{Plan, turning, start, mayFollow};
+ghost use Rattle.temporal.specs.Plan.{Plan, units, turning, start, mayFollow};
 ghost use Rattle.temporal.specs.Walk.{step};
 ghost use Rattle.temporal.specs.Bytes.{contactAt, records, planOf};
 ghost use Rattle.temporal.specs.Outcome.{over};
@@ -45,11 +45,13 @@ ghost use Rattle.ways.specs.Found.{
   Stepped,
 };
 
-// What a listing is about: the numbers of an accepted plan, its units' turnaround, a pair of its stations, and the pair's hops.
+// What a listing is about: the numbers of an accepted plan, its units' turnaround and for how many slots they keep a reading, a pair
+// of its stations, and the pair's hops.
 pub struct Pair {
     pub stations: usize,
     pub slots: usize,
     pub turnaround: usize,
+    pub keeping: usize,
     pub source: usize,
     pub destination: usize,
     pub hops: usize,
@@ -218,8 +220,8 @@ pub fn wide(x: u16) -> usize
 }
 
 // Whether a contact in slot u may follow an appearance in slot t.
-fn may_follow(g: usize, t: usize, u: usize) -> bool
-    ensures { λ r. ⌜ ((p : Plan) → p .terms ≡ turning g → r ≡ mayFollow p t u) ⌝ }
+fn may_follow(g: usize, h: usize, t: usize, u: usize) -> bool
+    ensures { λ r. ⌜ ((p : Plan) → p .terms ≡ units g h → r ≡ mayFollow p t u) ⌝ }
 {
     if u <= t {
         return false;
@@ -227,12 +229,16 @@ fn may_follow(g: usize, t: usize, u: usize) -> bool
     if t == 0 {
         return true;
     }
-    g <= u - t
+    let wait = u - t;
+    if wait < g {
+        return false;
+    }
+    wait <= h
 }
 
 // Where position i leads from an appearance. A position that is no record leads nowhere.
-fn step_on(plan: &[u8], g: usize, x: Spot, i: usize) -> End
-    ensures { λ r. ⌜ ((n t : ℕ) → endOf r ≡ step (planOf (now (plan .entry)) n t (turning g)) (spotOf x) i) ⌝ }
+fn step_on(plan: &[u8], g: usize, h: usize, x: Spot, i: usize) -> End
+    ensures { λ r. ⌜ ((n t : ℕ) → endOf r ≡ step (planOf (now (plan .entry)) n t (units g h)) (spotOf x) i) ⌝ }
 {
     if plan.len() / 6 <= i {
         return End::Nowhere;
@@ -241,7 +247,7 @@ fn step_on(plan: &[u8], g: usize, x: Spot, i: usize) -> End
     if x.station != c.sender {
         return End::Nowhere;
     }
-    if may_follow(g, x.slot, c.slot) {
+    if may_follow(g, h, x.slot, c.slot) {
         return End::At(Spot {
             station: c.hearer,
             slot: c.slot,
@@ -261,7 +267,7 @@ fn end_of(way: &[u16], plan: &[u8], q: Pair, k: usize) -> End
     };
     let mut i = 0;
     while i < k {
-        let next = step_on(plan, q.turnaround, x, wide(way[i]));
+        let next = step_on(plan, q.turnaround, q.keeping, x, wide(way[i]));
         let End::At(y) = next else {
             return End::Nowhere;
         };
@@ -276,7 +282,7 @@ fn serves(work: &[u64], plan: &[u8], q: Pair, x: Spot, need: u64, i: usize) -> b
     requires { ⌜ Searchable (now plan) q (now work) ⌝ }
     ensures { λ r. ⌜ r ≡ servesAt (planIn (now (plan .entry)) q) (now (work .entry)) (q .slots + 1) (spotOf x) need i ⌝ }
 {
-    let end = step_on(plan, q.turnaround, x, i);
+    let end = step_on(plan, q.turnaround, q.keeping, x, i);
     let End::At(y) = end else {
         return false;
     };

@@ -4,6 +4,7 @@ use mathlib.Core.Path.{sym, _∙_}
 use Rattle.temporal.specs.Cursor.{first-way}
 use Rattle.temporal.proofs.Accepted.{accepted}
 use Rattle.listing.proofs.CallLaws.{way-ready, way-works, way-call}
+use Rattle.temporal.proofs.PlanLaws.{kept-always}
 use borrow.Author.Needs.{needs}
 use Rattle.listing.proofs.first_accepted.Statement.{statement}
 use Rattle.listing.proofs.first_accepted.Tie as tie
@@ -18,7 +19,7 @@ enum-told : tie.Need-enum-told
 enum-told c = search needs
 
 first-cleared-requires : tie.Need-first-cleared-requires
-first-cleared-requires c κs = way-ready first-way _ _ _ (c .before .before .before .before .before .before .before .before .pre) _ (c .before .before .before .before .pair-call .ensures) (c .before .before .enum-told .given .1)
+first-cleared-requires c κs = way-ready first-way _ _ _ (c .before .before .before .before .before .before .before .before .pre) _ (c .before .before .before .before .pair-call .ensures) (c .before .before .enum-told .given .1) (kept-always _ _ _ (c .before .before .before .before .before .before .before .before .pre))
 
 same-length : tie.Need-same-length
 same-length c = search needs

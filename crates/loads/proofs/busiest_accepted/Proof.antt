@@ -5,6 +5,7 @@ use mathlib.Core.Path.{sym, _∙_}
 use Rattle.temporal.proofs.Accepted.{accepted}
 use Rattle.plan.proofs.LimitLaws.{limited-places}
 use Rattle.loads.proofs.LoadLaws.{busiest-terms, busiest-short, busiest-works, busiest-ready}
+use Rattle.temporal.proofs.PlanLaws.{kept-always}
 use borrow.Author.Needs.{needs}
 use Rattle.loads.proofs.busiest_accepted.Statement.{statement}
 use Rattle.loads.proofs.busiest_accepted.Tie as tie
@@ -28,7 +29,7 @@ returns-2 : tie.Need-returns-2
 returns-2 c = busiest-short _ _ _ _ _ (c .before .before .before .before .before .pre) (sym (c .before .before .wrong-turnaround .ensures) ∙ c .before .if1 .left) (omega arith)
 
 busiest-work-requires : tie.Need-busiest-work-requires
-busiest-work-requires c κs = busiest-ready _ _ _ _ _ (c .before .before .before .before .before .before .pre) (sym (c .before .before .before .wrong-turnaround .ensures) ∙ c .before .before .if1 .left) (omega arith)
+busiest-work-requires c κs = busiest-ready _ _ _ _ _ (c .before .before .before .before .before .before .pre) (sym (c .before .before .before .wrong-turnaround .ensures) ∙ c .before .before .if1 .left) (omega arith) (kept-always _ _ _ (c .before .before .before .before .before .before .pre))
 
 same-length : tie.Need-same-length
 same-length c = search needs

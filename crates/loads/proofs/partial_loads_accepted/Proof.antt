@@ -6,6 +6,7 @@ use Rattle.temporal.proofs.Accepted.{accepted}
 use Rattle.plan.proofs.LimitLaws.{limited-places}
 use Rattle.loads.proofs.LoadLaws.{loads-terms, loads-sources, loads-short-pairs, loads-short-loads, loads-short-area}
 use Rattle.loads.proofs.LoadLaws.{loads-works, loads-ready}
+use Rattle.temporal.proofs.PlanLaws.{kept-always}
 use borrow.Author.Needs.{needs}
 use Rattle.loads.proofs.partial_loads_accepted.Statement.{statement}
 use Rattle.loads.proofs.partial_loads_accepted.Tie as tie
@@ -38,7 +39,7 @@ returns-5 : tie.Need-returns-5
 returns-5 c = loads-short-area _ _ _ _ _ _ _ _ (c .before .before .before .before .before .before .before .before .before .before .pre) (sym (c .before .before .before .before .before .wrong-turnaround .ensures) ∙ c .before .before .before .before .if1 .left) (omega arith) (omega arith) (omega arith) (omega arith)
 
 partial-loads-work-requires : tie.Need-partial-loads-work-requires
-partial-loads-work-requires c κs = loads-ready _ _ _ _ _ _ _ _ (c .before .before .before .before .before .before .before .before .before .before .before .before .before .pre) (sym (c .before .before .before .before .before .before .before .before .wrong-turnaround .ensures) ∙ c .before .before .before .before .before .before .before .if1 .left) (omega arith) (omega arith) (omega arith) (omega arith)
+partial-loads-work-requires c κs = loads-ready _ _ _ _ _ _ _ _ (c .before .before .before .before .before .before .before .before .before .before .before .before .before .pre) (sym (c .before .before .before .before .before .before .before .before .wrong-turnaround .ensures) ∙ c .before .before .before .before .before .before .before .if1 .left) (omega arith) (omega arith) (omega arith) (omega arith) (kept-always _ _ _ (c .before .before .before .before .before .before .before .before .before .before .before .before .before .pre))
 
 same-length : tie.Need-same-length
 same-length c = search needs

@@ -3,6 +3,7 @@
 use native.Mathlib.Omega.{arith}
 use mathlib.Core.Path.{sym, _∙_}
 use Rattle.temporal.proofs.Accepted.{accepted}
+use Rattle.temporal.proofs.PlanLaws.{kept-always}
 use Rattle.calls.proofs.CallLaws.{terms-inv}
 use Rattle.reach.proofs.PlaceLaws.{few-places}
 use Rattle.reach.proofs.CallLaws.{
@@ -62,7 +63,11 @@ work-requires : tie.Need-work-requires
 work-requires c κs =
     record {
       accepted = c .before .before .before .before .before .before .before .before .before .before .before .before .before .before .before .before .pre;
-      turns = terms-inv _ (sym (c .before .before .before .before .before .before .before .before .before .before .wrong-turnaround .ensures) ∙ c .before .before .before .before .before .before .before .before .before .if1 .left) .0;
+      units =
+          record {
+            turns = terms-inv _ (sym (c .before .before .before .before .before .before .before .before .before .before .wrong-turnaround .ensures) ∙ c .before .before .before .before .before .before .before .before .before .if1 .left) .0;
+            keeps = kept-always _ _ _ (c .before .before .before .before .before .before .before .before .before .before .before .before .before .before .before .before .pre);
+          };
       source = omega arith;
       fits = search needs;
     }
