@@ -3,6 +3,7 @@
 pub mod Weights
 pub mod Fewest
 pub mod Recurrence
+pub mod WindowLaws
 pub mod Through
 -- loads and exact sums of shares
 pub mod ExactSum

@@ -198,7 +198,7 @@ module _ (bs : List ℕ) (n t : ℕ) (terms : Terms) (s : ℕ) (ok : planFault b
 
 module _ (bs : List ℕ) (n t : ℕ) (terms : Terms) (s : ℕ) (ok : planFault bs n t ≡ 0) where
   -- an entry of walks to an appearance holds its hops and count
-  holds-appearance :
+  pub holds-appearance :
       (x : Table) (i v u : ℕ) → EntryAt (reaching bs n t terms s v u) x i → EntryHolds x i (shortestWalks (planOf bs n t terms) s v u)
   unfolding shortestWalks isWalk atAppearance
   holds-appearance x i v u e =
@@ -211,7 +211,7 @@ module _ (bs : List ℕ) (n t : ℕ) (terms : Terms) (s : ℕ) (ok : planFault b
       }
 
   -- an entry of all walks to a station holds its hops and count
-  holds-station :
+  pub holds-station :
       (x : Table) (i v : ℕ) → EntryAt (present bs n t terms s v t) x i → EntryHolds x i (shortestWalksTo (planOf bs n t terms) s v)
   unfolding planOf shortestWalksTo
   holds-station x i v e =

@@ -80,7 +80,7 @@ module _ (bs : List ℕ) (n t : ℕ) (terms : Terms) (s : ℕ) (ok : planFault b
   -- ---- what one record brings
 
   -- to a station that is not its hearer: nothing
-  arrive-other :
+  pub arrive-other :
       (u j w : ℕ) → j < records bs → w ≢ contactAt bs j .hearer → (k : ℕ) →
       arriving bs n t terms s u j w k ≡ arriving bs n t terms s u (suc j) w k
   arrive-other u j w there other k =
@@ -89,11 +89,11 @@ module _ (bs : List ℕ) (n t : ℕ) (terms : Terms) (s : ℕ) (ok : planFault b
       omega arith
 
   -- walks from s to appearances of v that a contact in slot u may follow, by hops
-  abbrev ready : ℕ → ℕ → ℕ → ℕ
+  abbrev pub ready : ℕ → ℕ → ℕ → ℕ
   ready v u = total (planOf bs n t terms) everywhere (start s) (before (planOf bs n t terms) v u)
 
   -- to its hearer: what its sender may send on, one hop later
-  arrive-hearer :
+  pub arrive-hearer :
       (u j : ℕ) → j < records bs → contactAt bs j .slot ≡ u → (k : ℕ) →
       plus (arriving bs n t terms s u j (contactAt bs j .hearer)) (delayed (ready (contactAt bs j .sender) u)) k ≡
       arriving bs n t terms s u (suc j) (contactAt bs j .hearer) k

@@ -9,6 +9,7 @@ mod FoldLaws
 mod SettleLaws
 mod EndLaws
 mod TurnLaws
+mod WindowLaws
 mod OutcomeLaws
 mod ReachedLaws
 mod CallLaws

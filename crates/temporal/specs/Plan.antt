@@ -1,6 +1,6 @@
 -- A plan of slots, and the two rules by which a reading is passed on. Definitions only.
 -- Assumes nothing.
-use Prim.Native.Nat.{ℕ, _+_, _≤_, _<_}
+use Prim.Native.Nat.{ℕ, _+_, _-_, _≤_, _<_, max}
 use mathlib.Core.Bool.{Bool, cond, _&&_, _||_}
 use mathlib.Core.List.{List}
 use mathlib.Core.Option.{Option, none, some}
@@ -64,3 +64,11 @@ leadsTo c v = cond (eqb v (c .sender)) (some (c .hearer)) none
 -- C-17), and no later than it is kept (document 002, section 4.3). After the start, which is slot 0, any slot will do.
 unfoldable pub mayFollow : Plan → ℕ → ℕ → Bool
 mayFollow p t u = ltb t u && (eqb t 0 || (leb (t + p .terms .turnaround) u && leb u (t + p .terms .keeping)))
+
+-- For inner contracts: the slots that a contact in slot u may follow beside the start are u - h to u - g, none before slot 1. The first of
+-- them, and the one past the last.
+abbrev pub windowFirst : ℕ → ℕ → ℕ
+windowFirst h u = max 1 (u - h)
+
+abbrev pub windowEnd : ℕ → ℕ → ℕ
+windowEnd g u = u - g + 1

@@ -149,6 +149,15 @@ module _ (p : Plan) (z : ℕ) where
         same : j ≤ i → (suc j ≤ i → ⊥) → i ≡ j
         same h q = omega arith
 
+    -- a walk that starts with the contact does so where the contact may follow
+    onward-follows : (r : List ℕ) → endsIn p (appearance v u) (isAt z) (j ∷ r) ≡ true → mayFollow p u (c .slot) ≡ true
+    onward-follows r e =
+        let (y, steps, rest) = ends-step p (appearance v u) (isAt z) j r e in
+        let s = step-inv p (appearance v u) j steps in
+        let at = s .at-position in
+        let same : s .contact ≡ c = cc in
+        ap (λ (d : Contact). mayFollow p u (d .slot)) (sym same) ∙ s .follows
+
     -- a walk that starts with the contact goes on from where it leads
     onward : (r : List ℕ) → endsIn p (appearance v u) (isAt z) (j ∷ r) ≡ true
         → (w : ℕ) × (leadsTo c v ≡ some w) × (endsIn p (appearance w (c .slot)) (isAt z) r ≡ true)
@@ -196,15 +205,22 @@ module _ (p : Plan) (z : ℕ) where
                 let same : k ≡ w = cc in
                 inr (q, whole, rw same at rest)
 
-    -- where it leads nowhere from v, nothing changes
-    pub ahead-past : {h : ℕ} → leadsTo c v ≡ none → Fewest (Ahead p z (suc j) (appearance v u)) h
+    -- where no walk starts with it, nothing changes
+    ahead-without : {h : ℕ} → ((q : List ℕ) → endsIn p (appearance v u) (isAt z) (j ∷ q) ≡ true → ⊥)
+        → Fewest (Ahead p z (suc j) (appearance v u)) h
         → Fewest (Ahead p z j (appearance v u)) h
-    ahead-past nowhere = fewest-same weaken back
+    ahead-without none-so = fewest-same weaken back
       where
         back : (w : List ℕ) → Ahead p z j (appearance v u) w → Ahead p z (suc j) (appearance v u) w
-        back w a = ⊎-elim (λ b. b) first (at-or-later w a)
-          where
-            first : (q : List ℕ) × (w ≡ j ∷ q) → Ahead p z (suc j) (appearance v u) w
-            first (q, whole) =
-                let (k, to, rest) = onward q (rw whole at (a .ends)) in
-                absurd (let o : _≡_ {A = ℕ} 0 1 = cc in omega arith)
+        back w a = ⊎-elim (λ b. b) (λ f. let (q, whole) = f in absurd (none-so q (rw whole at (a .ends)))) (at-or-later w a)
+
+    -- so where it leads nowhere from v
+    pub ahead-past : {h : ℕ} → leadsTo c v ≡ none → Fewest (Ahead p z (suc j) (appearance v u)) h
+        → Fewest (Ahead p z j (appearance v u)) h
+    ahead-past nowhere =
+        ahead-without (λ q e. let (k, to, rest) = onward q e in let o : _≡_ {A = ℕ} 0 1 = cc in omega arith)
+
+    -- and where it may not follow slot u
+    pub ahead-barred : {h : ℕ} → mayFollow p u (c .slot) ≡ false → Fewest (Ahead p z (suc j) (appearance v u)) h
+        → Fewest (Ahead p z j (appearance v u)) h
+    ahead-barred not-so = ahead-without (λ q e. not-both (onward-follows q e) not-so)

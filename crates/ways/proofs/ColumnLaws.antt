@@ -41,12 +41,12 @@ slot-apart v u v′ u′ width h h′ n e = n (place-same v u v′ u′ width h 
 -- ---- an entry is lowered
 
 -- what lowering leaves: at the place, elsewhere, in length, and behind
-lowered-there : (l : List ℕ) (at from : ℕ) → at < length l
+pub lowered-there : (l : List ℕ) (at from : ℕ) → at < length l
     → getD (lowered l at from) at 0 ≡ min (getD l at 0) (getD l from 0 + 1)
 unfolding lowered
 lowered-there l at from h = getD-set-same l at (min (getD l at 0) (getD l from 0 + 1)) 0 h
 
-lowered-other : (l : List ℕ) (at from k : ℕ) → k ≢ at → getD (lowered l at from) k 0 ≡ getD l k 0
+pub lowered-other : (l : List ℕ) (at from k : ℕ) → k ≢ at → getD (lowered l at from) k 0 ≡ getD l k 0
 unfolding lowered
 lowered-other l at from k n = getD-set-other l at k (min (getD l at 0) (getD l from 0 + 1)) 0 n
 
@@ -54,7 +54,7 @@ pub lowered-length : (l : List ℕ) (at from : ℕ) → length (lowered l at fro
 unfolding lowered
 lowered-length l at from = length-set l at (min (getD l at 0) (getD l from 0 + 1))
 
-lowered-beyond : (l : List ℕ) (at from k : ℕ) → at < k → drop k (lowered l at from) ≡ drop k l
+pub lowered-beyond : (l : List ℕ) (at from k : ℕ) → at < k → drop k (lowered l at from) ≡ drop k l
 unfolding lowered
 lowered-beyond l at from k h = drop-set-lt k l at (min (getD l at 0) (getD l from 0 + 1)) h
 

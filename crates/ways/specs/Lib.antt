@@ -2,5 +2,6 @@
 -- only.
 pub mod Home
 pub mod Column
+pub mod Window
 pub mod Prefix
 pub mod Found

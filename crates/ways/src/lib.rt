@@ -22,6 +22,7 @@ ghost use Rattle.ways.specs.Column.{
   FoldableColumn,
   TurnableBack,
 };
+ghost use Rattle.ways.specs.Window.{loweredRun, foldedWindow, begunWindow, FoldableWindow, CompletableWindow};
 ghost use Rattle.ways.specs.Prefix.{endAfter, Advanced};
 ghost use Rattle.ways.specs.Found.{
   spotOf,
@@ -209,6 +210,66 @@ pub fn complete(work: &mut [u64], plan: &[u8], n: usize, t: usize, g: usize, z: 
     while 0 < k {
         j = turn_back(work, plan, n, t, q, k, j);
         k -= 1;
+    }
+}
+
+// Lowers as many entries as size says, from a place on, to one more than another entry, where that is less.
+fn lower_run(work: &mut [u64], at: usize, size: usize, from: usize)
+    requires { ⌜ (at + size ≤ length (now work)) × (from < length (now work)) ⌝ }
+    ensures { λ _. ⌜ now (work .exit) ≡ loweredRun (now (work .entry)) at from size ⌝ }
+{
+    let mut i = 0;
+    while i < size {
+        lower(work, at + i, from);
+        i += 1;
+    }
+}
+
+// Folds the record at j into every column that it may follow: its sender's entries of the start's column and of the slots in which
+// what is heard has turned round and is still kept are lowered by its hearer's of the record's own slot.
+fn fold_window(work: &mut [u64], plan: &[u8], width: usize, g: usize, h: usize, j: usize)
+    requires { ⌜ FoldableWindow (now plan) width j (now work) ⌝ }
+    ensures { λ _. ⌜ now (work .exit) ≡ foldedWindow width (units g h) (contactAt (now (plan .entry)) j) (now (work .entry)) ⌝ }
+{
+    let c = plan::contact_at(plan, j);
+    let row = c.sender * width;
+    let from = c.hearer * width + c.slot;
+    lower(work, row, from);
+    let low = above(c.slot - 1, h) + 1;
+    let end = above(c.slot, g) + 1;
+    let size = above(end, low);
+    lower_run(work, row + low, size, from);
+}
+
+// Clears the table, and puts the empty walk of the destination into every slot.
+fn begin_window(work: &mut [u64], n: usize, width: usize, z: usize)
+    requires { ⌜ (n * width ≤ length (now work)) × (z < n) ⌝ }
+    ensures { λ _. ⌜ now (work .exit) ≡ begunWindow n width z (now (work .entry)) ⌝ }
+{
+    memory::fill64(work, n * width, 65535);
+    memory::fill_part(work, z * width, width, 0);
+}
+
+// Fills the completion table of destination z where a reading goes stale: a contact in slot k may follow what is heard in slot u only
+// where u + g <= k <= u + h. One pass back over the records.
+pub fn complete_window(
+    work: &mut [u64],
+    plan: &[u8],
+    n: usize,
+    t: usize,
+    g: usize,
+    h: usize,
+    z: usize,
+)
+    requires { ⌜ CompletableWindow (now plan) n t (units g h) z (now work) ⌝ }
+    ensures { λ _. ⌜ Completed (now (plan .entry)) n t (units g h) z (now (work .entry)) (now (work .exit)) ⌝ }
+{
+    let width = t + 1;
+    begin_window(work, n, width, z);
+    let mut j = plan.len() / 6;
+    while 0 < j {
+        j -= 1;
+        fold_window(work, plan, width, g, h, j);
     }
 }
 
