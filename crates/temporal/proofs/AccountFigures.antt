@@ -1,4 +1,5 @@
--- What the through counts of pairs of a small plan add up to, by computation from the definitions: count × (hops - 1), as C-15 says.
+-- What the through counts of pairs of small plans add up to, by computation from the definitions: count × (hops - 1), as C-15 says, where
+-- nothing goes stale.
 -- Assumes nothing.
 use Prim.Native.Nat.{ℕ}
 use mathlib.Core.Path.{_≡_, refl}
@@ -11,6 +12,7 @@ use Rattle.temporal.specs.Shortest.{orElse, firstNonempty, ofHops, short
 use Rattle.temporal.specs.Foremost.{arrival, foremostPaths}
 use Rattle.temporal.specs.OutcomeForemost.{foremostThrough}
 use Rattle.temporal.proofs.Figures.{outwardA}
+use Rattle.temporal.proofs.FreshFigures.{detour}
 
 -- 0 to 4, three paths of 3 hops: the through counts 0, 1, 2, 3, 0 add up to 3 × 2.
 pub three-hops : sum (map (through outwardA 0 4) (below 5)) ≡ 6
@@ -26,3 +28,8 @@ one-hop = refl
 pub foremost-two-hops : sum (map (foremostThrough outwardA 0 3) (below 5)) ≡ 2
 unfolding outwardA from below sum firstWhere select any member distinct tuples leadsTo mayFollow along step run lastOr holds endsIn isWalk isInterior orElse firstNonempty ofHops shortest shortestWalks arrival foremostPaths foremostThrough flatMap bind
 foremost-two-hops = refl
+
+-- Where readings go stale they need not: one shortest walk of 4 hops, and its through counts add up to 2 and not to 1 × 3.
+pub not-accounted : sum (map (through detour 0 3) (below 4)) ≡ 2
+unfolding detour from below sum select any member distinct tuples leadsTo mayFollow along step run lastOr holds endsIn isInterior orElse firstNonempty ofHops shortest shortestWalksTo through flatMap bind
+not-accounted = refl

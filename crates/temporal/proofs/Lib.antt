@@ -2,6 +2,8 @@
 pub mod Adequacy
 -- figures of small plans by computation; public, so that they are checked before the laws of sets
 pub mod Figures
+-- readings that go stale
+pub mod FreshFigures
 -- the busiest station
 pub mod BusiestLaws
 -- a set of stations
