@@ -30,7 +30,7 @@ use Rattle.pass.proofs.PlanWalks.{kept, walksAt}
 
 module _ (n : ℕ) (w : List ℕ) (at : ℕ) where
   -- every place outside of hops and counts is as it was
-  emptied-other : (i : ℕ) → (i < at) ⊎ (at + 2 * n ≤ i) → getD (emptied n w at) i 0 ≡ getD w i 0
+  pub emptied-other : (i : ℕ) → (i < at) ⊎ (at + 2 * n ≤ i) → getD (emptied n w at) i 0 ≡ getD w i 0
   unfolding emptied
   emptied-other i out =
       filled-other (filled w at n 65535) (at + n) n 0 i
@@ -38,13 +38,13 @@ module _ (n : ℕ) (w : List ℕ) (at : ℕ) where
       ∙ filled-other w at n 65535 i
       (⊎-elim (λ (h : i < at). inl h) (λ (h : at + 2 * n ≤ i). inr (omega arith)) out)
 
-  emptied-hops : (v : ℕ) → v < n → at + 2 * n ≤ length w → getD (emptied n w at) (at + v) 0 ≡ 65535
+  pub emptied-hops : (v : ℕ) → v < n → at + 2 * n ≤ length w → getD (emptied n w at) (at + v) 0 ≡ 65535
   unfolding emptied
   emptied-hops v h fits =
       filled-other (filled w at n 65535) (at + n) n 0 (at + v) (inl (omega arith))
       ∙ filled-at w at n 65535 v h (omega arith)
 
-  emptied-counts : (v : ℕ) → v < n → at + 2 * n ≤ length w → getD (emptied n w at) (at + v + n) 0 ≡ 0
+  pub emptied-counts : (v : ℕ) → v < n → at + 2 * n ≤ length w → getD (emptied n w at) (at + v + n) 0 ≡ 0
   unfolding emptied
   emptied-counts v h fits =
       let same : at + n + v ≡ at + v + n = omega arith in

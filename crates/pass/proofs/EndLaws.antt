@@ -1,17 +1,16 @@
 -- The end of the pass: what the settled entries say of the shortest walks by its last slot, and what large sequences say of
 -- cause 9.
 -- Assumes nothing.
-use Prim.Native.Nat.{ℕ, zero, suc, _+_, _*_, _%_, _^_, _<_, _≤_}
+use Prim.Native.Nat.{ℕ, zero, suc, _+_, _%_, _^_, _<_, _≤_}
 use native.Mathlib.Omega.{arith}
 use native.Mathlib.Nat.{mod-eq-of-lt}
 use mathlib.Core.Path.{_≡_, refl, sym, ap, subst, _∙_}
 use mathlib.Core.Bool.{Bool, true, false, cond}
 use mathlib.Core.List.{List}
-use mathlib.Core.Logic.{_≢_}
 use borrow.Author.Tests.{lt-ltb, le-ltb}
 use lib.Dec.{ltb, eqb}
 use lib.ListN.{getD}
-use Rattle.temporal.specs.Lists.{below, any}
+use Rattle.temporal.specs.Lists.{below}
 use Rattle.temporal.specs.Plan.{Plan, Terms, start}
 use Rattle.temporal.specs.Walk.{isAppearance, isWalk}
 use Rattle.temporal.specs.Shortest.{shortestWalks, hops, count}
@@ -30,7 +29,7 @@ use Rattle.counting.proofs.Through.{touched-avoiding}
 use Rattle.pass.specs.Row.{rowAt}
 use Rattle.entries.specs.Entry.{stored}
 use Rattle.entries.proofs.CountLaws.{stored-small}
-use Rattle.entries.proofs.EntryLaws.{Large, Small, overflow-large, overflow-small}
+use Rattle.entries.proofs.EntryLaws.{Entry, Large, Small, overflow-large, overflow-small}
 use Rattle.entries.proofs.HopLaws.{few-slots}
 use Rattle.pass.specs.Entry.{areaOverflows}
 use Rattle.pass.specs.PassedColumns.{CountedBy}
@@ -140,6 +139,63 @@ module _ (bs : List ℕ) (n t : ℕ) (terms : Terms) (ok : planFault bs n t ≡ 
       (bounded-ends (planOf bs n t terms) (slots-within bs n t terms ok) s (arrivesBy z e))
       ∙ sym (station-all z e _)
 
+  -- entries of the walks by slot e; rows are looked at where the column does not stand for the station itself
+  module _ (col : ℕ → ℕ) (block : ℕ) (w : List ℕ) (e : ℕ)
+      (held : (z : ℕ) → z < n → Entry (kept (planOf bs n t terms) s everywhere z e) (getD w z 0) (getD w (z + n) 0))
+      (rows : (z c : ℕ) → z < n → c < block → getD w z 0 < 65535 → mayLeave s col c z ≡ true
+      → getD w (rowAt n block z + c) 0 ≡ kept (planOf bs n t terms) s (mayLeave s col c) z e (getD w z 0) % 2 ^ 64) where
+    -- a station's settled entry overflows just where its count is over 2^64 - 1
+    pub entries-overflow : (z : ℕ) → z < n
+        → areaOverflows n w z ≡ ltb 18446744073709551615 (count (walksBy (planOf bs n t terms) s z e))
+    entries-overflow z q = go (areaOverflows n w z) refl
+      where
+        go : (b : Bool) → areaOverflows n w z ≡ b → b ≡ ltb 18446744073709551615 (count (walksBy (planOf bs n t terms) s z e))
+        go true f =
+            let large = overflow-large (held z q) f in
+            let same = fewest-unique (large .fewest) (station-fewest z e) in
+            let big =
+            subst (λ x. 18446744073709551615 < kept (planOf bs n t terms) s everywhere z e x) same (large .large) in
+            sym (lt-ltb 18446744073709551615 (count (walksBy (planOf bs n t terms) s z e))
+            (omega (arith, station-count z e)))
+        go false f =
+            let small = overflow-small (held z q) f .small _ (station-fewest z e) in
+            sym (le-ltb 18446744073709551615 (count (walksBy (planOf bs n t terms) s z e))
+            (omega (arith, station-count z e)))
+
+    -- its hops are those of the shortest walks
+    pub entries-hops : (z : ℕ) → z < n → getD w z 0 ≡ hops (walksBy (planOf bs n t terms) s z e)
+    entries-hops z q = fewest-unique (held z q .fewest) (station-fewest z e)
+
+    -- The entries are hops and counts, and a row says how many walks have no station of a column inside.
+    pub entries-counted : CountedBy bs n t terms s e col block w
+    unfolding mayLeave
+    entries-counted =
+        record {
+          station-hops = entries-hops;
+          station-counts = λ z q few.
+              let place : n + z ≡ z + n = omega arith in
+              rw place (held z q .count
+              ∙ ap (λ h. stored (kept (planOf bs n t terms) s everywhere z e h)) (entries-hops z q)
+              ∙ ap stored (sym (station-count z e))
+              ∙ stored-small _ few);
+          rows = λ z c q i d few some.
+              let h = hops (walksBy (planOf bs n t terms) s z e) in
+              let m = total (planOf bs n t terms) (mayLeave s col c) (start s) (λ y. cond (arrivesBy z e y) 1 0) h in
+              let parts : touchedIn (planOf bs n t terms) s z (walksBy (planOf bs n t terms) s z e) (λ v. eqb (col v) c) + m
+              ≡ count (walksBy (planOf bs n t terms) s z e) =
+              touched-avoiding bs n t terms ok s z e (λ v. eqb (col v) c) in
+              let here = entries-hops z q in
+              let fits : m < 2 ^ 64 = omega arith in
+              let row : getD w (rowAt n block z + c) 0 ≡ m =
+              rows z c q i (omega arith) (other-free s col c z d)
+              ∙ ap (λ x. kept (planOf bs n t terms) s (mayLeave s col c) z e x % 2 ^ 64) here
+              ∙ ap (λ x. x % 2 ^ 64) (station-may (mayLeave s col c) z e h (other-free s col c z d))
+              ∙ mod-eq-of-lt fits in
+              omega arith;
+        }
+
+  -- ---- the state of the pass in which nothing goes stale
+
   module _ (col : ℕ → ℕ) (block q : ℕ) (old w : List ℕ) (e j : ℕ)
       (state : AreaState n block q e old (walksAt (planOf bs n t terms) s (mayLeave s col) e j) w) where
     entry : (z : ℕ) → z < n → Best block 65535 (kept (planOf bs n t terms) s everywhere z e)
@@ -151,49 +207,12 @@ module _ (bs : List ℕ) (n t : ℕ) (terms : Terms) (ok : planFault bs n t ≡ 
     -- a station's settled entry overflows just where its count is over 2^64 - 1
     pub station-overflows : (z : ℕ) → z < n
         → areaOverflows n w z ≡ ltb 18446744073709551615 (count (walksBy (planOf bs n t terms) s z e))
-    station-overflows z q = go (areaOverflows n w z) refl
-      where
-        go : (b : Bool) → areaOverflows n w z ≡ b → b ≡ ltb 18446744073709551615 (count (walksBy (planOf bs n t terms) s z e))
-        go true f =
-            let large = overflow-large (entry z q .entry) f in
-            let same = fewest-unique (large .fewest) (station-fewest z e) in
-            let big =
-            subst (λ x. 18446744073709551615 < kept (planOf bs n t terms) s everywhere z e x) same (large .large) in
-            sym (lt-ltb 18446744073709551615 (count (walksBy (planOf bs n t terms) s z e))
-            (omega (arith, station-count z e)))
-        go false f =
-            let small = overflow-small (entry z q .entry) f .small _ (station-fewest z e) in
-            sym (le-ltb 18446744073709551615 (count (walksBy (planOf bs n t terms) s z e))
-            (omega (arith, station-count z e)))
+    station-overflows = entries-overflow col block w e (λ z h. entry z h .entry) (λ z c h i few free. entry z h .row c i few)
 
     -- its hops are those of the shortest walks
     pub at-hops : (z : ℕ) → z < n → getD w z 0 ≡ hops (walksBy (planOf bs n t terms) s z e)
-    at-hops z q = fewest-unique (entry z q .entry .fewest) (station-fewest z e)
+    at-hops = entries-hops col block w e (λ z h. entry z h .entry) (λ z c h i few free. entry z h .row c i few)
 
     -- (kept) The settled entries are hops and counts, and a row says how many walks have no station of a column inside.
     pub counted : CountedBy bs n t terms s e col block w
-    unfolding mayLeave
-    counted =
-        record {
-          station-hops = at-hops;
-          station-counts = λ z q few.
-              let place : n + z ≡ z + n = omega arith in
-              rw place (entry z q .entry .count
-              ∙ ap (λ h. stored (kept (planOf bs n t terms) s everywhere z e h)) (at-hops z q)
-              ∙ ap stored (sym (station-count z e))
-              ∙ stored-small _ few);
-          rows = λ z c q i d few some.
-              let h = hops (walksBy (planOf bs n t terms) s z e) in
-              let m = total (planOf bs n t terms) (mayLeave s col c) (start s) (λ y. cond (arrivesBy z e y) 1 0) h in
-              let parts : touchedIn (planOf bs n t terms) s z (walksBy (planOf bs n t terms) s z e) (λ v. eqb (col v) c) + m
-              ≡ count (walksBy (planOf bs n t terms) s z e) =
-              touched-avoiding bs n t terms ok s z e (λ v. eqb (col v) c) in
-              let here = at-hops z q in
-              let fits : m < 2 ^ 64 = omega arith in
-              let held : getD w (rowAt n block z + c) 0 ≡ m =
-              entry z q .row c i (omega arith)
-              ∙ ap (λ x. kept (planOf bs n t terms) s (mayLeave s col c) z e x % 2 ^ 64) here
-              ∙ ap (λ x. x % 2 ^ 64) (station-may (mayLeave s col c) z e h (other-free s col c z d))
-              ∙ mod-eq-of-lt fits in
-              omega arith;
-        }
+    counted = entries-counted col block w e (λ z h. entry z h .entry) (λ z c h i few free. entry z h .row c i few)

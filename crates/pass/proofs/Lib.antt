@@ -15,5 +15,11 @@ mod EndLaws
 mod ReachLaws
 mod PassLaws
 pub mod UseLaws
+-- the pass where readings go stale: its functions and loops
+mod WindowSteps
+mod WindowCells
+mod WindowWalks
+mod WindowSlots
+mod WindowPass
 -- how many columns fit
 pub mod SizeLaws

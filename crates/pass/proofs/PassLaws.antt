@@ -45,7 +45,7 @@ use Rattle.pass.proofs.EndLaws.{too-many-appearance, few-appearances, s
 use Rattle.pass.proofs.ReachLaws.{reached-station, not-yet, now-reached, stations-over}
 
 -- lists that agree from k on
-drop-same : (k : ℕ) (a b : List ℕ) → length a ≡ length b → ((i : ℕ) → k ≤ i → getD a i 0 ≡ getD b i 0)
+pub drop-same : (k : ℕ) (a b : List ℕ) → length a ≡ length b → ((i : ℕ) → k ≤ i → getD a i 0 ≡ getD b i 0)
     → drop k a ≡ drop k b
 drop-same k a b e h =
     ext-getD 0 (drop k a) (drop k b) (length-drop k a ∙ ap (λ l. l - k) e ∙ sym (length-drop k b))

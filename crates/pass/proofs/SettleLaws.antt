@@ -309,11 +309,11 @@ record Swept (n block q c : ℕ) (old : List ℕ) (u : ℕ) (x y : Walks) (v : �
   within : out .over ≡ false → (z .over ≡ false) × ((w : ℕ) → v ≤ w → w < n → Small (x .waits u w))
 
 -- an or that is true, and one that is false
-or-inv : (a b : Bool) → (a || b) ≡ true → (a ≡ true) ⊎ (b ≡ true)
+pub or-inv : (a b : Bool) → (a || b) ≡ true → (a ≡ true) ⊎ (b ≡ true)
 or-inv true b e = inl refl
 or-inv false b e = inr e
 
-or-none : (a b : Bool) → (a || b) ≡ false → (a ≡ false) × (b ≡ false)
+pub or-none : (a b : Bool) → (a || b) ≡ false → (a ≡ false) × (b ≡ false)
 or-none true b e = let z : _≡_ {A = ℕ} 0 1 = cc in absurd (omega arith)
 or-none false b e = (refl, e)
 

@@ -5,3 +5,4 @@ pub mod Sweep
 pub mod Column
 pub mod Passed
 pub mod PassedColumns
+pub mod Window

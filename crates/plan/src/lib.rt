@@ -1,7 +1,9 @@
-// Plan bytes: the faults with their numbers, reading a record, and operation 1, `check`, which rests on the rest.
+// Plan bytes: the faults with their numbers, reading a record, operation 1, `check`, which rests on these, and the slots that a contact may
+// follow.
 ghost use mathlib.Core.Path.{_≡_};
 ghost use Prim.Native.Nat.{_+_, _*_, _<_};
 ghost use lib.ListN.{length};
+ghost use Rattle.temporal.specs.Plan.{windowFirst, windowEnd};
 ghost use Rattle.temporal.specs.Bytes.{wordAt, contactAt};
 ghost use Rattle.temporal.specs.Cause.{first, isAbove, recordCauses, planFault};
 ghost use Rattle.plan.specs.Fault.{planNumber, callNumber, faultNumber, checkNumber};
@@ -220,4 +222,25 @@ pub fn check(plan: &[u8], n: usize, t: usize) -> CheckAnswer
         i += 1;
     }
     CheckAnswer::Accepted
+}
+
+// The first slot after the start that a contact in slot u may follow, where a reading is kept for h slots.
+pub fn window_first(h: usize, u: usize) -> usize
+    ensures { λ r. ⌜ r ≡ windowFirst h u ⌝ }
+{
+    if u <= h {
+        return 1;
+    }
+    u - h
+}
+
+// The slot past the last that a contact in slot u may follow, with turnaround g.
+pub fn window_end(g: usize, u: usize) -> usize
+    requires { ⌜ 0 < g ⌝ }
+    ensures { λ r. ⌜ r ≡ windowEnd g u ⌝ }
+{
+    if u < g {
+        return 1;
+    }
+    u - g + 1
 }

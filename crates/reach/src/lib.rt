@@ -5,7 +5,7 @@ ghost use mathlib.Core.Path.{_≡_};
 ghost use Prim.Native.Nat.{_+_, _*_, _-_, _<_, _≤_, min};
 ghost use lib.ListN.{length, getD};
 ghost use Rattle.temporal.specs.Lists.{any, below};
-ghost use Rattle.temporal.specs.Plan.{units, turning, windowFirst, windowEnd};
+ghost use Rattle.temporal.specs.Plan.{units, turning};
 ghost use Rattle.temporal.specs.Bytes.{contactAt, planOf};
 ghost use Rattle.temporal.specs.Cause.{planFault};
 ghost use Rattle.temporal.specs.Outcome.{reached, reach};
@@ -348,27 +348,6 @@ fn gather(
     }
 }
 
-// The first slot after the start that a contact in slot u may follow.
-fn window_first(h: usize, u: usize) -> usize
-    ensures { λ r. ⌜ r ≡ windowFirst h u ⌝ }
-{
-    if u <= h {
-        return 1;
-    }
-    u - h
-}
-
-// The slot past the last that a contact in slot u may follow.
-fn window_end(g: usize, u: usize) -> usize
-    requires { ⌜ 0 < g ⌝ }
-    ensures { λ r. ⌜ r ≡ windowEnd g u ⌝ }
-{
-    if u < g {
-        return 1;
-    }
-    u - g + 1
-}
-
 // Leaves no walks in the entry of station v.
 fn empty_entry(station_hops: &mut [u16], station_counts: &mut [u64], v: usize)
     requires { ⌜ (v < length (now «station_hops»)) × (v < length (now «station_counts»)) ⌝ }
@@ -406,8 +385,8 @@ fn gather_window(
         0,
         1,
     );
-    let from = window_first(h, u);
-    let end = window_end(g, u);
+    let from = plan::window_first(h, u);
+    let end = plan::window_end(g, u);
     gather(
         station_hops,
         station_counts,
