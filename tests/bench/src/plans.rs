@@ -4,7 +4,7 @@
 use std::collections::BTreeSet;
 
 use lister::cases::{doubled, plan_bytes, Record};
-use lister::plan::{Ends, PlanInput, LEAST_TURNAROUND, RECORD_BYTES};
+use lister::plan::{Ends, PlanInput, KEPT, LEAST_TURNAROUND, RECORD_BYTES};
 use lister::random::Random;
 use lister::reach_cases;
 
@@ -33,6 +33,7 @@ impl Plan {
             stations: self.stations,
             slots: self.slots,
             turnaround: self.turnaround,
+            keeping: KEPT,
         }
     }
 

@@ -4,7 +4,7 @@
 use lister::cases::{plan_bytes, Record};
 use lister::means::COUNTED;
 use lister::operation::{Operation, OPERATIONS};
-use lister::plan::LEAST_TURNAROUND;
+use lister::plan::{KEPT, LEAST_TURNAROUND};
 use lister::plans::Owned;
 use lister::random::Random;
 use lister::reach_cases::ladder;
@@ -48,6 +48,7 @@ fn plans_with_causes() -> (Vec<Owned>, [[usize; 2]; 5]) {
         stations,
         slots,
         turnaround: LEAST_TURNAROUND,
+        keeping: KEPT,
     };
     let ends = [[0, 130], [1, 130], [0, 131], [300, 300], [7, 7]];
     (plans.map(plan).to_vec(), ends)

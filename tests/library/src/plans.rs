@@ -61,6 +61,7 @@ pub fn damaged(random: &mut Random, owned: Owned) -> Owned {
         stations: case.stations.into(),
         slots: case.slots.into(),
         turnaround: owned.turnaround,
+        keeping: owned.keeping,
     }
 }
 

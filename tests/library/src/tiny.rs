@@ -7,7 +7,7 @@ use lister::means::LISTED;
 use lister::one_way::ONE_WAY_PLANS;
 use lister::operation::{Operation, OPERATIONS};
 use lister::pair_cases::TIED_PLANS;
-use lister::plan::{PlanInput, RECORD_BYTES};
+use lister::plan::{PlanInput, KEPT, RECORD_BYTES};
 use lister::plans::{all_doubled_plans, all_lists, all_plans, pairs, possible_records, Owned};
 use lister::random::Random;
 use lister::set_cases::all_sets;
@@ -249,6 +249,7 @@ fn every_size(comparison: &mut Comparison, random: &mut Random) -> Result<(), Di
                     stations,
                     slots,
                     turnaround: any_turnaround(random),
+                    keeping: KEPT,
                 };
                 each_operation(comparison, random, input)?;
             }
@@ -297,6 +298,7 @@ fn every_length(comparison: &mut Comparison, random: &mut Random) -> Result<(), 
             stations: 5,
             slots: 4,
             turnaround: any_turnaround(random),
+            keeping: KEPT,
         };
         each_operation(comparison, random, input)?;
     }

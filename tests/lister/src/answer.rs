@@ -26,7 +26,7 @@ pub enum CallFault {
     TooShort,
     /// 9: an appearance or station has too many shortest walks; for foremost, an appearance.
     TooMany,
-    /// 10: the offered positions are no shortest path of the pair.
+    /// 10: the offered positions are no shortest walk of the pair.
     NotShortest,
     /// 11: a byte of a set is neither 0 nor 1.
     SetByte,
@@ -34,6 +34,8 @@ pub enum CallFault {
     Turnaround,
     /// 13: the number of sources is above n.
     Sources,
+    /// 14: h is below g or above its limit.
+    Keeping,
 }
 
 /// A refusal, of the plan or of the call.
@@ -60,6 +62,7 @@ impl Refusal {
             Refusal::Call(CallFault::SetByte) => 11,
             Refusal::Call(CallFault::Turnaround) => 12,
             Refusal::Call(CallFault::Sources) => 13,
+            Refusal::Call(CallFault::Keeping) => 14,
         }
     }
 }

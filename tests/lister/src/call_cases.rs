@@ -2,7 +2,7 @@
 
 use crate::files::case_bytes;
 use crate::means::Counting;
-use crate::plan::PlanInput;
+use crate::plan::{PlanInput, KEPT};
 
 /// What a case runs.
 pub trait Called: Copy {
@@ -82,6 +82,7 @@ impl<O: Called, const TABLES: usize> CallCase<O, TABLES> {
             stations: self.stations.into(),
             slots: self.slots.into(),
             turnaround: self.turnaround.into(),
+            keeping: KEPT,
         }
     }
 

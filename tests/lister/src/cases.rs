@@ -13,7 +13,7 @@ use std::collections::BTreeSet;
 
 use crate::answer::number;
 use crate::files::{case_bytes, words_bytes, Filed};
-use crate::plan::{check, PlanInput, NO_TURNAROUND};
+use crate::plan::{check, PlanInput, KEPT, NO_TURNAROUND};
 
 pub use generated::{damage, generated_cases, valid_records, SEED};
 
@@ -96,6 +96,7 @@ impl Case {
             stations: usize::from(self.stations),
             slots: usize::from(self.slots),
             turnaround: NO_TURNAROUND,
+            keeping: KEPT,
         }))
     }
 }

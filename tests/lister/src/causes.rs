@@ -1,7 +1,7 @@
-//! The causes of the call from 6 to 9 and from 11 to 13; those of the plan are in `plan`, 10 in `ways`.
+//! The causes of the call from 6 to 9 and from 11 to 14; those of the plan are in `plan`, 10 in `ways`.
 
 use crate::answer::{Answer, CallFault};
-use crate::plan::{Ends, LEAST_TURNAROUND, MOST_TURNAROUND};
+use crate::plan::{Ends, Terms, KEPT, LEAST_TURNAROUND, MOST_TURNAROUND};
 
 /// The cause, if it holds.
 fn unless(holds: bool, cause: CallFault) -> Answer<()> {
@@ -17,7 +17,13 @@ pub fn known_turnaround(turnaround: usize) -> Answer<()> {
     unless(!fits, CallFault::Turnaround)
 }
 
-/// Cause 13: the number of sources is at most n. It is looked at after 12 and before 6.
+/// Cause 14: h is at least g, and inside its limits. It is looked at after 12 and before 13.
+pub fn known_keeping(terms: Terms) -> Answer<()> {
+    let fits = (terms.turnaround..=KEPT).contains(&terms.keeping);
+    unless(!fits, CallFault::Keeping)
+}
+
+/// Cause 13: the number of sources is at most n. It is looked at after 14 and before 6.
 pub fn known_sources(stations: usize, sources: usize) -> Answer<()> {
     unless(sources > stations, CallFault::Sources)
 }

@@ -2,18 +2,18 @@
 
 use crate::answer::{Answer, CallFault};
 use crate::means::LISTED;
-use crate::ways::{paths_of_call, Found, PathCall, Way};
+use crate::ways::{walks_of_call, Found, Way, WayCall};
 
 /// One step of a trace.
 #[derive(Clone, Copy, Debug)]
 pub enum Step<'a> {
     /// A call; the way buffer lent is a beginning of the trace's buffer, of the named length.
-    Call(Way, PathCall<'a>),
+    Call(Way, WayCall<'a>),
     /// The caller writes one entry of the buffer.
     Write(usize, u16),
 }
 
-/// The cursor on the list of shortest paths, with a buffer of its own.
+/// The cursor on the list of shortest walks, with a buffer of its own.
 #[derive(Clone, Debug)]
 pub struct Cursor {
     limit: u64,
@@ -23,9 +23,9 @@ pub struct Cursor {
 }
 
 impl Cursor {
-    /// The cursor starts on the path with which the buffer begins, or on none.
+    /// The cursor starts on the walk with which the buffer begins, or on none.
     pub fn start(limit: u64, list: Vec<Vec<u16>>, contents: &[u16]) -> Cursor {
-        let place = list.iter().position(|path| contents.starts_with(path));
+        let place = list.iter().position(|walk| contents.starts_with(walk));
         Cursor {
             limit,
             list,
@@ -45,8 +45,8 @@ impl Cursor {
     }
 
     /// What the call must answer; its causes other than 10 come from the arguments alone.
-    pub fn call(&mut self, way: Way, call: &PathCall) -> Answer<Found> {
-        let causes = paths_of_call(self.limit, call).map(|_| ());
+    pub fn call(&mut self, way: Way, call: &WayCall) -> Answer<Found> {
+        let causes = walks_of_call(self.limit, call).map(|_| ());
         self.answer(way, causes)
     }
 
@@ -54,7 +54,7 @@ impl Cursor {
     pub fn answer(&mut self, way: Way, causes: Answer<()>) -> Answer<Found> {
         causes?;
         match way {
-            Way::First if self.list.is_empty() => Ok(Found::NoPath),
+            Way::First if self.list.is_empty() => Ok(Found::NoWalk),
             Way::First => Ok(self.go_to(0)),
             Way::Next => match self.place {
                 None => Err(CallFault::NotShortest.into()),
@@ -64,13 +64,13 @@ impl Cursor {
         }
     }
 
-    /// The cursor goes to a path, and that path is given.
+    /// The cursor goes to a walk, and that walk is given.
     fn go_to(&mut self, place: usize) -> Found {
         self.place = Some(place);
         for (entry, position) in self.list[place].iter().enumerate() {
             self.buffer[entry] = *position;
         }
-        Found::Path(self.list[place].len() as u16)
+        Found::Walk(self.list[place].len() as u16)
     }
 }
 

@@ -1,15 +1,17 @@
 //! Pairs and foremost by numbers of walks. This is no plain lister: it lists no walk.
 //!
 //! From a source it adds up how many walks of each number of hops, shortest or not, end at each
-//! appearance; back from a destination, in how many ways such a walk is completed. A shortest walk
-//! is a path, so one with a station interior has one appearance of it, and the through count is the
-//! sum of walks × completions over the station's appearances. The module serves plans with too many
-//! walks to be listed; the tests compare it with the plain lister on small plans.
+//! appearance; back from a destination, in how many ways such a walk is completed. Where units keep
+//! every reading, a shortest walk is a path, so one with a station interior has one appearance of it, and
+//! the through count is the sum of walks × completions over the station's appearances. Where they drop
+//! readings, pairs come from `fast_avoiding`. The module serves plans with too many walks to be listed;
+//! the tests compare it with the plain lister on small plans.
 
 use std::collections::BTreeSet;
 use std::ops::Range;
 
 use crate::answer::Answer;
+use crate::fast_avoiding;
 use crate::foremost::Foremost;
 use crate::numbers::{Appearances, Walks};
 use crate::pair::{PairValues, Paired, PairsFrom};
@@ -48,8 +50,8 @@ impl Walks<'_> {
     }
 
     /// Hops, count and through counts of the shortest walks that end in a part of the appearances of
-    /// a destination. They are paths, and not too many. `leaving` is 0 for each appearance, before and
-    /// after.
+    /// a destination. They are not too many, and paths: the sum for a station has a walk as often as it
+    /// calls there. `leaving` is 0 for each appearance, before and after.
     fn paired(&self, part: Range<usize>, leaving: &mut [u128]) -> Paired {
         let mut through = vec![0; self.appearances.of_station.len()];
         let Some((hops, count)) = self.shortest(part.clone()) else {
@@ -79,6 +81,15 @@ impl Walks<'_> {
 
 /// The values of pairs by numbers of walks.
 pub fn pairs_from(limit: u64, plan: &Plan) -> PairsFrom<'_> {
+    if plan.keeps_all() {
+        by_completions(limit, plan)
+    } else {
+        fast_avoiding::pairs_from(limit, plan)
+    }
+}
+
+/// The values of pairs of a plan in which no reading is dropped, by sums of walks × completions.
+pub fn by_completions(limit: u64, plan: &Plan) -> PairsFrom<'_> {
     let appearances = Appearances::new(plan);
     let mut leaving = vec![0; appearances.all.len()];
     Box::new(move |source, destinations| {

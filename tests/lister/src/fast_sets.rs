@@ -1,6 +1,6 @@
 //! Through set by numbers of walks. This is no plain lister: it lists no walk.
 //!
-//! The shortest paths with no member interior are the walks of as many hops in the plan without the
+//! The shortest walks with no member interior are the walks of as many hops in the plan without the
 //! members' contacts, source and destination keeping theirs; the others have a member interior. The
 //! module serves plans with too many walks to be listed; the tests compare it with the plain lister on
 //! small plans.
@@ -19,7 +19,7 @@ fn without(plan: &Plan, stations: &[usize]) -> Plan {
     plan
 }
 
-/// How many shortest paths of the pair have some member interior, or cause 9.
+/// How many shortest walks of the pair have some member interior, or cause 9.
 pub fn touched(limit: u64, plan: &Plan, ends: Ends, members: &[usize]) -> Answer<u64> {
     let (source, destination) = ends;
     let appearances = Appearances::new(plan);

@@ -1,16 +1,16 @@
 //! First way and next way by numbers of walks. This is no plain lister: it lists no walk.
 //!
-//! The rank of a shortest path is how many of the pair come before it. A path is found from its rank,
-//! and the rank from the path, by the numbers of completions behind each earlier contact; the path
+//! The rank of a shortest walk is how many of the pair come before it. A walk is found from its rank,
+//! and the rank from the walk, by the numbers of completions behind each earlier contact; the walk
 //! after a given one has the next rank. The module serves plans with too many walks to be listed; the
 //! tests compare it with the plain lister on small plans.
 
 use crate::answer::Answer;
 use crate::numbers::{Appearances, Walks};
 use crate::plan::{Appearance, Ends, Plan};
-use crate::ways::Paths;
+use crate::ways::CompleteList;
 
-/// The shortest paths of one pair that has some.
+/// The shortest walks of one pair that has some.
 pub struct Ranked {
     plan: Plan,
     appearances: Appearances,
@@ -19,12 +19,12 @@ pub struct Ranked {
     /// For each number of hops below the pair's, how many walks of so many hops go on from each
     /// appearance to the destination.
     completions: Vec<Vec<u128>>,
-    /// The number of shortest paths.
+    /// The number of shortest walks.
     count: u128,
 }
 
 impl Ranked {
-    /// The pair's shortest paths; none if there is no path.
+    /// The pair's shortest walks; none if there is no walk.
     fn of_pair(
         plan: Plan,
         appearances: Appearances,
@@ -55,11 +55,11 @@ impl Ranked {
     /// The appearance that a contact brings after an appearance.
     fn followed(&self, at: usize, position: usize) -> Option<usize> {
         let contact = self.plan.contacts.get(position)?;
-        let reached = self.appearances.all[at].step(self.plan.turnaround, *contact)?;
+        let reached = self.appearances.all[at].step(self.plan.terms, *contact)?;
         Some(self.appearances.number(reached))
     }
 
-    /// The rank of offered positions; none if they are no shortest path.
+    /// The rank of offered positions; none if they are no shortest walk.
     fn rank(&self, offered: &[u16]) -> Option<u128> {
         let mut at = self.start;
         let mut rank = 0;
@@ -76,14 +76,15 @@ impl Ranked {
         Some(rank)
     }
 
-    /// The positions of the path of a rank, which is below the count.
-    fn path(&self, rank: u128) -> Vec<u16> {
+    /// The positions of the walk of a rank, which is below the count.
+    fn walk(&self, rank: u128) -> Vec<u16> {
         let mut at = self.start;
         let mut rank = rank;
-        let mut path = Vec::new();
+        let mut walk = Vec::new();
         for completions in self.completions.iter().rev() {
             let mut position = 0;
             at = loop {
+                assert!(position < self.plan.contacts.len(), "a rank over the count");
                 if let Some(reached) = self.followed(at, position) {
                     if rank < completions[reached] {
                         break reached;
@@ -92,21 +93,21 @@ impl Ranked {
                 }
                 position += 1;
             };
-            path.push(position as u16);
+            walk.push(position as u16);
         }
-        path
+        walk
     }
 }
 
-/// The pair's paths, none where it has no path.
-impl Paths for Option<Ranked> {
+/// The pair's walks, none where it has no walk.
+impl CompleteList for Option<Ranked> {
     fn count(&self) -> u128 {
         self.as_ref().map_or(0, |ranked| ranked.count)
     }
 
-    fn path(&self, place: u128) -> Vec<u16> {
+    fn walk(&self, place: u128) -> Vec<u16> {
         self.as_ref()
-            .map_or(Vec::new(), |ranked| ranked.path(place))
+            .map_or(Vec::new(), |ranked| ranked.walk(place))
     }
 
     fn place(&self, buffer: &[u16]) -> Option<u128> {
@@ -115,8 +116,8 @@ impl Paths for Option<Ranked> {
     }
 }
 
-/// The shortest paths of a pair of an accepted plan, or cause 9.
-pub fn paths(limit: u64, plan: Plan, (source, destination): Ends) -> Answer<Option<Ranked>> {
+/// The shortest walks of a pair of an accepted plan, or cause 9.
+pub fn list(limit: u64, plan: Plan, (source, destination): Ends) -> Answer<Option<Ranked>> {
     let appearances = Appearances::new(&plan);
     Walks::from_source(&appearances, source).few_enough(limit)?;
     Ok(Ranked::of_pair(plan, appearances, source, destination))

@@ -46,7 +46,7 @@ fn listed(limit: u64, plan: &Plan, (source, destination): Ends) -> Answer<Foremo
 impl Means {
     /// Foremost: the earliest slot, the fewest hops of the walks that arrive then, their count, and n
     /// through counts in the lent table. Arguments, lent memory and causes are those of pair, but 9
-    /// looks at appearances alone.
+    /// looks at appearances alone, and h is not looked at: units keep every reading, and there is no 14.
     pub fn foremost(
         self,
         input: PlanInput,
@@ -54,7 +54,7 @@ impl Means {
         through: &mut [u64],
         scratch: &mut [u64],
     ) -> Answer<ForemostValues> {
-        let plan = cleared(input, ends, through, scratch)?;
+        let plan = cleared(input.kept(), ends, through, scratch)?;
         let found = match self.counting {
             Counting::Listed => listed,
             Counting::Fast => fast_pairs::foremost,

@@ -3,8 +3,8 @@
 //!
 //! Every walk from a source is listed, hop by hop; the shortest are picked by comparing lengths;
 //! a count is the length of a list. It serves as the other side of comparisons on small plans. The
-//! modules `fast`, `fast_pairs`, `fast_sets` and `fast_ways` alone list no walk; they serve plans with
-//! too many.
+//! modules `fast`, `fast_pairs`, `fast_avoiding`, `fast_sets` and `fast_ways` alone list no walk; they
+//! serve plans with too many.
 //!
 //! The words here, and document 01's where they differ:
 //!
@@ -13,12 +13,13 @@
 //! | station, slot, contact, plan, position, appearance | the same |
 //! | sender, hearer | a, b of a contact (t, a, b), as document 02's C-16 has it |
 //! | turnaround | g, as document 02's C-17 has it |
+//! | keeping | h, as document 02's C-21 has it |
 //! | walk | chain |
 //! | hops | legs |
 //! | path | way |
 //! | shortest | least, with the fewest legs |
 //! | interior | inside |
-//! | shortest paths | the complete list |
+//! | shortest walks | the complete list |
 //! | trace | listing |
 //! | cursor | finger |
 //! | buffer | lent table, way buffer |
@@ -32,6 +33,7 @@ pub mod cases;
 pub mod causes;
 pub mod cursor;
 pub mod fast;
+pub mod fast_avoiding;
 pub mod fast_pairs;
 pub mod fast_sets;
 pub mod fast_ways;
@@ -61,6 +63,7 @@ pub mod set_cases;
 pub mod sets;
 pub mod shortest;
 pub mod show;
+pub mod stale;
 pub mod traces;
 pub mod turned;
 pub mod verdict_cases;

@@ -45,15 +45,15 @@ pub fn with_one_change(list: &[u16], records: u16) -> Vec<NearList> {
     lists
 }
 
-/// The list of some paths with whole paths changed: each missing, there twice, and swapped with the next; the
-/// paths in the other order; the first one behind all; and all twice.
-pub fn with_paths_changed(paths: &[Vec<u16>]) -> Vec<NearList> {
+/// The list of some walks with whole walks changed: each missing, there twice, and swapped with the next; the
+/// walks in the other order; the first one behind all; and all twice.
+pub fn with_walks_changed(walks: &[Vec<u16>]) -> Vec<NearList> {
     let mut lists = Vec::new();
     let mut push = |words: String, changed: &[&[Vec<u16>]]| {
         lists.push((words, changed.concat().concat()));
     };
-    for place in 0..paths.len() {
-        let (before, from) = paths.split_at(place);
+    for place in 0..walks.len() {
+        let (before, from) = walks.split_at(place);
         push(format!("path {place} missing"), &[before, &from[1..]]);
         push(format!("path {place} twice"), &[before, &from[..1], from]);
         if let [one, other, behind @ ..] = from {
@@ -64,25 +64,25 @@ pub fn with_paths_changed(paths: &[Vec<u16>]) -> Vec<NearList> {
             );
         }
     }
-    if let [first, _, ..] = paths {
-        let reversed: Vec<Vec<u16>> = paths.iter().rev().cloned().collect();
+    if let [first, _, ..] = walks {
+        let reversed: Vec<Vec<u16>> = walks.iter().rev().cloned().collect();
         push("paths in the other order".to_string(), &[&reversed]);
         push(
             "first path behind all".to_string(),
-            &[paths, &[first.clone()]],
+            &[walks, &[first.clone()]],
         );
-        push("all paths twice".to_string(), &[paths, paths]);
+        push("all paths twice".to_string(), &[walks, walks]);
     }
     lists
 }
 
 /// All of them: the prefixes, the whole list among them, and those with a change.
-pub fn near(paths: &[Vec<u16>], records: u16) -> Vec<NearList> {
-    let list = paths.concat();
+pub fn near(walks: &[Vec<u16>], records: u16) -> Vec<NearList> {
+    let list = walks.concat();
     [
         prefixes(&list),
         with_one_change(&list, records),
-        with_paths_changed(paths),
+        with_walks_changed(walks),
     ]
     .concat()
 }

@@ -4,7 +4,7 @@
 use crate::answer::{Answer, PlanFault};
 use crate::means::{Means, COUNTED, LISTED};
 use crate::numbers::Appearances;
-use crate::plan::{contacts, read, whole_records, Plan, PlanInput};
+use crate::plan::{contacts, read, whole_records, Plan, PlanInput, KEPT};
 use crate::show::{loads_text, text_of};
 
 /// The load programs' largest n.
@@ -17,7 +17,7 @@ pub const MOST_CONTACTS: usize = 1024;
 /// The most walks, from all sources together, that are listed.
 const MOST_LISTED: u128 = 10_000;
 
-/// The plan that an input names, with a turnaround, or the first of causes 2 and 1. n is one more than the
+/// The plan that an input names, with a turnaround, of units that keep every reading, or the first of causes 2 and 1. n is one more than the
 /// largest station number, T the slot of the last record; both are 1 for an empty input.
 fn named_plan(turnaround: usize, bytes: &[u8]) -> Answer<PlanInput<'_>> {
     whole_records(bytes, MOST_CONTACTS)?;
@@ -32,6 +32,7 @@ fn named_plan(turnaround: usize, bytes: &[u8]) -> Answer<PlanInput<'_>> {
         stations,
         slots,
         turnaround,
+        keeping: KEPT,
     })
 }
 

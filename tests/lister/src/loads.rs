@@ -9,7 +9,7 @@ use crate::plan::{read, Plan, PlanInput};
 /// The pairs and the load of one station.
 #[derive(Clone, Copy, Debug, Default, PartialEq, Eq)]
 pub struct Load {
-    /// The ordered pairs with this station interior to some shortest path.
+    /// The ordered pairs with this station interior to some shortest walk.
     pub pairs: u64,
     /// The sum of the shares over these pairs, in units of 1/2^32.
     pub load: u64,

@@ -7,7 +7,7 @@ use std::{fs, io};
 use lister::files::{stdin_bytes, stdout_text, Filed};
 use lister::load_program::load_text;
 use lister::means::LISTED;
-use lister::plan::PlanInput;
+use lister::plan::{PlanInput, KEPT};
 use lister::show::{
     foremost_text, loads_text, pair_text, partial_text, reach_text, set_text, text_of, verdict_text,
 };
@@ -118,6 +118,7 @@ fn print_for_plan([n, t, g]: [&str; 3], text: impl Fn(PlanInput) -> String) -> R
         stations,
         slots,
         turnaround,
+        keeping: KEPT,
     };
     print!("{}", text(input));
     Ok(())

@@ -8,7 +8,7 @@ use std::ops::Range;
 
 use crate::answer::Answer;
 use crate::causes::few_enough;
-use crate::plan::{follows, Appearance, Contact, Plan};
+use crate::plan::{Appearance, Contact, Plan};
 
 /// The sender and the hearer of a contact, in its slot.
 fn ends(contact: &Contact) -> [Appearance; 2] {
@@ -27,9 +27,42 @@ pub struct Appearances {
     pub leads: Vec<Vec<usize>>,
     /// The senders of the contacts that each appearance's station hears in its slot.
     pub hears: Vec<Vec<usize>>,
-    /// For each appearance, those of its station that contacts in its slot may follow: the first ones,
-    /// since a contact that may follow an appearance may follow all earlier ones.
-    followed: Vec<Range<usize>>,
+    /// For each appearance, those of its station but the start that contacts in its slot may follow.
+    pub followed: Vec<Range<usize>>,
+    /// For each appearance, those of its station in whose slots contacts may follow it.
+    following: Vec<Range<usize>>,
+}
+
+/// The sum of the entries of a range, carried from one range to the next.
+struct Carried<'a> {
+    entries: &'a [u128],
+    range: Range<usize>,
+    sum: u128,
+}
+
+impl Carried<'_> {
+    /// No entry yet.
+    fn new(entries: &[u128]) -> Carried<'_> {
+        Carried {
+            entries,
+            range: 0..0,
+            sum: 0,
+        }
+    }
+
+    /// The sum over the next range: where it has all of the one before, only the rest is added.
+    fn over(&mut self, range: &Range<usize>) -> u128 {
+        if range.start > self.range.start || self.range.end > range.end {
+            self.range = range.start..range.start;
+            self.sum = 0;
+        }
+        let before = &self.entries[range.start..self.range.start];
+        let behind = &self.entries[self.range.end..range.end];
+        let more = before.iter().chain(behind).copied();
+        self.sum = more.fold(self.sum, u128::saturating_add);
+        self.range = range.clone();
+        self.sum
+    }
 }
 
 impl Appearances {
@@ -43,14 +76,20 @@ impl Appearances {
             hears: vec![Vec::new(); all.len()],
             of_station: Vec::new(),
             followed: Vec::new(),
+            following: Vec::new(),
             all: all.into_iter().collect(),
         };
         for station in 0..plan.stations {
             let row = appearances.number(Appearance::start(station))
                 ..appearances.number(Appearance::start(station + 1));
             for at in row.clone() {
-                let followed = appearances.followed_from(plan.turnaround, row.clone(), at);
+                let slot = appearances.all[at].slot;
+                let earlier = |other| plan.terms.follows(other, slot);
+                let followed = appearances.with_slots(row.start + 1..at, earlier);
+                let later = |other| plan.terms.follows(slot, other);
+                let following = appearances.with_slots(at + 1..row.end, later);
                 appearances.followed.push(followed);
+                appearances.following.push(following);
             }
             appearances.of_station.push(row);
         }
@@ -62,11 +101,13 @@ impl Appearances {
         appearances
     }
 
-    /// The appearances of a row that contacts in the slot of one of them may follow.
-    fn followed_from(&self, turnaround: usize, row: Range<usize>, at: usize) -> Range<usize> {
-        let slot = self.all[at].slot;
-        let may_follow = |earlier: &Appearance| follows(turnaround, earlier.slot, slot);
-        row.start..row.start + self.all[row].partition_point(may_follow)
+    /// The appearances of a part of a row whose slots have a property; they stand together.
+    fn with_slots(&self, part: Range<usize>, has: impl Fn(usize) -> bool) -> Range<usize> {
+        let mut those = part.filter(|at| has(self.all[*at].slot));
+        match those.next() {
+            Some(first) => first..those.last().unwrap_or(first) + 1,
+            None => 0..0,
+        }
     }
 
     /// The number of an appearance.
@@ -79,22 +120,19 @@ impl Appearances {
         self.all.binary_search(&appearance).ok()
     }
 
-    /// For each appearance of a station, the sum of the entries of those that contacts in its slot may
-    /// follow.
+    /// For each appearance of a station but the start, the sum of the entries of those that contacts in
+    /// its slot may follow: the start among them.
     fn sums_before<'a>(
         &'a self,
         station: usize,
         entries: &'a [u128],
     ) -> impl Iterator<Item = (usize, u128)> + 'a {
         let row = self.of_station[station].clone();
-        let mut summed = row.start;
-        let mut sum: u128 = 0;
-        row.map(move |at| {
-            let end = self.followed[at].end;
-            let more = entries[summed..end].iter().copied();
-            sum = more.fold(sum, u128::saturating_add);
-            summed = end;
-            (at, sum)
+        let start = entries[row.start];
+        let mut earlier = Carried::new(entries);
+        row.skip(1).map(move |at| {
+            let sum = earlier.over(&self.followed[at]);
+            (at, sum.saturating_add(start))
         })
     }
 
@@ -106,14 +144,9 @@ impl Appearances {
         entries: &'a [u128],
     ) -> impl Iterator<Item = (usize, u128)> + 'a {
         let row = self.of_station[station].clone();
-        let mut later = row.clone().rev().peekable();
-        let mut sum: u128 = 0;
-        row.rev().map(move |at| {
-            while let Some(later) = later.next_if(|later| self.followed[*later].contains(&at)) {
-                sum = sum.saturating_add(entries[later]);
-            }
-            (at, sum)
-        })
+        let mut later = Carried::new(entries);
+        row.rev()
+            .map(move |at| (at, later.over(&self.following[at])))
     }
 
     /// The walks of one hop more, for each appearance.
@@ -130,7 +163,7 @@ impl Appearances {
     }
 
     /// The walks of no hop from a source.
-    fn empty_walk(&self, source: usize) -> Vec<u128> {
+    pub fn empty_walk(&self, source: usize) -> Vec<u128> {
         let mut walks = vec![0; self.all.len()];
         walks[self.of_station[source].start] = 1;
         walks

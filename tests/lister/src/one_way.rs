@@ -5,8 +5,8 @@ use crate::cases::Record;
 use crate::pair_cases::LabelledPlan;
 use crate::plans::Owned;
 
-/// Paths by their positions.
-pub type PathList = &'static [&'static [u16]];
+/// Walks by their positions.
+pub type WalkList = &'static [&'static [u16]];
 
 /// A plan, and two lists of shortest paths.
 #[derive(Clone, Copy, Debug)]
@@ -16,9 +16,9 @@ pub struct OneWayPlan {
     pub sizes: (u16, u16),
     pub records: &'static [Record],
     /// From the first station to the last.
-    pub there: PathList,
+    pub there: WalkList,
     /// From the last station to the first.
-    pub back: PathList,
+    pub back: WalkList,
 }
 
 impl OneWayPlan {

@@ -58,13 +58,14 @@ impl Operation {
     pub fn causes(self) -> &'static [u32] {
         match self {
             Check => &[1, 2, 3, 4, 5],
-            Reach => &[1, 2, 3, 4, 5, 12, 6, 8, 9],
+            Reach => &[1, 2, 3, 4, 5, 12, 14, 6, 8, 9],
             Row | RowNumber => &[1, 6, 8],
-            Pair | FirstWay | Foremost | Verdict => &[1, 2, 3, 4, 5, 12, 6, 7, 8, 9],
-            Loads | Busiest => &[1, 2, 3, 4, 5, 12, 8, 9],
-            NextWay => &[1, 2, 3, 4, 5, 12, 6, 7, 8, 9, 10],
-            ThroughSet => &[1, 2, 3, 4, 5, 12, 6, 7, 8, 11, 9],
-            PartialLoads => &[1, 2, 3, 4, 5, 12, 13, 8, 9],
+            Pair | FirstWay | Verdict => &[1, 2, 3, 4, 5, 12, 14, 6, 7, 8, 9],
+            Foremost => &[1, 2, 3, 4, 5, 12, 6, 7, 8, 9],
+            Loads | Busiest => &[1, 2, 3, 4, 5, 12, 14, 8, 9],
+            NextWay => &[1, 2, 3, 4, 5, 12, 14, 6, 7, 8, 9, 10],
+            ThroughSet => &[1, 2, 3, 4, 5, 12, 14, 6, 7, 8, 11, 9],
+            PartialLoads => &[1, 2, 3, 4, 5, 12, 14, 13, 8, 9],
         }
     }
 
@@ -79,7 +80,7 @@ impl Operation {
         [0].into_iter().chain(refused).chain(further).collect()
     }
 
-    /// How many numbers a call has behind g: the stations that it names, or partial loads' k.
+    /// How many numbers a call has behind g and h: the stations that it names, or partial loads' k.
     pub fn arguments(self) -> usize {
         match self {
             Check | Loads | Busiest => 0,
@@ -124,7 +125,7 @@ impl Operation {
         self == Verdict
     }
 
-    /// Whether a 16-bit table is the way buffer, which only a path given is written to.
+    /// Whether a 16-bit table is the way buffer, which only a walk given is written to.
     pub fn takes_way_buffer(self) -> bool {
         matches!(self, FirstWay | NextWay)
     }
@@ -175,7 +176,7 @@ impl Answered {
 /// The number of an answer of first way or next way.
 pub fn way_number(answer: &Answer<Found>) -> u32 {
     match answer {
-        Ok(Found::NoPath) => NONE,
+        Ok(Found::NoWalk) => NONE,
         Ok(Found::Last) => LAST,
         _ => number(answer).into(),
     }

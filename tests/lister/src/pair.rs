@@ -6,10 +6,10 @@ use crate::fast_pairs;
 use crate::lent::{clear, scratch_length};
 use crate::means::{Counting, Means};
 use crate::plan::{read, Ends, Plan, PlanInput};
-use crate::shortest::{count_of, hops_of, shortest_paths, walks_within};
+use crate::shortest::{count_of, hops_of, shortest_walks, walks_within};
 use crate::walk::Walk;
 
-/// The values that pair answers: 65535 and 0 if there is no path.
+/// The values that pair answers: 65535 and 0 if there is no walk.
 #[derive(Clone, Copy, Debug, Default, PartialEq, Eq)]
 pub struct PairValues {
     pub hops: u16,
@@ -23,19 +23,20 @@ pub struct Paired {
     pub through: Vec<u64>,
 }
 
-/// The through count of a station: how many paths of the list have it interior.
-fn through_count(paths: &[&Walk], station: usize) -> u64 {
-    let through = paths.iter().filter(|path| path.has_interior(station));
+/// The through count of a station: how many walks of the list have it interior, each counted once however
+/// often it calls there.
+fn through_count(walks: &[&Walk], station: usize) -> u64 {
+    let through = walks.iter().filter(|walk| walk.has_interior(station));
     through.count() as u64
 }
 
-/// The values of the listed paths of a pair.
-pub fn paired(plan: &Plan, paths: &[&Walk]) -> Paired {
-    let through = (0..plan.stations).map(|station| through_count(paths, station));
+/// The values of the listed walks of a pair.
+pub fn paired(plan: &Plan, walks: &[&Walk]) -> Paired {
+    let through = (0..plan.stations).map(|station| through_count(walks, station));
     Paired {
         values: PairValues {
-            hops: hops_of(paths),
-            count: count_of(paths),
+            hops: hops_of(walks),
+            count: count_of(walks),
         },
         through: through.collect(),
     }
@@ -44,14 +45,14 @@ pub fn paired(plan: &Plan, paths: &[&Walk]) -> Paired {
 /// For a source and some destinations the values of their pairs, or cause 9.
 pub type PairsFrom<'a> = Box<dyn FnMut(usize, &[usize]) -> Answer<Vec<Paired>> + 'a>;
 
-/// The values of pairs by their lists of paths.
+/// The values of pairs by their lists of walks.
 fn listed_pairs(limit: u64, plan: &Plan) -> PairsFrom<'_> {
     Box::new(move |source, destinations| {
         let walks = walks_within(limit, plan, source)?;
-        let paths = destinations
+        let lists = destinations
             .iter()
-            .map(|destination| shortest_paths(&walks, *destination));
-        Ok(paths.map(|paths| paired(plan, &paths)).collect())
+            .map(|destination| shortest_walks(&walks, *destination));
+        Ok(lists.map(|walks| paired(plan, &walks)).collect())
     })
 }
 

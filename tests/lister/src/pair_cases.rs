@@ -34,7 +34,7 @@ use crate::files::Filed;
 use crate::foremost::ForemostValues;
 use crate::lent::scratch_length;
 use crate::means::Counting;
-use crate::plan::LEAST_TURNAROUND;
+use crate::plan::{KEPT, LEAST_TURNAROUND};
 use crate::plans::{pairs, Owned};
 use crate::reach_cases::{counts_text, Builder};
 
@@ -246,6 +246,7 @@ impl LabelledPlan {
             stations: stations.into(),
             slots: slots.into(),
             turnaround: self.turnaround.into(),
+            keeping: KEPT,
         }
     }
 

@@ -1,7 +1,7 @@
 //! Plans, their bytes, and operation 1, check.
 
 use crate::answer::{Answer, PlanFault};
-use crate::causes::known_turnaround;
+use crate::causes::{known_keeping, known_turnaround};
 
 /// The largest n.
 pub const MOST_STATIONS: usize = 256;
@@ -15,6 +15,8 @@ pub const LEAST_TURNAROUND: usize = 1;
 pub const MOST_TURNAROUND: usize = 16;
 /// The g of a call of check or row, which take none.
 pub const NO_TURNAROUND: usize = 0;
+/// The h of units that keep a reading until the plan ends, since no T is larger; also the largest h.
+pub const KEPT: usize = 255;
 /// The bytes of one record.
 pub const RECORD_BYTES: usize = 6;
 
@@ -49,11 +51,26 @@ impl Contact {
     }
 }
 
-/// The rule of following: whether a contact in a slot may follow an appearance in another. The start, in
-/// slot 0, may be followed by any slot; what is heard in slot t goes out in slot t + g or later.
-#[inline]
-pub fn follows(turnaround: usize, reached: usize, slot: usize) -> bool {
-    reached < slot && (reached == 0 || reached + turnaround <= slot)
+/// When units send on what they hear: from g slots after hearing it until they drop it h slots after.
+#[derive(Clone, Copy, Debug, PartialEq, Eq)]
+pub struct Terms {
+    /// g
+    pub turnaround: usize,
+    /// h
+    pub keeping: usize,
+}
+
+impl Terms {
+    /// The rule of following: whether a contact in a slot may follow an appearance in another. The start,
+    /// in slot 0, may be followed by any slot; what is heard in slot t goes out in the slots from t + g to
+    /// t + h.
+    #[inline]
+    pub fn follows(self, reached: usize, slot: usize) -> bool {
+        match reached {
+            0 => slot > 0,
+            _ => (reached + self.turnaround..=reached + self.keeping).contains(&slot),
+        }
+    }
 }
 
 /// An appearance: a station, and the slot in which it is reached.
@@ -74,8 +91,8 @@ impl Appearance {
 
     /// The appearance that a contact brings after this one.
     #[inline]
-    pub fn step(self, turnaround: usize, contact: Contact) -> Option<Appearance> {
-        if !follows(turnaround, self.slot, contact.slot) {
+    pub fn step(self, terms: Terms, contact: Contact) -> Option<Appearance> {
+        if !terms.follows(self.slot, contact.slot) {
             return None;
         }
         let station = contact.leads_from(self.station)?;
@@ -89,7 +106,8 @@ impl Appearance {
 /// The source and the destination of a pair.
 pub type Ends = (usize, usize);
 
-/// A plan as a call names it: its bytes, n, T and g, all unchecked. Check and row do not look at g.
+/// A plan as a call names it: its bytes, n, T, g and h, all unchecked. Check and row look at neither g nor h,
+/// and foremost not at h.
 #[derive(Clone, Copy, Debug)]
 pub struct PlanInput<'a> {
     pub bytes: &'a [u8],
@@ -99,6 +117,8 @@ pub struct PlanInput<'a> {
     pub slots: usize,
     /// g
     pub turnaround: usize,
+    /// h
+    pub keeping: usize,
 }
 
 /// An accepted plan; a contact's index is its position.
@@ -108,9 +128,16 @@ pub struct Plan {
     pub stations: usize,
     /// T
     pub slots: usize,
-    /// g
-    pub turnaround: usize,
+    pub terms: Terms,
     pub contacts: Vec<Contact>,
+}
+
+impl Plan {
+    /// Whether no reading is dropped before the plan ends: T <= h + 1. The first slot in which one is heard
+    /// is 1, and the last in which one is sent is T.
+    pub fn keeps_all(&self) -> bool {
+        self.slots <= self.terms.keeping + 1
+    }
 }
 
 /// Cause 1: n and T are inside their limits.
@@ -140,6 +167,20 @@ pub fn contacts(bytes: &[u8]) -> impl DoubleEndedIterator<Item = Contact> + '_ {
 }
 
 impl PlanInput<'_> {
+    /// g and h.
+    pub fn terms(&self) -> Terms {
+        Terms {
+            turnaround: self.turnaround,
+            keeping: self.keeping,
+        }
+    }
+
+    /// The same plan of units that keep a reading until the plan ends.
+    pub fn kept(self) -> Self {
+        let keeping = KEPT;
+        PlanInput { keeping, ..self }
+    }
+
     /// Causes 3, 4 and 5 of a record behind another.
     fn accepts(&self, contact: Contact, before: Option<Contact>) -> Answer<()> {
         if contact.slot == 0 || contact.slot > self.slots {
@@ -168,14 +209,15 @@ pub fn check(input: PlanInput) -> Answer<()> {
     Ok(())
 }
 
-/// The plan that the bytes hold, or the first of causes 1 to 5 and 12.
+/// The plan that the bytes hold, or the first of causes 1 to 5, 12 and 14.
 pub fn read(input: PlanInput) -> Answer<Plan> {
     check(input)?;
     known_turnaround(input.turnaround)?;
+    known_keeping(input.terms())?;
     Ok(Plan {
         stations: input.stations,
         slots: input.slots,
-        turnaround: input.turnaround,
+        terms: input.terms(),
         contacts: contacts(input.bytes).collect(),
     })
 }

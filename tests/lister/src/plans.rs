@@ -3,10 +3,10 @@
 use crate::cases::{doubled, plan_bytes, Record};
 use crate::lent;
 use crate::means::COUNT_LIMIT;
-use crate::plan::{Ends, PlanInput, LEAST_TURNAROUND};
+use crate::plan::{Ends, PlanInput, KEPT, LEAST_TURNAROUND};
 use crate::random::Random;
 use crate::reach_cases::Builder;
-use crate::ways::{paths_of_call, PathCall};
+use crate::ways::{walks_of_call, WayCall};
 
 /// The records of a plan in a table of plans.
 #[derive(Clone, Copy, Debug)]
@@ -27,23 +27,25 @@ impl Records {
     }
 }
 
-/// A plan's bytes with n, T and g.
+/// A plan's bytes with n, T, g and h.
 #[derive(Clone, Debug)]
 pub struct Owned {
     pub bytes: Vec<u8>,
     pub stations: usize,
     pub slots: usize,
     pub turnaround: usize,
+    pub keeping: usize,
 }
 
 impl Owned {
-    /// The plan of some records, with the smallest turnaround.
+    /// The plan of some records, with the smallest turnaround, of units that keep every reading.
     pub fn new(stations: usize, slots: usize, records: &[Record]) -> Owned {
         Owned {
             bytes: plan_bytes(records),
             stations,
             slots,
             turnaround: LEAST_TURNAROUND,
+            keeping: KEPT,
         }
     }
 
@@ -55,6 +57,7 @@ impl Owned {
             stations: stations.into(),
             slots: slots.into(),
             turnaround: builder.turnaround(),
+            keeping: KEPT,
         }
     }
 
@@ -63,12 +66,18 @@ impl Owned {
         Owned { turnaround, ..self }
     }
 
+    /// The plan of units that drop a reading so many slots after hearing it.
+    pub fn keeping_for(self, keeping: usize) -> Owned {
+        Owned { keeping, ..self }
+    }
+
     pub fn input(&self) -> PlanInput<'_> {
         PlanInput {
             bytes: &self.bytes,
             stations: self.stations,
             slots: self.slots,
             turnaround: self.turnaround,
+            keeping: self.keeping,
         }
     }
 
@@ -78,8 +87,8 @@ impl Owned {
     }
 
     /// A call on memory of exactly the named lengths.
-    pub fn path_call(&self, source: usize, destination: usize) -> PathCall<'_> {
-        PathCall {
+    pub fn way_call(&self, source: usize, destination: usize) -> WayCall<'_> {
+        WayCall {
             input: self.input(),
             source,
             destination,
@@ -88,9 +97,9 @@ impl Owned {
         }
     }
 
-    /// The positions of the pair's shortest paths.
+    /// The positions of the pair's shortest walks.
     pub fn list(&self, source: usize, destination: usize) -> Vec<Vec<u16>> {
-        paths_of_call(COUNT_LIMIT, &self.path_call(source, destination)).unwrap()
+        walks_of_call(COUNT_LIMIT, &self.way_call(source, destination)).unwrap()
     }
 }
 

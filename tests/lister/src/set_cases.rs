@@ -21,7 +21,7 @@ use crate::files::{case_bytes, Filed};
 use crate::lent::scratch_length;
 use crate::means::Counting;
 use crate::pair_cases::LabelledPlan;
-use crate::plan::{Ends, PlanInput};
+use crate::plan::{Ends, PlanInput, KEPT};
 use crate::reach_cases::counts_text;
 use crate::sets::set_of;
 
@@ -156,6 +156,7 @@ impl Case {
             stations: self.stations.into(),
             slots: self.slots.into(),
             turnaround: self.turnaround.into(),
+            keeping: KEPT,
         }
     }
 

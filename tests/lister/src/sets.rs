@@ -6,7 +6,7 @@ use crate::fast_sets;
 use crate::lent::{clear, scratch_length};
 use crate::means::{Counting, Means};
 use crate::plan::{read, Ends, Plan, PlanInput};
-use crate::shortest::{shortest_paths, walks_within};
+use crate::shortest::{shortest_walks, walks_within};
 
 /// The byte of a member.
 pub const MEMBER: u8 = 1;
@@ -23,18 +23,18 @@ fn members_of(set: &[u8]) -> Vec<usize> {
     members.collect()
 }
 
-/// How many of the pair's listed paths have some member interior, or cause 9.
+/// How many of the pair's listed walks have some member interior, or cause 9.
 fn listed(limit: u64, plan: &Plan, ends: Ends, members: &[usize]) -> Answer<u64> {
     let walks = walks_within(limit, plan, ends.0)?;
-    let paths = shortest_paths(&walks, ends.1);
-    let touched = paths
+    let walks = shortest_walks(&walks, ends.1);
+    let touched = walks
         .iter()
-        .filter(|path| members.iter().any(|member| path.has_interior(*member)));
+        .filter(|walk| members.iter().any(|member| walk.has_interior(*member)));
     Ok(touched.count() as u64)
 }
 
 impl Means {
-    /// Through set: how many shortest paths of a pair have at least one member of the set interior. The
+    /// Through set: how many shortest walks of a pair have at least one member of the set interior. The
     /// set has a byte for each station, 1 for a member and 0 for not.
     pub fn through_set(
         self,

@@ -5,7 +5,7 @@ use crate::plan::{Appearance, Plan};
 use crate::reach::{Entries, Entry};
 use crate::walk::{walks_from, Walk};
 
-/// The hops of an appearance or a station that no walk reaches, and foremost's slot without a path.
+/// The hops of an appearance or a station that no walk reaches, and foremost's slot without a walk.
 pub const NO_WALK: u16 = 65535;
 
 /// The walks with the fewest hops.
@@ -23,17 +23,13 @@ pub fn walks_to_appearance(walks: &[Walk], station: usize, slot: usize) -> Vec<&
     shortest(walks.iter().filter(reaches))
 }
 
-/// The shortest walks to a station, in whatever slot.
-pub fn walks_to_station(walks: &[Walk], station: usize) -> Vec<&Walk> {
-    shortest(walks.iter().filter(|walk| walk.end() == station))
-}
-
-/// The shortest paths to a station, document 01's complete list: ordered by their positions.
-pub fn shortest_paths(walks: &[Walk], destination: usize) -> Vec<&Walk> {
-    let reaches = |walk: &&Walk| walk.is_path() && walk.end() == destination;
-    let mut paths = shortest(walks.iter().filter(reaches));
-    paths.sort_by(|one, other| one.positions.cmp(&other.positions));
-    paths
+/// The shortest walks to a station, in whatever slot, document 01's complete list: ordered by their
+/// positions.
+pub fn shortest_walks(walks: &[Walk], destination: usize) -> Vec<&Walk> {
+    let reaches = |walk: &&Walk| walk.end() == destination;
+    let mut walks = shortest(walks.iter().filter(reaches));
+    walks.sort_by(|one, other| one.positions.cmp(&other.positions));
+    walks
 }
 
 /// The shortest foremost walks to a station: of those that reach it in the earliest slot in which any
@@ -70,7 +66,7 @@ pub fn entries_of(plan: &Plan, walks: &[Walk]) -> Entries {
         count: count_of(&walks).into(),
     };
     let to_appearance = |station, slot| entry(walks_to_appearance(walks, station, slot));
-    let to_station = |station| entry(walks_to_station(walks, station));
+    let to_station = |station| entry(shortest_walks(walks, station));
     Entries::new(plan, to_appearance, to_station)
 }
 

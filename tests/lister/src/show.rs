@@ -11,7 +11,7 @@ use crate::row::row;
 use crate::sets::set_of;
 use crate::shortest::{foremost_walks, positions_of};
 use crate::walk::walks_from;
-use crate::ways::{paths_of_call, PathCall};
+use crate::ways::{walks_of_call, WayCall};
 
 /// The text of an answer; a refusal is one line.
 pub fn text_of(answer: Answer<String>) -> String {
@@ -27,32 +27,32 @@ fn spaced<N: ToString>(numbers: &[N]) -> String {
     words.join(" ")
 }
 
-/// A line of through counts, then paths by their positions, one a line.
-fn through_text(through: &[u64], paths: &[Vec<u16>]) -> String {
-    let lines = paths.iter().map(|path| format!("path {}\n", spaced(path)));
+/// A line of through counts, then walks by their positions, one a line.
+fn through_text(through: &[u64], walks: &[Vec<u16>]) -> String {
+    let lines = walks.iter().map(|walk| format!("path {}\n", spaced(walk)));
     format!("through {}\n{}", spaced(through), lines.collect::<String>())
 }
 
-/// Hops, count and through counts of a pair, then its shortest paths, one a line.
+/// Hops, count and through counts of a pair, then its shortest walks, one a line.
 pub fn pair_text(input: PlanInput, ends: Ends) -> Answer<String> {
     let plan = read(input)?;
     let mut through = vec![0; plan.stations];
     let mut scratch = vec![0; scratch_length(plan.stations, plan.slots)];
     let PairValues { hops, count } = LISTED.pair(input, ends, &mut through, &mut scratch)?;
-    let call = PathCall {
+    let call = WayCall {
         input,
         source: ends.0,
         destination: ends.1,
         buffer_length: plan.slots,
         scratch_length: scratch.len(),
     };
-    let paths = through_text(&through, &paths_of_call(COUNT_LIMIT, &call)?);
-    Ok(format!("hops {hops}\ncount {count}\n{paths}"))
+    let walks = through_text(&through, &walks_of_call(COUNT_LIMIT, &call)?);
+    Ok(format!("hops {hops}\ncount {count}\n{walks}"))
 }
 
 /// Slot, hops, count and through counts of a pair's shortest foremost paths, then these, one a line.
 pub fn foremost_text(input: PlanInput, ends: Ends) -> Answer<String> {
-    let plan = read(input)?;
+    let plan = read(input.kept())?;
     let mut through = vec![0; plan.stations];
     let mut scratch = vec![0; scratch_length(plan.stations, plan.slots)];
     let ForemostValues { slot, hops, count } =
@@ -63,7 +63,7 @@ pub fn foremost_text(input: PlanInput, ends: Ends) -> Answer<String> {
     Ok(format!("slot {slot}\nhops {hops}\ncount {count}\n{paths}"))
 }
 
-/// The members of a set, and how many shortest paths of a pair have one of them interior.
+/// The members of a set, and how many shortest walks of a pair have one of them interior.
 pub fn set_text(input: PlanInput, ends: Ends, members: &[usize]) -> Answer<String> {
     let plan = read(input)?;
     let set = set_of(plan.stations, members);

@@ -2,7 +2,7 @@
 //! back, all plans of two links in four slots, and drawn ones.
 
 use crate::cases::{valid_records, Record, PLAN_A};
-use crate::one_way::PathList;
+use crate::one_way::WalkList;
 use crate::pair_cases::LabelledPlan;
 use crate::plan::MOST_TURNAROUND;
 use crate::plans::{subsets, Owned, Records};
@@ -23,9 +23,9 @@ pub struct TurnedPlan {
     pub turnaround: u16,
     pub records: Records,
     /// From the first station to the last.
-    pub there: PathList,
+    pub there: WalkList,
     /// From the last station to the first.
-    pub back: PathList,
+    pub back: WalkList,
 }
 
 impl TurnedPlan {
@@ -50,7 +50,7 @@ const fn there(
     sizes: (u16, u16),
     turnaround: u16,
     records: &'static [Record],
-    there: PathList,
+    there: WalkList,
 ) -> TurnedPlan {
     TurnedPlan {
         label,

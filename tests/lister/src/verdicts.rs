@@ -6,14 +6,14 @@ use crate::fast_ways;
 use crate::lent::{clear, scratch_length};
 use crate::means::{Counting, Means};
 use crate::plan::{read, Ends, PlanInput};
-use crate::ways::{path_positions, Paths};
+use crate::ways::{walk_positions, CompleteList};
 
 /// What a list is, held against the complete list of a pair.
 #[derive(Clone, Copy, Debug, PartialEq, Eq, PartialOrd, Ord)]
 pub enum Verdict {
-    /// All paths, one behind another.
+    /// All shortest walks, one behind another.
     Complete,
-    /// The first few whole paths, fewer than all, possibly none.
+    /// The first few whole walks, fewer than all, possibly none.
     Beginning,
     /// Anything else.
     Wrong,
@@ -47,29 +47,29 @@ pub fn verdict_beside(answer: &Answer<Verdict>) -> u8 {
     answer.map_or(0, Verdict::number)
 }
 
-/// The verdict, from all paths: the first ones, one behind another, are compared with the list.
-pub fn verdict_on(paths: &[Vec<u16>], list: &[u16]) -> Verdict {
-    let is_first = |count: usize| list == paths[..count].concat();
-    if is_first(paths.len()) {
+/// The verdict, from all shortest walks: the first ones, one behind another, are compared with the list.
+pub fn verdict_on(walks: &[Vec<u16>], list: &[u16]) -> Verdict {
+    let is_first = |count: usize| list == walks[..count].concat();
+    if is_first(walks.len()) {
         Verdict::Complete
-    } else if (0..paths.len()).any(is_first) {
+    } else if (0..walks.len()).any(is_first) {
         Verdict::Beginning
     } else {
         Verdict::Wrong
     }
 }
 
-/// The verdict where there are too many paths to be listed: path after path is taken off the list.
-fn path_by_path(paths: &dyn Paths, list: &[u16]) -> Verdict {
+/// The verdict where there are too many walks to be listed: walk after walk is taken off the list.
+fn walk_by_walk(walks: &dyn CompleteList, list: &[u16]) -> Verdict {
     let (mut place, mut rest) = (0, list);
-    while place < paths.count() && !rest.is_empty() {
-        match rest.strip_prefix(paths.path(place).as_slice()) {
+    while place < walks.count() && !rest.is_empty() {
+        match rest.strip_prefix(walks.walk(place).as_slice()) {
             Some(behind) => rest = behind,
             None => return Verdict::Wrong,
         }
         place += 1;
     }
-    match (rest.is_empty(), place == paths.count()) {
+    match (rest.is_empty(), place == walks.count()) {
         (true, true) => Verdict::Complete,
         (true, false) => Verdict::Beginning,
         (false, _) => Verdict::Wrong,
@@ -89,8 +89,8 @@ impl Means {
         known_pair(plan.stations, ends)?;
         clear(&mut [(scratch, scratch_length(plan.stations, plan.slots))])?;
         Ok(match self.counting {
-            Counting::Listed => verdict_on(&path_positions(self.limit, &plan, ends)?, list),
-            Counting::Fast => path_by_path(&fast_ways::paths(self.limit, plan, ends)?, list),
+            Counting::Listed => verdict_on(&walk_positions(self.limit, &plan, ends)?, list),
+            Counting::Fast => walk_by_walk(&fast_ways::list(self.limit, plan, ends)?, list),
         })
     }
 }

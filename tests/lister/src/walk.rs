@@ -48,7 +48,7 @@ impl Walk {
     /// This walk and one hop more: the contact leads on from the end, and may follow it.
     pub fn extended(&self, plan: &Plan, position: usize) -> Option<Walk> {
         let contact = plan.contacts[position];
-        let Appearance { station, slot } = self.reached().step(plan.turnaround, contact)?;
+        let Appearance { station, slot } = self.reached().step(plan.terms, contact)?;
         let mut longer = self.clone();
         longer.positions.push(position as u16);
         longer.stations.push(station);

@@ -29,10 +29,10 @@ use crate::files::{case_bytes, words_bytes, Filed};
 use crate::lent;
 use crate::means::{Counting, COUNT_LIMIT};
 use crate::pair_cases::LabelledPlan;
-use crate::plan::{PlanInput, LEAST_TURNAROUND};
+use crate::plan::{PlanInput, KEPT, LEAST_TURNAROUND};
 use crate::plans::pairs;
 use crate::reach_cases::counts_text;
-use crate::ways::{accepted_plan, paths_of_call, Found, PathCall, Way};
+use crate::ways::{accepted_plan, walks_of_call, Found, Way, WayCall};
 
 pub use ladders::{ladder_path, sent_ladder_path};
 pub use small::mixed;
@@ -67,14 +67,15 @@ pub struct Arguments {
 
 impl Arguments {
     /// The call that the arguments make.
-    pub fn call<'a>(&self, bytes: &'a [u8]) -> PathCall<'a> {
+    pub fn call<'a>(&self, bytes: &'a [u8]) -> WayCall<'a> {
         let plan = &bytes[usize::from(self.plan_from)..][..usize::from(self.plan_length)];
-        PathCall {
+        WayCall {
             input: PlanInput {
                 bytes: plan,
                 stations: self.stations.into(),
                 slots: self.slots.into(),
                 turnaround: self.turnaround.into(),
+                keeping: KEPT,
             },
             source: self.source.into(),
             destination: self.destination.into(),
@@ -125,8 +126,8 @@ impl Outcome {
     /// The answer in words.
     pub fn reply(&self) -> String {
         match self.answer {
-            Ok(Found::Path(hops)) => format!("path {hops}"),
-            Ok(Found::NoPath) => "none".to_string(),
+            Ok(Found::Walk(hops)) => format!("path {hops}"),
+            Ok(Found::NoWalk) => "none".to_string(),
             Ok(Found::Last) => "last".to_string(),
             Err(refusal) => format!("refused {}", refusal.number()),
         }
@@ -217,7 +218,7 @@ impl Case {
 
     /// The trace with the plain lister's list.
     fn listed(self) -> Case {
-        let list = paths_of_call(COUNT_LIMIT, &self.pair.call(&self.bytes));
+        let list = walks_of_call(COUNT_LIMIT, &self.pair.call(&self.bytes));
         Case {
             list: list.expect("an accepted call"),
             counting: Counting::Listed,
@@ -286,14 +287,14 @@ impl Case {
     }
 
     /// Whether a call has a cause other than 10.
-    fn causes(&self, call: &PathCall) -> Answer<()> {
+    fn causes(&self, call: &WayCall) -> Answer<()> {
         let plan = accepted_plan(call)?;
         let entries = self.counting.entries(&plan, call.source);
         entries.within(COUNT_LIMIT)
     }
 
     /// The scratch after a call: the named part is 0 where no cause before 9 holds.
-    fn scratch_after(&self, call: &PathCall) -> Vec<u64> {
+    fn scratch_after(&self, call: &WayCall) -> Vec<u64> {
         let mut scratch = vec![self.mark.into(); call.scratch_length];
         let named =
             accepted_plan(call).map_or(0, |plan| lent::scratch_length(plan.stations, plan.slots));

@@ -6,40 +6,40 @@ use crate::fast_ways;
 use crate::lent;
 use crate::means::{Counting, Means};
 use crate::plan::{read, Ends, Plan, PlanInput};
-use crate::shortest::{positions_of, shortest_paths, walks_within};
+use crate::shortest::{positions_of, shortest_walks, walks_within};
 
 /// The operation of a call.
 #[derive(Clone, Copy, Debug, PartialEq, Eq)]
 pub enum Way {
-    /// First way: the first shortest path of the pair.
+    /// First way: the first shortest walk of the pair.
     First,
-    /// Next way: the shortest path after the one with which the buffer begins.
+    /// Next way: the shortest walk after the one with which the buffer begins.
     Next,
 }
 
 /// What an accepted call of first way or next way answers.
 #[derive(Clone, Copy, Debug, PartialEq, Eq)]
 pub enum Found {
-    /// A path is in the buffer, and this is the number of its hops.
-    Path(u16),
-    /// "None": the pair has no path.
-    NoPath,
-    /// "Last": no path comes after the one in the buffer.
+    /// A walk is in the buffer, and this is the number of its hops.
+    Walk(u16),
+    /// "None": the pair has no walk.
+    NoWalk,
+    /// "Last": no walk comes after the one in the buffer.
     Last,
 }
 
 /// The hops beside the number: 0 beside a refusal, nothing beside "none" and "last".
 pub fn hops_beside(answer: &Answer<Found>) -> Option<u16> {
     match answer {
-        Ok(Found::Path(hops)) => Some(*hops),
-        Ok(Found::NoPath) | Ok(Found::Last) => None,
+        Ok(Found::Walk(hops)) => Some(*hops),
+        Ok(Found::NoWalk) | Ok(Found::Last) => None,
         Err(_) => Some(0),
     }
 }
 
 /// The arguments of first way and next way: of the lent memory only the lengths.
 #[derive(Clone, Copy, Debug)]
-pub struct PathCall<'a> {
+pub struct WayCall<'a> {
     pub input: PlanInput<'a>,
     pub source: usize,
     pub destination: usize,
@@ -47,7 +47,7 @@ pub struct PathCall<'a> {
     pub scratch_length: usize,
 }
 
-impl PathCall<'_> {
+impl WayCall<'_> {
     /// The source and the destination.
     pub fn ends(&self) -> Ends {
         (self.source, self.destination)
@@ -55,7 +55,7 @@ impl PathCall<'_> {
 }
 
 /// The plan of a call, or the first of its causes before 9.
-pub fn accepted_plan(call: &PathCall) -> Answer<Plan> {
+pub fn accepted_plan(call: &WayCall) -> Answer<Plan> {
     let plan = read(call.input)?;
     known_pair(plan.stations, call.ends())?;
     long_enough(call.buffer_length, plan.slots)?;
@@ -66,78 +66,78 @@ pub fn accepted_plan(call: &PathCall) -> Answer<Plan> {
     Ok(plan)
 }
 
-/// The positions of the pair's shortest paths in order, or cause 9.
-pub fn path_positions(limit: u64, plan: &Plan, ends: Ends) -> Answer<Vec<Vec<u16>>> {
+/// The positions of the pair's shortest walks in order, or cause 9.
+pub fn walk_positions(limit: u64, plan: &Plan, ends: Ends) -> Answer<Vec<Vec<u16>>> {
     let walks = walks_within(limit, plan, ends.0)?;
-    Ok(positions_of(&shortest_paths(&walks, ends.1)))
+    Ok(positions_of(&shortest_walks(&walks, ends.1)))
 }
 
-/// The positions of the pair's shortest paths in order, or the first cause other than 10.
-pub fn paths_of_call(limit: u64, call: &PathCall) -> Answer<Vec<Vec<u16>>> {
+/// The positions of the pair's shortest walks in order, or the first cause other than 10.
+pub fn walks_of_call(limit: u64, call: &WayCall) -> Answer<Vec<Vec<u16>>> {
     let plan = accepted_plan(call)?;
-    path_positions(limit, &plan, call.ends())
+    walk_positions(limit, &plan, call.ends())
 }
 
-/// The shortest paths of a pair in order; the place of the first is 0.
-pub trait Paths {
+/// The shortest walks of a pair in order; the place of the first is 0.
+pub trait CompleteList {
     /// How many there are.
     fn count(&self) -> u128;
 
-    /// The positions of the path at a place, which is below the count.
-    fn path(&self, place: u128) -> Vec<u16>;
+    /// The positions of the walk at a place, which is below the count.
+    fn walk(&self, place: u128) -> Vec<u16>;
 
-    /// The place of the path with which a buffer of at least T entries begins; none if there is none.
+    /// The place of the walk with which a buffer of at least T entries begins; none if there is none.
     fn place(&self, buffer: &[u16]) -> Option<u128>;
 }
 
-/// The plain lister's paths.
-impl Paths for Vec<Vec<u16>> {
+/// The plain lister's walks.
+impl CompleteList for Vec<Vec<u16>> {
     fn count(&self) -> u128 {
         self.len() as u128
     }
 
-    fn path(&self, place: u128) -> Vec<u16> {
+    fn walk(&self, place: u128) -> Vec<u16> {
         self[place as usize].clone()
     }
 
     fn place(&self, buffer: &[u16]) -> Option<u128> {
-        let place = self.iter().position(|path| buffer.starts_with(path));
+        let place = self.iter().position(|walk| buffer.starts_with(walk));
         place.map(|place| place as u128)
     }
 }
 
 impl Way {
-    /// The place of the path to give: one below the count, or the count where there is none. Cause 10
-    /// is that next way's buffer begins with no path.
-    fn place(self, paths: &dyn Paths, buffer: &[u16]) -> Answer<u128> {
+    /// The place of the walk to give: one below the count, or the count where there is none. Cause 10
+    /// is that next way's buffer begins with none of them.
+    fn place(self, list: &dyn CompleteList, buffer: &[u16]) -> Answer<u128> {
         match self {
             Way::First => Ok(0),
             Way::Next => {
-                let offered = paths.place(buffer);
+                let offered = list.place(buffer);
                 Ok(offered.ok_or(CallFault::NotShortest)? + 1)
             }
         }
     }
 
-    /// The answer where there is no path to give.
+    /// The answer where there is no walk to give.
     fn nothing(self) -> Found {
         match self {
-            Way::First => Found::NoPath,
+            Way::First => Found::NoWalk,
             Way::Next => Found::Last,
         }
     }
 }
 
 impl Means {
-    /// The shortest paths of a pair of an accepted plan, or cause 9.
-    fn paths(self, plan: Plan, ends: Ends) -> Answer<Box<dyn Paths>> {
+    /// The shortest walks of a pair of an accepted plan, or cause 9.
+    fn list(self, plan: Plan, ends: Ends) -> Answer<Box<dyn CompleteList>> {
         Ok(match self.counting {
-            Counting::Listed => Box::new(path_positions(self.limit, &plan, ends)?),
-            Counting::Fast => Box::new(fast_ways::paths(self.limit, plan, ends)?),
+            Counting::Listed => Box::new(walk_positions(self.limit, &plan, ends)?),
+            Counting::Fast => Box::new(fast_ways::list(self.limit, plan, ends)?),
         })
     }
 
-    /// First way or next way: a path is given by its positions in the first entries of the buffer.
+    /// First way or next way: a walk is given by its positions in the first entries of the buffer.
     pub fn way(
         self,
         way: Way,
@@ -146,7 +146,7 @@ impl Means {
         buffer: &mut [u16],
         scratch: &mut [u64],
     ) -> Answer<Found> {
-        let plan = accepted_plan(&PathCall {
+        let plan = accepted_plan(&WayCall {
             input,
             source,
             destination,
@@ -154,13 +154,13 @@ impl Means {
             scratch_length: scratch.len(),
         })?;
         scratch[..lent::scratch_length(plan.stations, plan.slots)].fill(0);
-        let paths = self.paths(plan, (source, destination))?;
-        let place = way.place(paths.as_ref(), buffer)?;
-        if place == paths.count() {
+        let list = self.list(plan, (source, destination))?;
+        let place = way.place(list.as_ref(), buffer)?;
+        if place == list.count() {
             return Ok(way.nothing());
         }
-        let positions = paths.path(place);
+        let positions = list.walk(place);
         buffer[..positions.len()].copy_from_slice(&positions);
-        Ok(Found::Path(positions.len() as u16))
+        Ok(Found::Walk(positions.len() as u16))
     }
 }

@@ -33,11 +33,11 @@ pub fn question<'a>(
 /// First way once 1 to 8 are excluded.
 fn first_work(input: PlanInput, ends: Ends, buffer: &mut [u16], work: &mut [u64]) -> Answer<Found> {
     let Some(pair) = question(input, ends, work)? else {
-        return Ok(Found::NoPath);
+        return Ok(Found::NoWalk);
     };
     complete(work, input, pair.destination);
     first_path(buffer, work, pair);
-    Ok(Found::Path(pair.hops as u16))
+    Ok(Found::Walk(pair.hops as u16))
 }
 
 /// Next way once 1 to 8 are excluded.
@@ -47,7 +47,7 @@ fn next_work(input: PlanInput, ends: Ends, buffer: &mut [u16], work: &mut [u64])
     let pair = pair.ok_or(CallFault::NotShortest)?;
     complete(work, input, pair.destination);
     if next_path(buffer, work, pair) {
-        Ok(Found::Path(pair.hops as u16))
+        Ok(Found::Walk(pair.hops as u16))
     } else {
         Ok(Found::Last)
     }

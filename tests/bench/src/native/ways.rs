@@ -50,7 +50,7 @@ fn end_of(way: &[u16], pair: Pair) -> Option<Appearance> {
     way.iter().try_fold(start, |spot, position| {
         let at = usize::from(*position) * RECORD_BYTES;
         let record = pair.input.bytes.get(at..at + RECORD_BYTES)?;
-        spot.step(pair.input.turnaround, contact(record))
+        spot.step(pair.input.terms(), contact(record))
     })
 }
 
@@ -58,7 +58,7 @@ fn end_of(way: &[u16], pair: Pair) -> Option<Appearance> {
 fn find(table: &[u64], pair: Pair, spot: Appearance, need: u64, from: usize) -> Option<usize> {
     let width = pair.input.slots + 1;
     let serves = |contact: Contact| {
-        let next = spot.step(pair.input.turnaround, contact);
+        let next = spot.step(pair.input.terms(), contact);
         next.is_some_and(|next| table[next.station * width + next.slot] == need)
     };
     let later = contacts(pair.input.bytes.get(from * RECORD_BYTES..)?);

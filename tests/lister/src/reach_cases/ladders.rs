@@ -2,7 +2,7 @@
 
 use super::{Case, Counting, Operation};
 use crate::cases::{plan_bytes, Record};
-use crate::plan::{read, PlanInput, LEAST_TURNAROUND};
+use crate::plan::{read, PlanInput, KEPT, LEAST_TURNAROUND};
 use crate::reach::Entries;
 
 /// Joins two stations in a slot: `Builder::meet` or `Builder::send`.
@@ -135,6 +135,7 @@ impl Builder {
             stations: self.stations,
             slots: self.slots,
             turnaround: self.turnaround,
+            keeping: KEPT,
         };
         let plan = read(input).expect("an accepted plan");
         Counting::Fast.entries(&plan, 0)

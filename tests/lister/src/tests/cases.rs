@@ -4,7 +4,7 @@ use super::read_back::{assert_labels, take, take_number};
 use crate::answer::number;
 use crate::cases::{all_cases, generated_cases, LONGEST_LABEL};
 use crate::files::{stdin_bytes, stdout_text};
-use crate::plan::{check, contacts, Contact, PlanInput, NO_TURNAROUND};
+use crate::plan::{check, contacts, Contact, PlanInput, KEPT, NO_TURNAROUND};
 use crate::random::Random;
 
 #[test]
@@ -83,6 +83,7 @@ fn stdin_read_back_gives_stdout() {
             stations,
             slots,
             turnaround: NO_TURNAROUND,
+            keeping: KEPT,
         });
         stdout.extend(label);
         stdout.extend(format!(" {}\n", number(&answer)).bytes());

@@ -2,7 +2,7 @@
 
 use crate::answer::{number, PlanFault, Refusal};
 use crate::cases::{plan_bytes, Record};
-use crate::plan::{check, PlanInput, NO_TURNAROUND};
+use crate::plan::{check, PlanInput, KEPT, NO_TURNAROUND};
 
 /// All faults of the records as (record, number); the smallest one decides.
 fn smallest_fault(stations: u16, slots: u16, records: &[Record]) -> u8 {
@@ -27,6 +27,7 @@ fn check_number(stations: u16, slots: u16, records: &[Record]) -> u8 {
         stations: usize::from(stations),
         slots: usize::from(slots),
         turnaround: NO_TURNAROUND,
+        keeping: KEPT,
     }))
 }
 
@@ -93,6 +94,7 @@ fn all_sizes_near_the_limits() {
                 stations,
                 slots,
                 turnaround: NO_TURNAROUND,
+                keeping: KEPT,
             });
             let expected = if accepted {
                 Ok(())

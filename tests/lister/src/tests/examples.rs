@@ -28,13 +28,13 @@ fn listed(owned: &Owned, source: usize, destination: usize) -> Vec<Vec<u16>> {
         )
     };
     let mut answer = ask(Way::First, &mut buffer);
-    while let Ok(Found::Path(hops)) = answer {
+    while let Ok(Found::Walk(hops)) = answer {
         list.push(buffer[..usize::from(hops)].to_vec());
         assert!(list.len() <= 10, "no end after {list:?}");
         answer = ask(Way::Next, &mut buffer);
     }
     let end = if list.is_empty() {
-        Found::NoPath
+        Found::NoWalk
     } else {
         Found::Last
     };
@@ -129,7 +129,7 @@ fn p7_next_way() {
         (answer, buffer)
     };
     assert_eq!(next([1, 8, 10, 77]), (Ok(Found::Last), [1, 8, 10, 77]));
-    assert_eq!(next([1, 5, 10, 77]), (Ok(Found::Path(3)), [1, 8, 10, 77]));
+    assert_eq!(next([1, 5, 10, 77]), (Ok(Found::Walk(3)), [1, 8, 10, 77]));
     let (answer, buffer) = next([0, 5, 10, 77]);
     assert_eq!((number(&answer), buffer), (10, [0, 5, 10, 77]));
 }

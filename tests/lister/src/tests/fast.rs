@@ -1,6 +1,8 @@
 //! The numbers of walks, compared with the plain lister.
 
-use super::support::{random_plan, random_turned_plan, tiny_plans, turned_plans, Owned};
+use super::support::{
+    random_plan, random_turned_plan, stale_plans, tiny_plans, turned_plans, Owned,
+};
 use crate::answer::number;
 use crate::fast::entries;
 use crate::means::{Means, COUNTED, COUNT_LIMIT, LISTED};
@@ -51,6 +53,19 @@ fn plans_with_turnarounds_are_counted_as_listed() {
 }
 
 #[test]
+fn plans_that_drop_readings_are_counted_as_listed() {
+    let mut refused = 0;
+    for owned in stale_plans() {
+        for source in 0..owned.stations {
+            for limit in [1, 2, COUNT_LIMIT] {
+                refused += usize::from(assert_alike(limit, &owned, source) == 9);
+            }
+        }
+    }
+    assert!(refused > 1000, "{refused}");
+}
+
+#[test]
 fn random_plans_are_counted_as_listed() {
     let mut random = Random::new(9);
     let mut refused = 0;
@@ -80,7 +95,9 @@ fn refused_calls_are_answered_alike() {
         ..owned.clone()
     };
     assert_eq!(assert_alike(COUNT_LIMIT, &few_slots, 9), 3);
-    assert_eq!(assert_alike(COUNT_LIMIT, &owned.turning(17), 5), 12);
+    let short = owned.clone().keeping_for(0);
+    assert_eq!(assert_alike(COUNT_LIMIT, &short, 5), 14);
+    assert_eq!(assert_alike(COUNT_LIMIT, &short.turning(17), 5), 12);
 }
 
 #[test]

@@ -4,8 +4,8 @@
 use std::fmt::Debug;
 
 use super::support::{
-    lowest_of_the_largest, pairs, random_plan, random_turned_plan, small_exact_plans, tiny_plans,
-    turned_plans, Owned,
+    lowest_of_the_largest, pairs, random_plan, random_turned_plan, small_exact_plans, stale_plans,
+    tiny_plans, turned_plans, Owned,
 };
 use crate::answer::{number, Answer};
 use crate::cases::plan_bytes;
@@ -127,6 +127,16 @@ fn tiny_plans_are_counted_as_listed() {
 fn plans_with_turnarounds_are_counted_as_listed() {
     let mut refused = [0; 3];
     for (index, owned) in turned_plans().iter().enumerate() {
+        let limit = [1, 2, COUNT_LIMIT][index % 3];
+        assert_alike(limit, owned, &mut refused);
+    }
+    assert!(refused.iter().all(|count| *count > 500), "{refused:?}");
+}
+
+#[test]
+fn plans_that_drop_readings_are_counted_as_listed() {
+    let mut refused = [0; 3];
+    for (index, owned) in stale_plans().iter().enumerate() {
         let limit = [1, 2, COUNT_LIMIT][index % 3];
         assert_alike(limit, owned, &mut refused);
     }

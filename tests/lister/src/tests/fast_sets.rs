@@ -1,7 +1,8 @@
 //! Through set by numbers of walks, compared with the plain lister and closed forms.
 
 use super::support::{
-    pairs, random_plan, random_turned_plan, small_exact_plans, tiny_plans, turned_plans, Owned,
+    pairs, random_plan, random_turned_plan, small_exact_plans, stale_plans, tiny_plans,
+    turned_plans, Owned,
 };
 use crate::answer::{number, Answer};
 use crate::means::{Means, COUNTED, COUNT_LIMIT, LISTED};
@@ -56,8 +57,20 @@ fn tiny_plans_are_counted_as_listed() {
 
 #[test]
 fn plans_with_turnarounds_are_counted_as_listed() {
+    let touched = sets_counted_as_listed(turned_plans());
+    assert!(touched > 4000, "{touched}");
+}
+
+#[test]
+fn plans_that_drop_readings_are_counted_as_listed() {
+    let touched = sets_counted_as_listed(stale_plans());
+    assert!(touched > 4000, "{touched}");
+}
+
+/// Asserts that both means agree on all sets of every other plan; gives how many sets have a walk.
+fn sets_counted_as_listed(plans: Vec<Owned>) -> usize {
     let mut touched = 0;
-    for (index, owned) in turned_plans().iter().step_by(2).enumerate() {
+    for (index, owned) in plans.iter().step_by(2).enumerate() {
         let limit = [1, COUNT_LIMIT, COUNT_LIMIT][index % 3];
         for ends in pairs(owned.stations) {
             for members in all_sets(owned.stations) {
@@ -67,7 +80,7 @@ fn plans_with_turnarounds_are_counted_as_listed() {
             }
         }
     }
-    assert!(touched > 4000, "{touched}");
+    touched
 }
 
 #[test]

@@ -1,7 +1,8 @@
 //! First way and next way by numbers of walks, compared with the plain lister and ladders.
 
 use super::support::{
-    pairs, random_plan, random_turned_plan, small_exact_plans, tiny_plans, turned_plans, Owned,
+    pairs, random_plan, random_turned_plan, small_exact_plans, stale_plans, tiny_plans,
+    turned_plans, Owned,
 };
 use crate::answer::{number, Answer};
 use crate::means::{Means, COUNTED, COUNT_LIMIT, LISTED};
@@ -39,8 +40,9 @@ fn assert_alike(limit: u64, owned: &Owned, ends: Ends, offered: &[u16]) -> u8 {
 
 #[test]
 fn every_path_of_tiny_plans_is_followed_alike() {
-    let offered = [tiny_plans(), turned_plans()].map(paths_followed_alike);
+    let offered = [tiny_plans(), turned_plans(), stale_plans()].map(paths_followed_alike);
     assert!(offered[0] > 50_000 && offered[1] > 10_000, "{offered:?}");
+    assert!(offered[2] > 10_000, "{offered:?}");
 }
 
 /// Asserts that both means give the same path after each path of each pair; gives how many paths there are.
@@ -106,6 +108,8 @@ fn refused_calls_are_answered_alike() {
     assert_eq!(next(&owned, (0, 4), 4), 10);
     let turned = owned.clone().turning(17);
     assert_eq!(next(&turned, (5, 5), 3), 12);
+    let long = owned.clone().keeping_for(256);
+    assert_eq!(next(&long, (5, 5), 3), 14);
     let few_slots = Owned { slots: 3, ..owned };
     assert_eq!(next(&few_slots, (5, 5), 3), 3);
 }
@@ -117,7 +121,7 @@ fn assert_ladder(ladder: &Builder, path: fn(usize, usize, u64) -> Vec<u16>) {
         let (answer, buffer, _) = outcome(COUNTED, way, &owned, (0, 127), offered);
         (answer, buffer)
     };
-    let given = |index: u64| (Ok(Found::Path(64)), path(64, 0, index));
+    let given = |index: u64| (Ok(Found::Walk(64)), path(64, 0, index));
     assert_eq!(answer(Way::First, &[9; 64]), given(0));
     let (half, end) = (1 << 62, (1 << 63) - 1);
     for index in [0, 1, 2, 12345, half - 1, half, end - 1] {

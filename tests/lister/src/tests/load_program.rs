@@ -7,6 +7,7 @@ use crate::cases::{plan_bytes, Record, PLAN_A};
 use crate::load_cases::stretched;
 use crate::load_program::{accepted_plan, is_listed, load_text, load_text_by, number_of_walks};
 use crate::means::{COUNTED, LISTED};
+use crate::plan::{Terms, KEPT};
 use crate::random::Random;
 use crate::show::{loads_text, text_of};
 use crate::walk::walks_from;
@@ -60,7 +61,13 @@ fn n_and_t_come_from_the_records() {
     for turnaround in [1, 2, 16] {
         let named = |records: &[Record]| {
             let plan = accepted_plan(turnaround, &plan_bytes(records)).unwrap();
-            assert_eq!(plan.turnaround, turnaround);
+            assert_eq!(
+                plan.terms,
+                Terms {
+                    turnaround,
+                    keeping: KEPT
+                }
+            );
             (plan.stations, plan.slots)
         };
         assert_eq!(named(&[(1, 0, 1)]), (2, 1));

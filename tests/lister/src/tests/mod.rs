@@ -1,9 +1,11 @@
 //! Tests of the lister.
 
+mod asked;
 mod call_files;
 mod cases;
 mod checks;
 mod counts;
+mod enumerated;
 mod examples;
 mod fast;
 mod fast_pairs;
@@ -22,8 +24,10 @@ mod refusals;
 mod rows;
 mod set_cases;
 mod sets;
+mod stale;
 mod support;
 mod tiny;
+mod too_many;
 mod traces;
 mod turnarounds;
 mod two_way;

@@ -7,7 +7,7 @@ use super::read_back::{assert_labels, entries_of, take, take_number};
 use crate::answer::number;
 use crate::files::{stdin_bytes, stdout_text};
 use crate::means::Counting;
-use crate::plan::PlanInput;
+use crate::plan::{PlanInput, KEPT};
 use crate::reach::Tables;
 use crate::reach_cases::{
     all_cases, Case, Operation, Outcome, LONGEST_LABEL, LONGEST_PLAN, LONGEST_TABLES,
@@ -97,6 +97,7 @@ fn assert_line(stdin: &mut &[u8], line: &str, counting: Counting) {
         stations,
         slots,
         turnaround,
+        keeping: KEPT,
     };
     let rest = line
         .strip_prefix(label)

@@ -5,7 +5,7 @@ use crate::answer::{number, Answer};
 use crate::cases::{plan_bytes, Record, PLAN_A};
 use crate::means::LISTED;
 use crate::operation::{Answered, Lent, Operation, OPERATIONS};
-use crate::plan::{Ends, PlanInput};
+use crate::plan::{Ends, PlanInput, KEPT, MOST_TURNAROUND};
 use crate::ways::{Found, Way};
 
 /// n and T of plan A.
@@ -53,6 +53,7 @@ struct Arguments {
     stations: usize,
     slots: usize,
     turnaround: usize,
+    keeping: usize,
     bytes: Vec<u8>,
     source: usize,
     destination: usize,
@@ -93,6 +94,7 @@ impl Arguments {
             stations: if has(1) { 257 } else { 5 },
             slots: 4,
             turnaround: if has(12) { 17 } else { 1 },
+            keeping: if has(14) { 0 } else { KEPT },
             bytes,
             source,
             destination,
@@ -108,6 +110,7 @@ impl Arguments {
             stations: self.stations,
             slots: self.slots,
             turnaround: self.turnaround,
+            keeping: self.keeping,
         }
     }
 
@@ -185,7 +188,7 @@ fn memory_after(operation: Operation, refusal: u32, before: &Lent) -> Lent {
 }
 
 /// The largest number of a cause.
-const MOST: usize = 13;
+const MOST: usize = 14;
 
 /// All sets of the numbers of causes.
 fn sets_of_causes() -> Vec<Vec<u8>> {
@@ -358,6 +361,48 @@ fn turnarounds_outside_of_their_limits_are_12() {
     }
 }
 
+/// Every operation on plan A with a turnaround and a keeping: 14 below g and above 255 where g is inside its
+/// limits, and nothing is written then. Check, row and foremost do not look at it.
+#[test]
+fn keepings_outside_of_their_limits_are_14() {
+    for turnaround in 0..=MOST_TURNAROUND + 1 {
+        for keeping in EDGES {
+            let arguments = Arguments {
+                turnaround,
+                keeping,
+                ..Arguments::with(&[])
+            };
+            for operation in OPERATIONS {
+                let before = lend(operation, None, &[0, 4, 10], 1);
+                let mut after = before.clone();
+                let (number, _) = run(operation, &arguments, &mut after);
+                let takes = operation.causes().contains(&14);
+                let known = (1..=MOST_TURNAROUND).contains(&turnaround);
+                let refused = takes && known && (keeping < turnaround || keeping > 255);
+                let place = format!("{operation:?} {turnaround} {keeping}");
+                assert_eq!(number == 14, refused, "{place}");
+                assert!(!refused || before == after, "{place}");
+            }
+        }
+    }
+}
+
+/// Foremost answers the same whatever h is.
+#[test]
+fn foremost_does_not_look_at_the_keeping() {
+    let asked = |keeping: usize| {
+        let arguments = Arguments {
+            keeping,
+            ..Arguments::with(&[])
+        };
+        let mut lent = lend(Operation::Foremost, None, &[], 1);
+        (run(Operation::Foremost, &arguments, &mut lent), lent)
+    };
+    for keeping in EDGES {
+        assert_eq!(asked(keeping), asked(KEPT), "{keeping}");
+    }
+}
+
 /// Partial loads on plan A: 13 above n, and nothing is written then.
 #[test]
 fn sources_above_n_are_13() {
@@ -380,7 +425,7 @@ fn partial_loads_alone_takes_a_number_of_sources() {
         let causes = operation.causes();
         let takes = causes.contains(&13);
         assert_eq!(takes, operation == Operation::PartialLoads);
-        assert!(!takes || causes.windows(3).any(|three| three == [12, 13, 8]));
+        assert!(!takes || causes.windows(4).any(|four| four == [12, 14, 13, 8]));
     }
 }
 
@@ -394,6 +439,20 @@ fn operations_that_take_a_turnaround() {
         let place = |cause: u32| causes.iter().position(|other| *other == cause);
         if takes {
             assert_eq!(place(12), place(5).map(|place| place + 1), "{operation:?}");
+        }
+    }
+}
+
+#[test]
+fn operations_that_take_a_keeping() {
+    use Operation::*;
+    for operation in OPERATIONS {
+        let takes = !matches!(operation, Check | Row | RowNumber | Foremost);
+        let causes = operation.causes();
+        assert_eq!(causes.contains(&14), takes, "{operation:?}");
+        let place = |cause: u32| causes.iter().position(|other| *other == cause);
+        if takes {
+            assert_eq!(place(14), place(12).map(|place| place + 1), "{operation:?}");
         }
     }
 }

@@ -12,7 +12,9 @@ use crate::random::Random;
 use crate::reach::{reach_named, Tables};
 use crate::reach_cases::{exact_plans, Exact};
 use crate::sets::set_of;
+use crate::stale::{detours, random_stale_plan, small_terms, STALE_PLANS};
 use crate::turned::TURNED_PLANS;
+use crate::walk::Walk;
 
 pub use crate::plans::{all_doubled_plans, all_plans, pairs, random_plan, Owned};
 pub use crate::turned::random_turned_plan;
@@ -141,6 +143,17 @@ impl Reached {
     }
 }
 
+/// The shortest of the paths to a station, ordered by their positions: the complete list where no reading is
+/// dropped.
+pub fn shortest_paths(walks: &[Walk], destination: usize) -> Vec<&Walk> {
+    let reaches = |walk: &&Walk| walk.is_path() && walk.end() == destination;
+    let mut paths: Vec<&Walk> = walks.iter().filter(reaches).collect();
+    let fewest = paths.iter().map(|path| path.hops()).min();
+    paths.retain(|path| Some(path.hops()) == fewest);
+    paths.sort_by(|one, other| one.positions.cmp(&other.positions));
+    paths
+}
+
 /// The largest load, found first; then the lowest-numbered station that has it.
 pub fn lowest_of_the_largest(loads: &[Load]) -> usize {
     let largest = loads.iter().map(|entry| entry.load).max();
@@ -203,6 +216,24 @@ pub fn turned_plans() -> Vec<Owned> {
     let mut random = Random::new(SEED);
     plans.extend((0..DRAWN).map(|_| random_turned_plan(&mut random)));
     plans.extend(TURNED_PLANS.iter().map(|plan| plan.owned()));
+    plans
+}
+
+/// Plans whose units drop readings: those by hand, with detours and of two stations in six slots with each small
+/// g and h in turn, and drawn ones.
+pub fn stale_plans() -> Vec<Owned> {
+    let two_stations = all_plans(2, 5).into_iter().step_by(3);
+    let plans = detours().into_iter().chain(two_stations);
+    let terms = small_terms();
+    let mut plans: Vec<Owned> = (plans.enumerate())
+        .map(|(index, plan)| {
+            let (turnaround, keeping) = terms[index % terms.len()];
+            plan.turning(turnaround).keeping_for(keeping)
+        })
+        .collect();
+    let mut random = Random::new(SEED);
+    plans.extend((0..DRAWN).map(|_| random_stale_plan(&mut random)));
+    plans.extend(STALE_PLANS.iter().map(|plan| plan.owned()));
     plans
 }
 

@@ -1,11 +1,13 @@
 //! Properties of all tiny plans, and of plans with turnarounds.
 
-use super::support::{lowest_of_the_largest, pairs, tiny_plans, turned_plans, Owned, DRAWN};
+use super::support::{
+    lowest_of_the_largest, pairs, shortest_paths, tiny_plans, turned_plans, Owned, DRAWN,
+};
 use crate::answer::number;
 use crate::means::{COUNT_LIMIT, LISTED};
 use crate::plans::all_lists;
-use crate::shortest::{shortest_paths, walks_to_station};
-use crate::walk::{walks_from, Walk};
+use crate::shortest::shortest_walks;
+use crate::walk::walks_from;
 use crate::ways::{Found, Way};
 
 /// The tiny plans and those with turnarounds.
@@ -40,11 +42,9 @@ fn shortest_walks_are_the_shortest_paths() {
             let walks = walks_from(&plan, source);
             longer_walks += walks.iter().filter(|walk| !walk.is_path()).count();
             for station in 0..plan.stations {
-                let shortest = walks_to_station(&walks, station);
+                let shortest = shortest_walks(&walks, station);
                 assert!(shortest.iter().all(|walk| walk.is_path()), "{owned:?}");
-                let mut positions: Vec<&Walk> = shortest;
-                positions.sort_by(|one, other| one.positions.cmp(&other.positions));
-                assert_eq!(positions, shortest_paths(&walks, station), "{owned:?}");
+                assert_eq!(shortest, shortest_paths(&walks, station), "{owned:?}");
             }
         }
     }
@@ -218,13 +218,13 @@ fn first_and_next_way_give_the_list() {
         let ends = (source, destination);
         let mut answer = LISTED.way(Way::First, input, ends, &mut buffer, &mut scratch);
         for path in &list {
-            assert_eq!(answer, Ok(Found::Path(path.len() as u16)), "{owned:?}");
+            assert_eq!(answer, Ok(Found::Walk(path.len() as u16)), "{owned:?}");
             assert!(buffer.starts_with(path), "{owned:?}");
             assert!(buffer[path.len()..].iter().all(|entry| *entry == 60000));
             answer = LISTED.way(Way::Next, input, ends, &mut buffer, &mut scratch);
         }
         if list.is_empty() {
-            assert_eq!(answer, Ok(Found::NoPath), "{owned:?}");
+            assert_eq!(answer, Ok(Found::NoWalk), "{owned:?}");
             let next = LISTED.way(Way::Next, input, ends, &mut buffer, &mut scratch);
             assert_eq!(number(&next), 10, "{owned:?}");
             assert!(buffer.iter().all(|entry| *entry == 60000));

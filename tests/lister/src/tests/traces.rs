@@ -1,13 +1,13 @@
 //! Random traces against the cursor.
 
-use super::support::{random_plan, random_turned_plan, Owned};
+use super::support::{random_plan, random_turned_plan, stale_plans, Owned};
 use crate::answer::number;
 use crate::cases::PLAN_A;
 use crate::cursor::{first_difference, Cursor, Step};
 use crate::means::COUNT_LIMIT;
 use crate::random::Random;
-use crate::traces::random_trace;
-use crate::ways::{Found, PathCall, Way};
+use crate::traces::{contents, random_trace};
+use crate::ways::{Found, Way, WayCall};
 
 /// The seed of the random traces.
 const SEED: u64 = 2;
@@ -26,7 +26,7 @@ fn answers_and_buffers_are_the_cursors() {
         let destination = (source + random.between(1, owned.stations - 1)) % owned.stations;
         let case = random_trace(&mut random, &owned, (source, destination));
         lengths[case.list.len().min(3)] += 1;
-        let other = |call: &PathCall| call.input.turnaround != owned.turnaround;
+        let other = |call: &WayCall| call.input.turnaround != owned.turnaround;
         let other = |step: &Step| matches!(step, Step::Call(_, call) if other(call));
         others += case.trace().into_iter().filter(other).count();
         let list = owned.list(source, destination);
@@ -35,6 +35,32 @@ fn answers_and_buffers_are_the_cursors() {
     }
     assert!(lengths.iter().all(|rounds| *rounds > 100), "{lengths:?}");
     assert!(others > 1000, "{others}");
+}
+
+/// First way and next way on plans whose units drop readings; some calls have an h with 14.
+#[test]
+fn answers_where_readings_are_dropped_are_the_cursors() {
+    let mut random = Random::new(SEED);
+    let mut given = 0;
+    for owned in stale_plans() {
+        let last = owned.stations - 1;
+        let list = owned.list(0, last);
+        let contents = contents(&mut random, &list, owned.slots);
+        let trace: Vec<Step> = (0..6)
+            .map(|_| {
+                let mut call = owned.way_call(0, last);
+                let way = [Way::First, Way::Next, Way::Next][random.below(3)];
+                if random.below(4) == 0 {
+                    call.input.keeping = [0, owned.turnaround - 1, 256, 65535][random.below(4)];
+                }
+                Step::Call(way, call)
+            })
+            .collect();
+        given += usize::from(list.len() > 1);
+        let difference = first_difference(COUNT_LIMIT, list, &contents, &trace);
+        assert_eq!(difference, None, "{owned:?}");
+    }
+    assert!(given > 500, "{given}");
 }
 
 #[test]
@@ -68,21 +94,21 @@ fn count_limit_refuses_every_call_of_a_trace() {
 #[test]
 fn cursor_on_plan_a() {
     let owned = Owned::plan_a();
-    let call = owned.path_call(0, 4);
+    let call = owned.way_call(0, 4);
     let list = owned.list(0, 4);
     let mut cursor = Cursor::start(COUNT_LIMIT, list.clone(), &[1, 5, 10, 8]);
-    assert_eq!(cursor.call(Way::Next, &call), Ok(Found::Path(3)));
+    assert_eq!(cursor.call(Way::Next, &call), Ok(Found::Walk(3)));
     assert_eq!(cursor.buffer(), [1, 8, 10, 8]);
     assert_eq!(cursor.call(Way::Next, &call), Ok(Found::Last));
     assert_eq!(cursor.call(Way::Next, &call), Ok(Found::Last));
     assert_eq!(cursor.buffer(), [1, 8, 10, 8]);
     cursor.write(3, 9);
-    assert_eq!(cursor.call(Way::First, &call), Ok(Found::Path(3)));
+    assert_eq!(cursor.call(Way::First, &call), Ok(Found::Walk(3)));
     assert_eq!(cursor.buffer(), [0, 4, 10, 9]);
     let mut short = call;
     short.buffer_length = 3;
     assert_eq!(number(&cursor.call(Way::Next, &short)), 8);
-    assert_eq!(cursor.call(Way::Next, &call), Ok(Found::Path(3)));
+    assert_eq!(cursor.call(Way::Next, &call), Ok(Found::Walk(3)));
     assert_eq!(cursor.buffer(), [1, 5, 10, 9]);
     let mut off = Cursor::start(COUNT_LIMIT, list, &[0, 5, 10, 8]);
     assert_eq!(number(&off.call(Way::Next, &call)), 10);
@@ -92,9 +118,9 @@ fn cursor_on_plan_a() {
 #[test]
 fn cursor_without_a_path() {
     let owned = Owned::plan_a();
-    let call = owned.path_call(2, 1);
+    let call = owned.way_call(2, 1);
     let mut cursor = Cursor::start(COUNT_LIMIT, owned.list(2, 1), &[4, 4, 4, 4]);
-    assert_eq!(cursor.call(Way::First, &call), Ok(Found::NoPath));
+    assert_eq!(cursor.call(Way::First, &call), Ok(Found::NoWalk));
     assert_eq!(number(&cursor.call(Way::Next, &call)), 10);
     assert_eq!(cursor.buffer(), [4, 4, 4, 4]);
 }
@@ -102,7 +128,7 @@ fn cursor_without_a_path() {
 #[test]
 fn a_wrong_list_is_told() {
     let owned = Owned::new(5, 4, &PLAN_A);
-    let call = owned.path_call(0, 4);
+    let call = owned.way_call(0, 4);
     let trace = [
         Step::Call(Way::First, call),
         Step::Call(Way::Next, call),

@@ -5,24 +5,33 @@ use std::collections::BTreeSet;
 
 use super::support::{pairs, random_plan, random_turned_plan, tiny_plans, Owned};
 use crate::means::COUNT_LIMIT;
-use crate::plan::{follows, Plan, LEAST_TURNAROUND, MOST_TURNAROUND};
+use crate::plan::{Plan, Terms, KEPT, LEAST_TURNAROUND, MOST_TURNAROUND};
 use crate::random::Random;
-use crate::shortest::{positions_of, shortest_paths};
+use crate::shortest::{positions_of, shortest_walks};
 use crate::turned::{TurnedPlan, TURNED_PLANS};
 use crate::walk::{walks_from, Walk};
+
+/// The terms of units with a turnaround that keep every reading.
+fn turning(turnaround: usize) -> Terms {
+    let keeping = KEPT;
+    Terms {
+        turnaround,
+        keeping,
+    }
+}
 
 #[test]
 fn the_rule_of_following() {
     for slot in 0..=40 {
         for reached in 0..=40 {
             let strict = reached < slot;
-            assert_eq!(follows(LEAST_TURNAROUND, reached, slot), strict);
+            assert_eq!(turning(LEAST_TURNAROUND).follows(reached, slot), strict);
             for turnaround in 1..=MOST_TURNAROUND {
                 let expected = match reached {
                     0 => slot >= 1,
                     _ => slot >= reached + turnaround,
                 };
-                assert_eq!(follows(turnaround, reached, slot), expected);
+                assert_eq!(turning(turnaround).follows(reached, slot), expected);
             }
         }
     }
@@ -169,7 +178,7 @@ fn walks_by(rule: Rule, plan: &Plan, source: usize) -> Vec<Walk> {
     while let Some(walk) = walks.get(next).cloned() {
         for (position, contact) in plan.contacts.iter().enumerate() {
             let follows = rule(
-                plan.turnaround,
+                plan.terms.turnaround,
                 walk.end() == source,
                 walk.slot,
                 contact.slot,
@@ -194,7 +203,7 @@ fn plans_by_hand_have_other_paths_by_other_rules() {
             let (plan, last) = (turned.owned().plan(), turned.last().into());
             let list = |source, destination| {
                 let walks = walks_by(rule, &plan, source);
-                positions_of(&shortest_paths(&walks, destination))
+                positions_of(&shortest_walks(&walks, destination))
             };
             list(0, last) != turned.there || list(last, 0) != turned.back
         };

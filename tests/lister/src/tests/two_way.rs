@@ -15,10 +15,10 @@ use crate::loads::{share, Load};
 use crate::means::{Counting, COUNTED, COUNT_LIMIT};
 use crate::one_way::ONE_WAY_PLANS;
 use crate::pair::{paired, Paired};
-use crate::plan::{contacts, Contact, Ends, Plan, LEAST_TURNAROUND};
+use crate::plan::{contacts, Contact, Ends, Plan, Terms, KEPT, LEAST_TURNAROUND};
 use crate::plans::{possible_meetings, subsets};
 use crate::random::Random;
-use crate::shortest::{entries_of, foremost_walks, positions_of, shortest_paths, NO_WALK};
+use crate::shortest::{entries_of, foremost_walks, positions_of, shortest_walks, NO_WALK};
 use crate::walk::{walks_from, Walk};
 
 /// The station to which a contact leads from a given one, by the two-way rule.
@@ -66,7 +66,10 @@ impl Compared {
         let old = Plan {
             stations,
             slots,
-            turnaround: LEAST_TURNAROUND,
+            terms: Terms {
+                turnaround: LEAST_TURNAROUND,
+                keeping: KEPT,
+            },
             contacts: contacts(&plan_bytes(records)).collect(),
         };
         let new = doubled(records);
@@ -107,7 +110,7 @@ impl Compared {
     /// The list of a pair, its hops, count and through counts, and how many paths have one of two
     /// stations interior. Gives the values.
     fn assert_pair(&self, ends: Ends) -> Paired {
-        let paths = shortest_paths(&self.old_walks[ends.0], ends.1);
+        let paths = shortest_walks(&self.old_walks[ends.0], ends.1);
         let list = self.mapped(&self.owned.list(ends.0, ends.1));
         assert_eq!(list, positions_of(&paths), "{:?}", self.old);
         let expected = paired(&self.old, &paths);
@@ -152,7 +155,7 @@ impl Compared {
                     entry.load += share(through, values.count);
                 }
             }
-            let back = shortest_paths(&self.old_walks[ends.1], ends.0);
+            let back = shortest_walks(&self.old_walks[ends.1], ends.0);
             seen[0] += usize::from(values.count > 1);
             seen[1] += usize::from(values.count > 0 && back.is_empty());
         }
@@ -184,7 +187,7 @@ fn plan_a_by_the_two_way_rule() {
         (4, 3, 4),
     ];
     let plan_a = Compared::new(5, 4, &records);
-    let paths = shortest_paths(&plan_a.old_walks[0], 4);
+    let paths = shortest_walks(&plan_a.old_walks[0], 4);
     assert_eq!(positions_of(&paths), [[0, 2, 5], [1, 3, 5], [1, 4, 5]]);
     assert_eq!(paired(&plan_a.old, &paths).through, [0, 1, 2, 3, 0]);
     assert_eq!(plan_a.owned.bytes, Owned::plan_a().bytes);
@@ -197,7 +200,7 @@ fn one_way_plans_have_other_paths_by_other_rules() {
     let mut differ = [0; 2];
     for plan in ONE_WAY_PLANS {
         let (owned, last) = (plan.owned(), plan.last().into());
-        let paths = |walks: Vec<Walk>, end: usize| positions_of(&shortest_paths(&walks, end));
+        let paths = |walks: Vec<Walk>, end: usize| positions_of(&shortest_walks(&walks, end));
         let two_way = |from, to| paths(two_way_walks(&owned.plan(), from), to);
         let mut reversed = owned.plan();
         for contact in &mut reversed.contacts {

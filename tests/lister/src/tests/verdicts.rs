@@ -1,6 +1,6 @@
 //! The verdict by the plain lister: plan A, all lists of tiny plans, and the second means.
 
-use super::support::{pairs, tiny_plans, turned_plans, Owned};
+use super::support::{pairs, stale_plans, tiny_plans, turned_plans, Owned};
 use crate::answer::{number, Answer};
 use crate::lists::near;
 use crate::means::{Means, COUNTED, COUNT_LIMIT, LISTED};
@@ -91,7 +91,8 @@ fn all_lists_of_tiny_plans() {
 fn both_means_give_one_verdict() {
     let mut seen = [0; 3];
     let tiny = tiny_plans().into_iter().map(|plan| plan.turning(1));
-    for owned in tiny.chain(turned_plans()).step_by(3) {
+    let plans = tiny.chain(turned_plans()).step_by(3);
+    for owned in plans.chain(stale_plans().into_iter().step_by(4)) {
         let records = owned.plan().contacts.len() as u16;
         for ends in pairs(owned.stations) {
             for (words, list) in near(&owned.list(ends.0, ends.1), records) {

@@ -1,8 +1,8 @@
-//! The list of walks against a filter of all position sequences, for several turnarounds.
+//! The list of walks against a filter of all position sequences, for several turnarounds and keepings.
 
-use super::support::{all_doubled_plans, all_plans, Owned};
+use super::support::{all_doubled_plans, all_plans, stale_plans, Owned};
 use crate::one_way::{OneWayPlan, ONE_WAY_PLANS};
-use crate::plan::Plan;
+use crate::plan::{Plan, KEPT, RECORD_BYTES};
 use crate::turned::TURNED_PLANS;
 use crate::walk::walks_from;
 
@@ -12,11 +12,11 @@ fn is_walk(plan: &Plan, source: usize, positions: &[u16]) -> bool {
     let mut slot = 0;
     for position in positions {
         let contact = plan.contacts[usize::from(*position)];
-        let earliest = match slot {
-            0 => 1,
-            heard => heard + plan.turnaround,
+        let (earliest, latest) = match slot {
+            0 => (1, plan.slots),
+            heard => (heard + plan.terms.turnaround, heard + plan.terms.keeping),
         };
-        if contact.sender != station || contact.slot < earliest {
+        if contact.sender != station || contact.slot < earliest || contact.slot > latest {
             return false;
         }
         station = contact.hearer;
@@ -91,6 +91,21 @@ fn walks_with_turnarounds_are_the_filtered_sequences() {
             assert_eq!(listed(&plan, source), expected, "{}", turned.label);
         }
     }
+}
+
+#[test]
+fn walks_of_units_that_drop_readings_are_the_filtered_sequences() {
+    let mut fewer = 0;
+    let plans = stale_plans().into_iter().step_by(3);
+    for owned in plans.filter(|owned| owned.bytes.len() <= 12 * RECORD_BYTES) {
+        let (plan, kept) = (owned.plan(), owned.clone().keeping_for(KEPT).plan());
+        for source in 0..plan.stations {
+            let expected = filtered(&plan, source);
+            assert_eq!(listed(&plan, source), expected, "{owned:?} {source}");
+            fewer += usize::from(expected.len() < listed(&kept, source).len());
+        }
+    }
+    assert!(fewer > 500, "{fewer}");
 }
 
 #[test]

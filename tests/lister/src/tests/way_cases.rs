@@ -14,7 +14,7 @@ use crate::way_cases::{
     all_cases, ladder_path, sent_ladder_path, Arguments, Case, Outcome, Step, LONGEST_BUFFER,
     LONGEST_LABEL, LONGEST_PLAN, LONGEST_SCRATCH,
 };
-use crate::ways::{paths_of_call, Found, Way};
+use crate::ways::{walks_of_call, Found, Way};
 
 /// All cases with what their calls answer and leave, made once.
 fn cases() -> &'static [(Case, Vec<Outcome>)] {
@@ -33,7 +33,7 @@ fn replies<'a>(outcomes: impl Iterator<Item = &'a Outcome>) -> BTreeMap<String, 
     let mut replies = BTreeMap::new();
     for outcome in outcomes {
         let reply = match outcome.answer {
-            Ok(Found::Path(_)) => "path".to_string(),
+            Ok(Found::Walk(_)) => "path".to_string(),
             _ => outcome.reply(),
         };
         *replies.entry(reply).or_default() += 1;
@@ -235,7 +235,7 @@ fn lists_are_complete_but_for_long_ladders() {
         assert_eq!(case.counting == Counting::Fast, counted, "{}", case.label);
         if !has(case, &long) {
             let call = case.pair.call(&case.bytes);
-            assert_eq!(paths_of_call(COUNT_LIMIT, &call).as_ref(), Ok(&case.list));
+            assert_eq!(walks_of_call(COUNT_LIMIT, &call).as_ref(), Ok(&case.list));
         }
     }
 }

@@ -6,7 +6,7 @@ use crate::means::COUNT_LIMIT;
 use crate::pair_cases::LabelledPlan;
 use crate::plan::read;
 use crate::reach_cases::{falling_ladder, spaced_ladder, spaced_sent_ladder, Builder};
-use crate::ways::Paths;
+use crate::ways::CompleteList;
 
 pub fn cases() -> Vec<Case> {
     [accepted(), too_many(), other_sources()].concat()
@@ -16,8 +16,8 @@ pub fn cases() -> Vec<Case> {
 fn some_paths(plan: &LabelledPlan, ends: (u16, u16), places: &[u128]) -> Vec<Vec<u16>> {
     let accepted = read(plan.owned().input()).expect("a valid plan");
     let ends = (ends.0.into(), ends.1.into());
-    let paths = fast_ways::paths(COUNT_LIMIT, accepted, ends).expect("few walks");
-    places.iter().map(|place| paths.path(*place)).collect()
+    let paths = fast_ways::list(COUNT_LIMIT, accepted, ends).expect("few walks");
+    places.iter().map(|place| paths.walk(*place)).collect()
 }
 
 /// Lists of the first three paths and of the last one of 2^63, from 0 to the last station.

@@ -2,7 +2,7 @@
 
 use super::Case;
 use crate::cases::Record;
-use crate::lists::{prefixes, with_paths_changed};
+use crate::lists::{prefixes, with_walks_changed};
 use crate::pair_cases::LabelledPlan;
 use crate::reach_cases::{rising_row, CORNERS};
 use crate::turned::spaced_row;
@@ -30,7 +30,7 @@ fn one_path() -> Vec<Case> {
         let paths = plan.paths(ends);
         let all = prefixes(&paths.concat()).into_iter().rev();
         let mut lists: Vec<_> = all.take(3).collect();
-        lists.extend(with_paths_changed(&paths));
+        lists.extend(with_walks_changed(&paths));
         let mut more = paths.concat();
         more.push(plan.records());
         lists.push(("one entry more".to_string(), more));

@@ -2,7 +2,7 @@
 //! Every prefix of every complete list of a pair with paths of two hops or more, and some of the lists with a change.
 
 use super::Case;
-use crate::lists::{prefixes, with_one_change, with_paths_changed};
+use crate::lists::{prefixes, with_one_change, with_walks_changed};
 use crate::pair_cases::{small_plans, LabelledPlan};
 use crate::plans::pairs;
 use crate::random::Random;
@@ -36,7 +36,7 @@ fn of_pair(random: &mut Random, plan: &LabelledPlan, ends: (u16, u16)) -> Vec<Ca
         return Vec::new();
     }
     let mut changed = with_one_change(&list, plan.records());
-    changed.extend(with_paths_changed(&paths));
+    changed.extend(with_walks_changed(&paths));
     changed.retain(|_| random.below(40) == 0);
     let mut lists = prefixes(&list);
     lists.extend(changed);

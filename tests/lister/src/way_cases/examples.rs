@@ -2,7 +2,7 @@
 
 use super::Case;
 use crate::cases::{doubled, plan_bytes, PLAN_A};
-use crate::one_way::{OneWayPlan, PathList, ONE_WAY_PLANS};
+use crate::one_way::{OneWayPlan, WalkList, ONE_WAY_PLANS};
 
 pub fn cases() -> Vec<Case> {
     let mut cases = named_examples();
@@ -62,7 +62,7 @@ pub fn whole_list(case: Case) -> Case {
 }
 
 /// The replies of a whole list.
-pub fn replies(list: PathList) -> Vec<String> {
+pub fn replies(list: WalkList) -> Vec<String> {
     let Some(path) = list.first() else {
         return ["none", "refused 10", "none"].map(str::to_string).to_vec();
     };

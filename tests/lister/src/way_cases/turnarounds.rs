@@ -10,7 +10,7 @@ use super::small::{listing, mixed};
 use super::{marks, Arguments, Case, Step};
 use crate::cases::Record;
 use crate::means::Counting;
-use crate::one_way::PathList;
+use crate::one_way::WalkList;
 use crate::pair_cases::LabelledPlan;
 use crate::plans::pairs;
 use crate::random::Random;
@@ -49,7 +49,7 @@ fn examples() -> Vec<Case> {
     let mut cases = Vec::new();
     for turned in TURNED_PLANS {
         let (plan, last) = (turned.labelled(), turned.last());
-        let mut push = |ends: (u16, u16), list: PathList| {
+        let mut push = |ends: (u16, u16), list: WalkList| {
             let case = whole_list(Case::on_plan(&plan, ends));
             cases.push(stating(case, replies(list)));
         };
