@@ -15,7 +15,7 @@ mod EndLaws
 mod ReachLaws
 mod PassLaws
 pub mod UseLaws
--- the pass where readings go stale: its functions and loops
+-- the pass where readings go stale: its functions, cells of the work area, windows, a slot, and its loop
 mod WindowSteps
 mod WindowCells
 mod WindowWalks

@@ -7,14 +7,14 @@ use mathlib.Core.Path.{_≡_, refl, sym, ap, subst, _∙_, fun-ext}
 use mathlib.Core.Bool.{Bool, true, false, not, cond, _&&_}
 use mathlib.Core.List.{List}
 use mathlib.Core.Logic.{_⊎_, inl, inr, by-cases, _≢_}
-use borrow.Author.Tests.{lt-ltb, le-ltb, eq-eqb, ne-eqb}
+use borrow.Author.Tests.{lt-ltb, le-ltb, ltb-false, eq-eqb, ne-eqb}
 use lib.Dec.{eqb}
 use lib.ListN.{getD}
 use Rattle.temporal.specs.Plan.{Terms}
 use Rattle.temporal.specs.Lists.{below}
 use Rattle.temporal.specs.Bytes.{planOf}
 use Rattle.temporal.specs.Cause.{planFault, appearanceTooMany, stationTooMany, tooMany}
-use Rattle.temporal.specs.Shortest.{hops, count, throughIn, through}
+use Rattle.temporal.specs.Shortest.{shortestWalksTo, hops, count, throughIn, through}
 use Rattle.temporal.specs.Set.{touchedIn, touched}
 use Rattle.temporal.specs.Foremost.{arrival, walksBy}
 use Rattle.temporal.proofs.Accepted.{accepted}
@@ -31,7 +31,9 @@ use Rattle.pass.specs.Column.{blockColumn, columnOf}
 use Rattle.pass.specs.Passed.{PassReady, Counted, Passed, SetReady, SetPassed}
 use Rattle.pass.specs.PassedColumns.{ColumnsReady, CountedBy, SettledAt, EndedAs, ColumnsPassed}
 use Rattle.pass.specs.PassedColumns.{overOf, slotOf, Overfull}
+use Rattle.pass.specs.Window.{WindowPassed}
 use Rattle.pass.proofs.EndLaws.{few-appearances}
+use Rattle.pass.proofs.SettleLaws.{or-none}
 
 -- ---- a block of stations
 
@@ -280,3 +282,55 @@ set-ready bs n t terms s z old ready =
       other = λ q. omega arith;
       fits = ready .fits;
     }
+
+-- ---- the pass where readings go stale
+
+-- what it promises by the last slot is about the shortest walks
+module _ (bs : List ℕ) (n t : ℕ) (terms : Terms) (s : ℕ) (ok : planFault bs n t ≡ 0) (old new : List ℕ) (r : Bool) (none : r ≡ false) where
+  -- no station has more than 2^64 - 1
+  window-few : (col : ℕ → ℕ) (block : ℕ) → WindowPassed bs n t terms s col block old new r → (z : ℕ) → z < n
+      → count (walksBy (planOf bs n t terms) s z t) ≤ 18446744073709551615
+  unfolding tooMany planOf
+  window-few col block x z inside =
+      let (a, b) = or-none (appearanceTooMany (planOf bs n t terms) s) (stationTooMany (planOf bs n t terms) s) (sym (x .too-many) ∙ none) in
+      rw (shortest-by-last bs n t terms ok s z)
+      (ltb-false 18446744073709551615 (count (shortestWalksTo (planOf bs n t terms) s z)) (any-false _ (below n) .0 b z (mem-below n .1 inside)))
+
+  -- a block of stations
+  pub window-block : (low block : ℕ) → low + block ≤ n → WindowPassed bs n t terms s (blockColumn low block) block old new r
+      → Counted bs n t terms s low block new
+  unfolding through
+  window-block low block stations x =
+      let y = x .counted none in
+      record {
+        station-hops = λ z q. y .station-hops z q ∙ ap hops (shortest-by-last bs n t terms ok s z);
+        station-counts = λ z q.
+            y .station-counts z q (window-few (blockColumn low block) block x z q) ∙ ap count (shortest-by-last bs n t terms ok s z);
+        rows = λ z j inside column d some.
+            subst
+            (λ l. hops l < 65535 → getD new (2 * n + z * block + j) 0 + throughIn (planOf bs n t terms) s z l (low + j) ≡ count l)
+            (shortest-by-last bs n t terms ok s z)
+            (block-row low block bs n t terms s t new stations y z j inside column d (window-few (blockColumn low block) block x z inside))
+            some;
+      }
+
+  -- a set of stations, and the destination z
+  pub window-members : (z : ℕ) (set : List ℕ) → z < n → WindowPassed bs n t terms s (columnOf (columns.Members z) set 1) 1 old new r
+      → hops (shortestWalksTo (planOf bs n t terms) s z) < 65535
+      → getD new (2 * n + z) 0 + touched (planOf bs n t terms) s z (λ v. eqb (getD set v 0) 1)
+      ≡ count (shortestWalksTo (planOf bs n t terms) s z)
+  unfolding touched
+  window-members z set inside x some =
+      let place : 2 * n + z ≡ 2 * n + z * 1 + 0 = omega arith in
+      let l = walksBy (planOf bs n t terms) s z t in
+      let same : touchedIn (planOf bs n t terms) s z l (λ v. eqb (getD set v 0) 1)
+      ≡ touchedIn (planOf bs n t terms) s z l (λ v. eqb (columnOf (columns.Members z) set 1 v) 0) =
+      sym (touched-others (planOf bs n t terms) s z l (λ v. eqb (getD set v 0) 1))
+      ∙ ap (touchedIn (planOf bs n t terms) s z l) (sym (fun-ext (set-column z set))) in
+      subst
+      (λ l. hops l < 65535 → getD new (2 * n + z) 0 + touchedIn (planOf bs n t terms) s z l (λ v. eqb (getD set v 0) 1) ≡ count l)
+      (shortest-by-last bs n t terms ok s z)
+      (λ few. rw place (ap (λ k. getD new (2 * n + z * 1 + 0) 0 + k) same
+      ∙ x .counted none .rows z 0 inside (omega arith) (set-destination z set)
+      (window-few (columnOf (columns.Members z) set 1) 1 x z inside) few))
+      some

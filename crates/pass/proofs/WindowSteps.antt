@@ -1,8 +1,8 @@
 -- The functions of the pass where readings go stale: what they leave, from what the functions that they call leave, and their loops.
 -- Assumes nothing.
-use Prim.Native.Nat.{ℕ, suc, _+_, _-_, _*_, _<_, _≤_}
+use Prim.Native.Nat.{ℕ, suc, _+_, _-_, _*_, _/_, _%_, _<_, _≤_}
 use native.Mathlib.Omega.{arith}
-use native.Mathlib.Nat.{mul-le-mul-right, suc-mul}
+use native.Mathlib.Nat.{mul-le-mul-right, suc-mul, mod-lt, mod-eq-of-lt, div-add-mod', mul-add-mod-self-right}
 use native.Mathlib.Decide.{ℕ-discrete}
 use mathlib.Core.Path.{_≡_, refl, sym, ap, _∙_}
 use mathlib.Core.Bool.{Bool, true, false}
@@ -20,7 +20,7 @@ use Rattle.plan.proofs.SlotLaws.{in-slot-inv}
 use Rattle.pass.specs.Row.{partSize, rowAt, partAt}
 use Rattle.pass.specs.Entry.{absorbed, Absorbable, areaOverflows}
 use Rattle.pass.specs.Sweep.{Sweep, sweepOf, emptied, Area, PartFits}
-use Rattle.pass.specs.Window.{takenCell, openedCell, emptiedCell, gatheredCell, maskedRow, windowPart, windowCell, windowNext}
+use Rattle.pass.specs.Window.{takenCell, openedCell, emptiedCell, nextPart, gatheredCell, maskedRow, windowPart, windowCell, windowNext}
 use Rattle.pass.specs.Window.{windowsOf, sentRecords, totalNext, totalsFrom, windowSlot, TwoParts, WindowArea, SlotRecords}
 use Rattle.pass.proofs.PlaceLaws.{row-inside, part-fits}
 
@@ -68,32 +68,77 @@ module _ (block : ℕ) (col : ℕ → ℕ) (w : List ℕ) (row v : ℕ) where
   unfolding maskedRow
   row-none j c past = sym (rw (le-ltb (col v) block (omega arith)))
 
+-- ---- the part of the next slot
+
+module _ (part size behind : ℕ) where
+  pub next-first : part + size ≡ behind → size ≡ nextPart part size behind
+  unfolding nextPart
+  next-first e = sym (rw (eq-eqb (part + size) behind e))
+
+  pub next-behind : part + size ≢ behind → part + size ≡ nextPart part size behind
+  unfolding nextPart
+  next-behind d = sym (rw (ne-eqb (part + size) behind d))
+
+-- a number's rest, one further
+rest-wraps : (h x : ℕ) → 0 < h → x % h + 1 ≡ h → (x + 1) % h ≡ 0
+rest-wraps h x some e =
+    let a = div-add-mod' x h in
+    let up : x + 1 ≡ suc (x / h) * h + 0 = omega (arith, a, suc-mul (x / h) h) in
+    ap (λ y. y % h) up ∙ mul-add-mod-self-right (suc (x / h)) h 0 ∙ mod-eq-of-lt some
+
+rest-more : (h x : ℕ) → x % h + 1 < h → (x + 1) % h ≡ x % h + 1
+rest-more h x less =
+    let a = div-add-mod' x h in
+    let up : x + 1 ≡ x / h * h + (x % h + 1) = omega arith in
+    ap (λ y. y % h) up ∙ mul-add-mod-self-right (x / h) h (x % h + 1) ∙ mod-eq-of-lt less
+
+pub next-part-is : (n block h x part size behind r : ℕ) → 0 < n → 0 < h → part ≡ partAt n block h x → size ≡ partSize n block
+    → behind ≡ (1 + h) * partSize n block → r ≡ nextPart part size behind → r ≡ partAt n block h (x + 1)
+unfolding partAt
+next-part-is n block h x part size behind r some slots is-part is-size is-behind e =
+    let low = mod-lt x slots in
+    let next : part + size ≡ suc (1 + x % h) * partSize n block = omega (arith, is-part, is-size, suc-mul (1 + x % h) (partSize n block)) in
+    by-cases (ℕ-discrete (x % h + 1) h)
+    (λ wraps.
+    let top : suc (1 + x % h) ≡ 1 + h = omega arith in
+    let there : part + size ≡ behind = next ∙ ap (λ k. k * partSize n block) top ∙ sym is-behind in
+    let zero-rest = rest-wraps h x slots wraps in
+    e ∙ sym (next-first part size behind there) ∙ rw zero-rest (omega arith))
+    (λ more.
+    let step = rest-more h x (omega arith) in
+    let less = mul-le-mul-right {m = suc (suc (1 + x % h))} {n = 1 + h} (partSize n block) (omega arith) in
+    let grow = suc-mul (suc (1 + x % h)) (partSize n block) in
+    let one : suc (1 + x % h) ≡ 1 + (x % h + 1) = omega arith in
+    e ∙ sym (next-behind part size behind (λ q. omega arith)) ∙ next ∙ rw step (ap (λ k. k * partSize n block) one))
+
 -- ---- the slots of a window
 
 -- the slots before x are gathered
-pub record GatheringCell (n block h base v from end : ℕ) (old : List ℕ) (x : ℕ) (now : List ℕ) : Type 0 where
+pub record GatheringCell (n block h base v from end : ℕ) (old : List ℕ) (part x : ℕ) (now : List ℕ) : Type 0 where
+  pub place : part ≡ partAt n block h x
   pub same : length now ≡ length old
   pub rest : gatheredCell n block h now base v x (end - x) ≡ gatheredCell n block h old base v from (end - from)
 
 module _ (n block h base v from end : ℕ) (old : List ℕ) where
-  pub gathering-none : GatheringCell n block h base v from end old from old
-  gathering-none = record { same = refl; rest = refl }
+  pub gathering-none : (part : ℕ) → part ≡ partAt n block h from → GatheringCell n block h base v from end old part from old
+  gathering-none part is = record { place = is; same = refl; rest = refl }
 
-  pub gathering-more : (x part : ℕ) (now now′ : List ℕ) → x < end → GatheringCell n block h base v from end old x now → length now′ ≡ length now
-      → part ≡ partAt n block h x → now′ ≡ takenCell n block now base v part v 0
-      → GatheringCell n block h base v from end old (x + 1) now′
+  pub gathering-more : (x part part′ : ℕ) (now now′ : List ℕ) → x < end → GatheringCell n block h base v from end old part x now
+      → length now′ ≡ length now → now′ ≡ takenCell n block now base v part v 0 → part′ ≡ partAt n block h (x + 1)
+      → GatheringCell n block h base v from end old part′ (x + 1) now′
   unfolding gatheredCell
-  gathering-more x part now now′ less g kept is e =
+  gathering-more x part part′ now now′ less g kept e next =
       let more : end - x ≡ suc (end - (x + 1)) = omega arith in
       record {
+        place = next;
         same = kept ∙ g .same;
-        rest = rw (e, is) (sym (ap (gatheredCell n block h now base v x) more) ∙ g .rest);
+        rest = rw (e, g .place) (sym (ap (gatheredCell n block h now base v x) more) ∙ g .rest);
       }
 
-  pub gathering-all : (x : ℕ) (now : List ℕ) → end ≤ x → GatheringCell n block h base v from end old x now
+  pub gathering-all : (x part : ℕ) (now : List ℕ) → end ≤ x → GatheringCell n block h base v from end old part x now
       → now ≡ gatheredCell n block h old base v from (end - from)
   unfolding gatheredCell
-  gathering-all x now past g =
+  gathering-all x part now past g =
       let none : end - x ≡ 0 = omega arith in
       sym (ap (gatheredCell n block h now base v x) none) ∙ g .rest
 
@@ -103,6 +148,10 @@ pub gather-parts : {n block h base : ℕ} {w w′ : List ℕ} (x part : ℕ) →
 gather-parts {n} {block} {h} {base} {w} {w′} x part a fits same is =
     let f = part-fits a x .fits in
     record { some = a .some; to-fits = omega arith; from-fits = rw is (omega arith) }
+
+-- a slot's part ends within the list
+pub slots-inside : {n block h : ℕ} {w : List ℕ} (x part : ℕ) → Area n block h w → part ≡ partAt n block h x → part + partSize n block ≤ length w
+slots-inside x part a is = let f = part-fits a x .fits in rw is f
 
 -- ---- a window
 

@@ -35,6 +35,10 @@ openedCell n block w base v = filled (set (set w (base + v) 0) (base + v + n) 1)
 unfoldable pub emptiedCell : ℕ → List ℕ → ℕ → ℕ → List ℕ
 emptiedCell n w base v = set (set w (base + v) 65535) (base + v + n) 0
 
+-- where the part of the next slot begins, as code finds it: the parts of the slots end behind, and the first of them begins at their size
+unfoldable pub nextPart : ℕ → ℕ → ℕ → ℕ
+nextPart part size behind = cond (eqb (part + size) behind) size (part + size)
+
 -- k appearances of station v, from slot x on, are taken into its entry in the part that begins at base
 unfoldable pub gatheredCell : ℕ → ℕ → ℕ → List ℕ → ℕ → ℕ → ℕ → ℕ → List ℕ
 gatheredCell n block h w base v x zero = w

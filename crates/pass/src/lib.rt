@@ -30,6 +30,7 @@ ghost use Rattle.pass.specs.Window.{
   takenCell,
   openedCell,
   emptiedCell,
+  nextPart,
   gatheredCell,
   maskedRow,
   windowPart,
@@ -480,6 +481,18 @@ fn mask_row(work: &mut [u64], block: usize, columns: Columns, set: &[u8], row: u
     }
 }
 
+// Where the part of the next slot begins: behind the part that begins at part, or at size where the parts of the slots end there.
+fn next_part(part: usize, size: usize, behind: usize) -> usize
+    requires { ⌜ part + size < 18446744073709551616 ⌝ }
+    ensures { λ r. ⌜ r ≡ nextPart part size behind ⌝ }
+{
+    let next = part + size;
+    if next == behind {
+        return size;
+    }
+    next
+}
+
 // Takes the appearances of station v from slot from to before slot end, of h parts, into its entry in the part that begins at base.
 fn gather(
     work: &mut [u64],
@@ -494,10 +507,13 @@ fn gather(
     requires { ⌜ Area n block h (now work) × (base + partSize n block ≤ length (now work)) × (v < n) ⌝ }
     ensures { λ _. ⌜ now (work .exit) ≡ gatheredCell n block h (now (work .entry)) base v from (end - from) ⌝ }
 {
+    let size = 2 * n + n * block;
+    let behind = (1 + h) * size;
+    let mut part = part_at(n, block, h, from);
     let mut x = from;
     while x < end {
-        let part = part_at(n, block, h, x);
         take(work, n, block, base, v, part, v, 0);
+        part = next_part(part, size, behind);
         x += 1;
     }
 }
