@@ -1,8 +1,9 @@
 /*
  * Plan A of document 01, doubled, through the C interface: check, reach from 0, the row of station 3, the pairs 0 to 4 and 0
- * to 3 with their ways one by one, 0 to 3 again where stations need two slots between hearing and sending on, how many ways
- * of 0 to 4 stations 2 and 3 touch together, verdicts on lists of these ways, the earliest ways of 0 to 3, the loads source by
- * source and as a whole, and the busiest station. The callers lend all memory; the example stops at a refusal.
+ * to 3 with their ways one by one, 0 to 3 again where stations need two slots between hearing and sending on, and where they drop
+ * a reading one slot after hearing it, how many ways of 0 to 4 stations 2 and 3 touch together, verdicts on lists of these ways,
+ * the earliest ways of 0 to 3, the loads source by source and as a whole, and the busiest station. With 4 slots and a reading
+ * kept for 3 or more, least chains are least ways. The callers lend all memory; the example stops at a refusal.
  */
 #include <inttypes.h>
 #include <stdio.h>
@@ -14,6 +15,8 @@
 #define SLOTS 4
 #define ONE_SLOT 1  /* the turnaround of units sold before, which send on in the slot after hearing */
 #define TWO_SLOTS 2 /* the turnaround of units sold now, which need a slot more */
+#define KEPT JOFTAKI_MOST_KEEPING /* for units that keep a reading until the plan ends */
+#define DROPPED 1 /* for units that drop a reading one slot after hearing it */
 #define CONTACTS 12
 #define SOURCE 0
 #define STATION_OF_ROW 3
@@ -64,7 +67,7 @@ static void print_reach(void)
     size_t length;
     size_t v;
 
-    accept_or_stop(joftaki_reach(plan, sizeof plan, STATIONS, SLOTS, ONE_SLOT, SOURCE,
+    accept_or_stop(joftaki_reach(plan, sizeof plan, STATIONS, SLOTS, ONE_SLOT, KEPT, SOURCE,
                                  hops, JOFTAKI_TABLE_LENGTH(STATIONS, SLOTS),
                                  counts, JOFTAKI_TABLE_LENGTH(STATIONS, SLOTS),
                                  station_hops, STATIONS, station_counts, STATIONS));
@@ -78,13 +81,13 @@ static void print_reach(void)
 }
 
 /* Operation 4: hops, count and through counts of a pair. */
-static void print_pair(size_t turnaround, size_t destination, uint64_t *work)
+static void print_pair(size_t turnaround, size_t keeping, size_t destination, uint64_t *work)
 {
     size_t hops;
     uint64_t count;
     uint64_t through[STATIONS];
 
-    accept_or_stop(joftaki_pair(plan, sizeof plan, STATIONS, SLOTS, turnaround, SOURCE, destination, &hops, &count,
+    accept_or_stop(joftaki_pair(plan, sizeof plan, STATIONS, SLOTS, turnaround, keeping, SOURCE, destination, &hops, &count,
                                 through, STATIONS, work, JOFTAKI_WORK_LENGTH(STATIONS, SLOTS)));
     printf("hops %zu\ncount %" PRIu64 "\n", hops, count);
     print_counts("through", through, STATIONS);
@@ -101,15 +104,15 @@ static void print_way(const uint16_t *way, size_t hops)
 }
 
 /* Operations 7 and 8: every way of a pair, one a line. The way buffer alone says where the listing stands. */
-static void print_ways(size_t turnaround, size_t destination, uint64_t *work)
+static void print_ways(size_t turnaround, size_t keeping, size_t destination, uint64_t *work)
 {
     uint16_t way[SLOTS];
     size_t hops;
-    uint32_t number = joftaki_first_way(plan, sizeof plan, STATIONS, SLOTS, turnaround, SOURCE, destination, &hops,
+    uint32_t number = joftaki_first_way(plan, sizeof plan, STATIONS, SLOTS, turnaround, keeping, SOURCE, destination, &hops,
                                         way, SLOTS, work, JOFTAKI_WORK_LENGTH(STATIONS, SLOTS));
     while (number == JOFTAKI_ACCEPTED) {
         print_way(way, hops);
-        number = joftaki_next_way(plan, sizeof plan, STATIONS, SLOTS, turnaround, SOURCE, destination, &hops,
+        number = joftaki_next_way(plan, sizeof plan, STATIONS, SLOTS, turnaround, keeping, SOURCE, destination, &hops,
                                   way, SLOTS, work, JOFTAKI_WORK_LENGTH(STATIONS, SLOTS));
     }
     if (number != JOFTAKI_NONE && number != JOFTAKI_LAST)
@@ -122,7 +125,7 @@ static void print_set(size_t destination, uint64_t *work)
     static const uint8_t set[STATIONS] = {0, 0, 1, 1, 0};
     uint64_t count;
 
-    accept_or_stop(joftaki_through_set(plan, sizeof plan, STATIONS, SLOTS, ONE_SLOT, SOURCE, destination, &count,
+    accept_or_stop(joftaki_through_set(plan, sizeof plan, STATIONS, SLOTS, ONE_SLOT, KEPT, SOURCE, destination, &count,
                                        set, STATIONS, work, JOFTAKI_WORK_LENGTH(STATIONS, SLOTS)));
     printf("set 2 3 count %" PRIu64 "\n", count);
 }
@@ -145,7 +148,7 @@ static void print_verdict(size_t destination, const uint16_t *list, size_t lengt
 {
     uint32_t verdict;
 
-    accept_or_stop(joftaki_verdict(plan, sizeof plan, STATIONS, SLOTS, ONE_SLOT, SOURCE, destination, &verdict,
+    accept_or_stop(joftaki_verdict(plan, sizeof plan, STATIONS, SLOTS, ONE_SLOT, KEPT, SOURCE, destination, &verdict,
                                    list, length, work, JOFTAKI_WORK_LENGTH(STATIONS, SLOTS)));
     printf("verdict %s\n", verdict_word(verdict));
 }
@@ -158,13 +161,13 @@ static void print_verdicts(uint64_t *work)
     uint16_t way[SLOTS];
     size_t length = 0;
     size_t hops;
-    uint32_t number = joftaki_first_way(plan, sizeof plan, STATIONS, SLOTS, ONE_SLOT, SOURCE, 4, &hops, way, SLOTS,
+    uint32_t number = joftaki_first_way(plan, sizeof plan, STATIONS, SLOTS, ONE_SLOT, KEPT, SOURCE, 4, &hops, way, SLOTS,
                                         work, JOFTAKI_WORK_LENGTH(STATIONS, SLOTS));
     while (number == JOFTAKI_ACCEPTED && length + hops <= 3 * SLOTS) {
         size_t i;
         for (i = 0; i < hops; i++)
             list[length++] = way[i];
-        number = joftaki_next_way(plan, sizeof plan, STATIONS, SLOTS, ONE_SLOT, SOURCE, 4, &hops, way, SLOTS,
+        number = joftaki_next_way(plan, sizeof plan, STATIONS, SLOTS, ONE_SLOT, KEPT, SOURCE, 4, &hops, way, SLOTS,
                                   work, JOFTAKI_WORK_LENGTH(STATIONS, SLOTS));
     }
     if (number != JOFTAKI_LAST)
@@ -199,7 +202,7 @@ static void print_partial_loads(uint64_t *work)
 
     for (sources = 1; sources <= STATIONS; sources++) {
         uint64_t span = (uint64_t)(STATIONS - sources) * (STATIONS - 1) << 32;
-        accept_or_stop(joftaki_partial_loads(plan, sizeof plan, STATIONS, SLOTS, ONE_SLOT, sources, pairs, STATIONS,
+        accept_or_stop(joftaki_partial_loads(plan, sizeof plan, STATIONS, SLOTS, ONE_SLOT, KEPT, sources, pairs, STATIONS,
                                              loads, STATIONS, work, JOFTAKI_WORK_LENGTH(STATIONS, SLOTS)));
         printf("sources %zu span %" PRIu64 "\n", sources, span);
         print_counts("pairs", pairs, STATIONS);
@@ -214,7 +217,7 @@ static void print_loads(uint64_t *work)
     uint64_t loads[STATIONS];
     size_t v;
 
-    accept_or_stop(joftaki_loads(plan, sizeof plan, STATIONS, SLOTS, ONE_SLOT, pairs, STATIONS, loads, STATIONS,
+    accept_or_stop(joftaki_loads(plan, sizeof plan, STATIONS, SLOTS, ONE_SLOT, KEPT, pairs, STATIONS, loads, STATIONS,
                                  work, JOFTAKI_WORK_LENGTH(STATIONS, SLOTS)));
     printf("stations %d slots %d contacts %d\n", STATIONS, SLOTS, CONTACTS);
     for (v = 0; v < STATIONS; v++)
@@ -226,7 +229,7 @@ static void print_busiest(uint64_t *work)
 {
     size_t station;
 
-    accept_or_stop(joftaki_busiest(plan, sizeof plan, STATIONS, SLOTS, ONE_SLOT, &station,
+    accept_or_stop(joftaki_busiest(plan, sizeof plan, STATIONS, SLOTS, ONE_SLOT, KEPT, &station,
                                    work, JOFTAKI_WORK_LENGTH(STATIONS, SLOTS)));
     printf("busiest %zu\n", station);
 }
@@ -239,14 +242,16 @@ int main(void)
     accept_or_stop(number);
     printf("check %" PRIu32 "\n", number);
     print_reach();
-    print_pair(ONE_SLOT, 4, work);
-    print_ways(ONE_SLOT, 4, work);
+    print_pair(ONE_SLOT, KEPT, 4, work);
+    print_ways(ONE_SLOT, KEPT, 4, work);
     print_set(4, work);
     print_verdicts(work);
-    print_pair(ONE_SLOT, 3, work);
-    print_ways(ONE_SLOT, 3, work);
-    print_pair(TWO_SLOTS, 3, work);
-    print_ways(TWO_SLOTS, 3, work);
+    print_pair(ONE_SLOT, KEPT, 3, work);
+    print_ways(ONE_SLOT, KEPT, 3, work);
+    print_pair(TWO_SLOTS, KEPT, 3, work);
+    print_ways(TWO_SLOTS, KEPT, 3, work);
+    print_pair(ONE_SLOT, DROPPED, 3, work);
+    print_ways(ONE_SLOT, DROPPED, 3, work);
     print_foremost(3, work);
     print_partial_loads(work);
     print_loads(work);

@@ -1,30 +1,37 @@
 /*
- * Joftaki: least ways through a slot plan. The operations of document 01 and of document 02's changes for C99 and C++.
+ * Joftaki: least chains through a slot plan. The operations of document 01 and of document 02's changes for C99 and C++.
  *
  * Words. The comments have document 01's words; in names a walk is a chain, hops are legs, a path is a way, and shortest is
  * least, with the fewest legs. A contact leads from its sender to its hearer, and from no other station. A chain from s is a
- * run of contacts: s sends the first, in any slot, and the hearer of each sends the next, g slots after hearing or later. An
- * appearance (v, u) is station v reached by a chain whose last contact is in slot u.
+ * run of contacts: s sends the first, in any slot, and the hearer of each sends the next, g to h slots after hearing. A way is a
+ * chain that visits no station twice. An appearance (v, u) is station v reached by a chain whose last contact is in slot u.
+ *
+ * Least chains, document 000's shortest walks, are what every function but foremost counts and lists. Where t <= h + 1 no reading
+ * is dropped before the plan ends, and the least chains from s to another station are its least ways, the shortest paths. Where t
+ * is larger a least chain may call at a station twice or more often, and there may be a least chain where there is no way. A chain
+ * counts once for a station inside it, however often it calls there. "No way" at a prototype means that there is no chain.
  *
  * Arguments. plan: 0 to 8,192 records of 6 bytes, so up to 49,152 bytes, no header: slot, a, b, each 16 bits, high byte first.
  * A record is a contact: in this slot a sends and b hears (document 02, C-16; document 002's directed edge (a, b, slot),
  * Definition 2.1). a and b are different, and either may be the larger. Two stations that hear each other in a slot have two
  * records there, (slot, a, b) and (slot, b, a). Records rise strictly by (slot, a, b). A record's place, counted from 0, is
  * its position, at most 8,191. n: the number of stations, 1 to 256; they are numbered from 0. t: the number of slots, 1 to
- * 255; they are numbered from 1. g: the turnaround, 1 to 16 slots (document 02, C-17); what a station hears in slot u goes
- * out in slot u + g or later, so with 1 the slots of a chain rise strictly, and that is all. g may be above t. The calls of
- * one listing have one g. s, z, v: stations. k: how many stations partial_loads takes as sources, 0 to n: those below k. Every
- * function but row and row_number reads the plan anew and trusts no earlier table.
+ * 255; they are numbered from 1. g: the turnaround, 1 to 16 slots (document 02, C-17), and h: for how many slots a reading is
+ * kept, g to 255 (C-21); what a station hears in slot u goes out in the slots from u + g to u + h. With g = 1 the slots of a chain
+ * rise strictly. With h = 255 every reading is kept until the plan ends, whatever t is. Both may be above t. The calls of one
+ * listing have one g and one h. foremost takes no h: its stations keep every reading. s, z, v: stations. k: how many stations
+ * partial_loads takes as sources, 0 to n: those below k. Every function but row and row_number reads the plan anew and trusts no
+ * earlier table.
  *
  * Answers. Every function gives a number: 0 where the call is accepted, else the number of the papers' first cause that
- * holds, in their order: 1, 2, then 3, 4, 5 record by record, then 12, 13, 6, 7, 8, 11, 9, 10. First way and next way have two
- * more numbers, JOFTAKI_NONE and JOFTAKI_LAST, which are acceptances. A slot (arrival, hops, count, station, verdict, offset,
+ * holds, in their order: 1, 2, then 3, 4, 5 record by record, then 12, 14, 13, 6, 7, 8, 11, 9, 10. First way and next way have
+ * two more numbers, JOFTAKI_NONE and JOFTAKI_LAST, which are acceptances. A slot (arrival, hops, count, station, verdict, offset,
  * length) is always written: its value on acceptance; 0 on every refusal, and 0 beside JOFTAKI_NONE and JOFTAKI_LAST.
  *
- * Lent memory. Tables, buffers, sets, lists and work areas may hold anything at entry. Numbers 1 to 8 and 11 to 13 leave all of them
+ * Lent memory. Tables, buffers, sets, lists and work areas may hold anything at entry. Numbers 1 to 8 and 11 to 14 leave all of them
  * as they were. 9 sets the named parts of the tables and of the work area to 0 and leaves the way buffer. 10 sets the named
  * part of the work area to 0 and leaves the way buffer. Every acceptance leaves the named part of the work area 0. The named
- * part is the length said at each prototype, whatever g is; entries past it are never touched, and longer is always fine.
+ * part is the length said at each prototype, whatever g and h are; entries past it are never touched, and longer is always fine.
  *
  * Proved. For every call that lends memory as said below, the number, the slots and every lent entry at exit are those of
  * the definitions in crates/temporal/specs, and the function ends. The contracts stand in crates/joftaki_c/src/lib.rt, with
@@ -58,7 +65,7 @@
 extern "C" {
 #endif
 
-/* The numbers. 14 to 17 are kept for later causes; no function gives one of them. */
+/* The numbers. 15 to 17 are kept for later causes; no function gives one of them. */
 #define JOFTAKI_ACCEPTED 0u
 /* A fault of the plan. */
 #define JOFTAKI_LIMITS 1u /* n or t outside its limits */
@@ -72,23 +79,25 @@ extern "C" {
 #define JOFTAKI_SHORT 8u             /* a lent table or buffer is too short */
 #define JOFTAKI_TOO_MANY 9u          /* an appearance or station has over 2^64 - 1 least chains from a source worked on;
                                         foremost: an appearance */
-#define JOFTAKI_NOT_SHORTEST_PATH 10u /* next way: the offered positions are no least way of the pair, or it has none */
+#define JOFTAKI_NOT_SHORTEST_PATH 10u /* next way: the offered positions are no least chain of the pair, or it has none */
 #define JOFTAKI_SET_BYTE 11u          /* through_set: one of the first n bytes of the set is neither 0 nor 1 */
 #define JOFTAKI_TURNAROUND 12u        /* g outside 1 to 16 */
 #define JOFTAKI_SOURCES 13u           /* partial_loads: k is above n */
-/* First way and next way: acceptances that give no way. */
-#define JOFTAKI_NONE 100u /* the pair has no way */
-#define JOFTAKI_LAST 101u /* there is no way after the one in the buffer */
+#define JOFTAKI_KEEPING 14u           /* h is below g or above 255; looked at before 13 */
+/* First way and next way: acceptances that give no chain. */
+#define JOFTAKI_NONE 100u /* the pair has no chain */
+#define JOFTAKI_LAST 101u /* there is no least chain after the one in the buffer */
 
 /* The verdicts. Beside a refusal there is none: 0. */
-#define JOFTAKI_COMPLETE 1u  /* all least ways of the pair, one behind another */
-#define JOFTAKI_BEGINNING 2u /* the first few whole ways, fewer than all, possibly none */
+#define JOFTAKI_COMPLETE 1u  /* all least chains of the pair, one behind another */
+#define JOFTAKI_BEGINNING 2u /* the first few whole ones, fewer than all, possibly none */
 #define JOFTAKI_WRONG 3u     /* anything else */
 
-/* The limits of n, of t, of g and of the records of a plan. */
+/* The limits of n, of t, of g, of h and of the records of a plan. With the largest h every reading is kept. */
 #define JOFTAKI_MOST_STATIONS 256
 #define JOFTAKI_MOST_SLOTS 255
 #define JOFTAKI_MOST_TURNAROUND 16
+#define JOFTAKI_MOST_KEEPING 255
 #define JOFTAKI_MOST_RECORDS 8192
 #define JOFTAKI_RECORD_BYTES 6
 
@@ -119,12 +128,12 @@ uint32_t joftaki_check(const uint8_t *plan, size_t plan_length, size_t n, size_t
  * station_counts: the same for each station v, at place v; s has 0 legs and count 1.
  *
  * Lend: hops and counts JOFTAKI_TABLE_LENGTH(n, t) entries each, station_hops and station_counts n entries each.
- * Gives 0, or the first of 1, 2, 3, 4, 5, 12, 6, 8, 9. 9 sets the named parts of all four tables to 0.
+ * Gives 0, or the first of 1, 2, 3, 4, 5, 12, 14, 6, 8, 9. 9 sets the named parts of all four tables to 0.
  * Proved: the number and every entry of the four tables at exit.
  * Not covered: each pointer is valid for its length, aligned and not null, also where its length is 0; the four tables and
  * the plan do not overlap.
  */
-uint32_t joftaki_reach(const uint8_t *plan, size_t plan_length, size_t n, size_t t, size_t g, size_t s,
+uint32_t joftaki_reach(const uint8_t *plan, size_t plan_length, size_t n, size_t t, size_t g, size_t h, size_t s,
                        uint16_t *hops, size_t hops_length,
                        uint64_t *counts, size_t counts_length,
                        uint16_t *station_hops, size_t station_hops_length,
@@ -154,17 +163,18 @@ uint32_t joftaki_row(const uint64_t *table, size_t table_length, size_t n, size_
 uint32_t joftaki_row_number(const uint64_t *table, size_t table_length, size_t n, size_t t, size_t v);
 
 /*
- * Operation 4, pair s, z: in *hops the legs of the least ways from s to z, in *count their number, and in through at place v
- * how many of them have v inside: visited, and neither s nor z. Where there is no way: 65535, 0 and all 0.
+ * Operation 4, pair s, z: in *hops the legs of the least chains from s to z, in *count their number, and in through at place v
+ * how many of them have v inside: visited, once or more often, and neither s nor z. Where there is no way: 65535, 0 and all 0.
  *
  * Lend: through n entries, work JOFTAKI_WORK_LENGTH(n, t) entries.
- * Gives 0, or the first of 1, 2, 3, 4, 5, 12, 6, 7, 8, 9. 9 sets the named parts of through and work to 0.
- * Proved: the number, both slots, and every entry of through and work at exit. That the n entries of through add up to
- * count times (hops - 1) is a theorem (crates/demands/specs/Account.antt); the sum can be above 2^64 - 1.
+ * Gives 0, or the first of 1, 2, 3, 4, 5, 12, 14, 6, 7, 8, 9. 9 sets the named parts of through and work to 0.
+ * Proved: the number, both slots, and every entry of through and work at exit. That where t <= h + 1 the n entries of through add
+ * up to count times (hops - 1) is a theorem (crates/demands/specs/Account.antt); the sum can be above 2^64 - 1. Where t is larger
+ * it may be less than that.
  * Not covered: each pointer is valid for its length, aligned and not null, also where its length is 0; hops and count are
  * valid, aligned and not null; the two slots, through, work and the plan do not overlap.
  */
-uint32_t joftaki_pair(const uint8_t *plan, size_t plan_length, size_t n, size_t t, size_t g, size_t s, size_t z,
+uint32_t joftaki_pair(const uint8_t *plan, size_t plan_length, size_t n, size_t t, size_t g, size_t h, size_t s, size_t z,
                       size_t *hops, uint64_t *count,
                       uint64_t *through, size_t through_length,
                       uint64_t *work, size_t work_length);
@@ -174,13 +184,14 @@ uint32_t joftaki_pair(const uint8_t *plan, size_t plan_length, size_t n, size_t 
  * reaches z, in *hops the fewest legs of the chains that reach z in that slot, in *count how many of them have so few, and in
  * through at place v how many of these have v inside: visited, and neither s nor z. They are ways: document 000's shortest
  * foremost paths (Definition 11). Chains that arrive later do not count, also where they have fewer legs. Where there is no
- * way: 65535, 65535, 0 and all 0.
+ * way: 65535, 65535, 0 and all 0. There is no h: stations keep every reading, and 14 is never given.
  *
  * Lend: as for pair: through n entries, work JOFTAKI_WORK_LENGTH(n, t) entries.
  * Gives 0, or the first of 1, 2, 3, 4, 5, 12, 6, 7, 8, 9. 9 looks at appearances alone, at every one of them, also in slots
  * after the arrival; what a station has over several slots is no cause. 9 sets the named parts of through and work to 0.
  * Proved: the number, the three slots, and every entry of through and work at exit. That the chains counted are ways, and that
- * no chain arrives earlier, are theorems (crates/demands/specs/Foremost.antt). The entries of through add up as pair's do.
+ * no chain arrives earlier, are theorems (crates/demands/specs/Foremost.antt). The entries of through add up to count times
+ * (hops - 1).
  * Not covered: each pointer is valid for its length, aligned and not null, also where its length is 0; arrival, hops and count
  * are valid, aligned and not null; the three slots, through, work and the plan do not overlap.
  */
@@ -190,35 +201,35 @@ uint32_t joftaki_foremost(const uint8_t *plan, size_t plan_length, size_t n, siz
                           uint64_t *work, size_t work_length);
 
 /*
- * Through a set (document 02, C-12): in *count how many of the least ways from s to z have at least one member of the set
- * inside. A way through two members counts once; s and z never count as inside, also where they are members. For a set of one
- * station it is its through count, for the empty set 0, and where there is no way 0. The set has a byte for each station, at
- * place v: 1 where v is a member, 0 where not. It is only read, and only its first n bytes are.
+ * Through a set (document 02, C-12): in *count how many of the least chains from s to z have at least one member of the set
+ * inside. A chain through two members, or twice through one, counts once; s and z never count as inside, also where they are
+ * members. For a set of one station it is its through count, for the empty set 0, and where there is no way 0. The set has a byte
+ * for each station, at place v: 1 where v is a member, 0 where not. It is only read, and only its first n bytes are.
  *
  * Lend: set n bytes, work JOFTAKI_WORK_LENGTH(n, t) entries.
- * Gives 0, or the first of 1, 2, 3, 4, 5, 12, 6, 7, 8, 11, 9. 9 sets the named part of work to 0.
+ * Gives 0, or the first of 1, 2, 3, 4, 5, 12, 14, 6, 7, 8, 11, 9. 9 sets the named part of work to 0.
  * Proved: the number, the slot, and every entry of work at exit. The cases of one station and of the empty set, and bounds by
  * the through counts, are theorems (crates/demands/specs/Sets.antt).
  * Not covered: each pointer is valid for its length, aligned and not null, also where its length is 0; count is valid,
  * aligned and not null; the slot, set, work and the plan do not overlap.
  */
-uint32_t joftaki_through_set(const uint8_t *plan, size_t plan_length, size_t n, size_t t, size_t g, size_t s, size_t z,
+uint32_t joftaki_through_set(const uint8_t *plan, size_t plan_length, size_t n, size_t t, size_t g, size_t h, size_t s, size_t z,
                              uint64_t *count,
                              const uint8_t *set, size_t set_length,
                              uint64_t *work, size_t work_length);
 
 /*
  * Operation 5, loads: for each station v, at place v, in pairs its pairs, the number of ordered pairs of two different
- * stations with v inside some least way, and in loads its load, the sum of the shares over its pairs. A share is the whole
+ * stations with v inside some least chain, and in loads its load, the sum of the shares over its pairs. A share is the whole
  * part of 2^32 * through / count; one unit is 1 / 2^32.
  *
  * Lend: pairs and loads n entries each, work JOFTAKI_WORK_LENGTH(n, t) entries.
- * Gives 0, or the first of 1, 2, 3, 4, 5, 12, 8, 9; every source is worked on. 9 sets the named parts of all three to 0.
+ * Gives 0, or the first of 1, 2, 3, 4, 5, 12, 14, 8, 9; every source is worked on. 9 sets the named parts of all three to 0.
  * Proved: the number and every entry of pairs, loads and work at exit.
  * Not covered: each pointer is valid for its length, aligned and not null, also where its length is 0; pairs, loads, work
  * and the plan do not overlap.
  */
-uint32_t joftaki_loads(const uint8_t *plan, size_t plan_length, size_t n, size_t t, size_t g,
+uint32_t joftaki_loads(const uint8_t *plan, size_t plan_length, size_t n, size_t t, size_t g, size_t h,
                        uint64_t *pairs, size_t pairs_length,
                        uint64_t *loads, size_t loads_length,
                        uint64_t *work, size_t work_length);
@@ -233,7 +244,7 @@ uint32_t joftaki_loads(const uint8_t *plan, size_t plan_length, size_t n, size_t
  * figure of every load with its span after the first call:
  *
  *     for (k = 1; k <= n; k++) {
- *         number = joftaki_partial_loads(plan, plan_length, n, t, g, k, pairs, n, loads, n, work, work_length);
+ *         number = joftaki_partial_loads(plan, plan_length, n, t, g, h, k, pairs, n, loads, n, work, work_length);
  *         if (number != JOFTAKI_ACCEPTED)
  *             break;
  *         more = (uint64_t)(n - k) * (n - 1) << 32;
@@ -246,14 +257,14 @@ uint32_t joftaki_loads(const uint8_t *plan, size_t plan_length, size_t n, size_t
  * its k.
  *
  * Lend: as for loads: pairs and loads n entries each, work JOFTAKI_WORK_LENGTH(n, t) entries.
- * Gives 0, or the first of 1, 2, 3, 4, 5, 12, 13, 8, 9. 9 looks at the sources below k alone: with k = 0 it never comes, and
+ * Gives 0, or the first of 1, 2, 3, 4, 5, 12, 14, 13, 8, 9. 9 looks at the sources below k alone: with k = 0 it never comes, and
  * where it comes for one k, it comes for every larger k up to n and for loads. 9 sets the named parts of all three to 0.
  * Proved: the number and every entry of pairs, loads and work at exit. The spans, and that k = n gives the loads, are theorems
  * (crates/demands/specs/Partial.antt).
  * Not covered: as for loads: each pointer is valid for its length, aligned and not null, also where its length is 0; pairs,
  * loads, work and the plan do not overlap.
  */
-uint32_t joftaki_partial_loads(const uint8_t *plan, size_t plan_length, size_t n, size_t t, size_t g, size_t k,
+uint32_t joftaki_partial_loads(const uint8_t *plan, size_t plan_length, size_t n, size_t t, size_t g, size_t h, size_t k,
                                uint64_t *pairs, size_t pairs_length,
                                uint64_t *loads, size_t loads_length,
                                uint64_t *work, size_t work_length);
@@ -263,66 +274,67 @@ uint32_t joftaki_partial_loads(const uint8_t *plan, size_t plan_length, size_t n
  * Where all loads are 0 that is station 0.
  *
  * Lend: work JOFTAKI_WORK_LENGTH(n, t) entries.
- * Gives 0, or the first of 1, 2, 3, 4, 5, 12, 8, 9; every source is worked on. 9 sets the named part of work to 0.
+ * Gives 0, or the first of 1, 2, 3, 4, 5, 12, 14, 8, 9; every source is worked on. 9 sets the named part of work to 0.
  * Proved: the number, the slot, and every entry of work at exit. No load exceeds the load of the station given, and every
  * lower-numbered station's is smaller (crates/temporal/proofs/BusiestLaws.antt).
  * Not covered: each pointer is valid for its length, aligned and not null, also where its length is 0; station is valid,
  * aligned and not null; the slot, work and the plan do not overlap.
  */
-uint32_t joftaki_busiest(const uint8_t *plan, size_t plan_length, size_t n, size_t t, size_t g,
+uint32_t joftaki_busiest(const uint8_t *plan, size_t plan_length, size_t n, size_t t, size_t g, size_t h,
                          size_t *station,
                          uint64_t *work, size_t work_length);
 
 /*
- * Operation 7, first way of s, z: in *hops its legs, and in as many first entries of way its positions. The least ways of a
- * pair are ordered by their positions, compared from the first leg.
+ * Operation 7, first way of s, z: the first of the least chains from s to z; in *hops its legs, and in as many first entries of
+ * way its positions. The least chains of a pair are ordered by their positions, compared from the first leg.
  *
  * Lend: way t entries, even if the pair has fewer legs or no way; work JOFTAKI_WORK_LENGTH(n, t) entries.
  * Gives 0; JOFTAKI_NONE where the pair has no way, which leaves the whole way buffer as it was; or the first of 1, 2, 3, 4,
- * 5, 12, 6, 7, 8, 9. Entries of way behind the legs are never touched.
+ * 5, 12, 14, 6, 7, 8, 9. Entries of way behind the legs are never touched.
  * Proved: the number, the slot, and every entry of way and work at exit. For a listing as a whole, any list of calls of
  * first way and next way on one buffer, document 01's demand 3 is proved (crates/trace, crates/demands/proofs/Demand3.antt).
  * Not covered: each pointer is valid for its length, aligned and not null, also where its length is 0; hops is valid,
  * aligned and not null; the slot, way, work and the plan do not overlap.
  */
-uint32_t joftaki_first_way(const uint8_t *plan, size_t plan_length, size_t n, size_t t, size_t g, size_t s, size_t z,
+uint32_t joftaki_first_way(const uint8_t *plan, size_t plan_length, size_t n, size_t t, size_t g, size_t h, size_t s, size_t z,
                            size_t *hops,
                            uint16_t *way, size_t way_length,
                            uint64_t *work, size_t work_length);
 
 /*
- * Operation 8, next way after the one with which way begins: answered as first way. As many first entries of way are read
- * as the pair has legs, and none is trusted.
+ * Operation 8, next way: the least chain after the one with which way begins, answered as first way. As many first entries of
+ * way are read as the least chains have legs, and none is trusted.
  *
  * Lend: as for first way.
- * Gives 0; JOFTAKI_LAST where way begins with the pair's last way, which leaves the whole way buffer as it was; or the
- * first of 1, 2, 3, 4, 5, 12, 6, 7, 8, 9, 10. 10: way begins with no least way of the pair, or it has none.
+ * Gives 0; JOFTAKI_LAST where way begins with the pair's last least chain, which leaves the whole way buffer as it was; or the
+ * first of 1, 2, 3, 4, 5, 12, 14, 6, 7, 8, 9, 10. 10: way begins with no least chain of the pair, or it has none.
  * Proved: as for first way.
  * Not covered: as for first way: each pointer is valid for its length, aligned and not null, also where its length is 0;
  * hops is valid, aligned and not null; the slot, way, work and the plan do not overlap.
  */
-uint32_t joftaki_next_way(const uint8_t *plan, size_t plan_length, size_t n, size_t t, size_t g, size_t s, size_t z,
+uint32_t joftaki_next_way(const uint8_t *plan, size_t plan_length, size_t n, size_t t, size_t g, size_t h, size_t s, size_t z,
                           size_t *hops,
                           uint16_t *way, size_t way_length,
                           uint64_t *work, size_t work_length);
 
 /*
  * The verdict on a list of positions that somebody else wrote for the pair s, z (document 02, C-19), in *verdict. The list is
- * held against the least ways of the pair in their order, the positions of one behind those of the one before:
- * JOFTAKI_COMPLETE where it is exactly these; JOFTAKI_BEGINNING where it is the first few whole ways, fewer than all, possibly
- * none; JOFTAKI_WRONG where it is neither, as a list cut inside a way, with a way missing or twice, in another order, or with
- * anything behind the last way. Where the pair has no way the empty list is complete, and every other list is wrong. An entry
+ * held against the least chains of the pair in their order, the positions of one behind those of the one before:
+ * JOFTAKI_COMPLETE where it is exactly these; JOFTAKI_BEGINNING where it is the first few whole ones, fewer than all, possibly
+ * none; JOFTAKI_WRONG where it is neither, as a list cut inside a chain, with one missing or twice, in another order, or with
+ * anything behind the last one. Where the pair has no way the empty list is complete, and every other list is wrong. An entry
  * that is no position makes the list wrong.
  *
  * Lend: list any length, also 0 entries (the pointer is not null), only read; work JOFTAKI_WORK_LENGTH(n, t) entries.
- * Gives 0, or the first of 1, 2, 3, 4, 5, 12, 6, 7, 8, 9. 8 is for work alone: no list is too short. 9 sets the named part of
+ * Gives 0, or the first of 1, 2, 3, 4, 5, 12, 14, 6, 7, 8, 9. 8 is for work alone: no list is too short. 9 sets the named part of
  * work to 0.
  * Proved: the number, the slot, and every entry of work at exit. That what a listing gives from one accepted first way until
- * just before the next is complete where all ways are out, and a beginning otherwise, is a theorem (crates/demands/specs/Verdicts.antt).
+ * just before the next is complete where all least chains are out, and a beginning otherwise, is a theorem
+ * (crates/demands/specs/Verdicts.antt).
  * Not covered: each pointer is valid for its length, aligned and not null, also where its length is 0; verdict is valid,
  * aligned and not null; the slot, list, work and the plan do not overlap.
  */
-uint32_t joftaki_verdict(const uint8_t *plan, size_t plan_length, size_t n, size_t t, size_t g, size_t s, size_t z,
+uint32_t joftaki_verdict(const uint8_t *plan, size_t plan_length, size_t n, size_t t, size_t g, size_t h, size_t s, size_t z,
                          uint32_t *verdict,
                          const uint16_t *list, size_t list_length,
                          uint64_t *work, size_t work_length);

@@ -1,7 +1,8 @@
 /*
  * The stack that each function of the C interface takes, measured: the function runs on a stack of its own that was filled
  * with a mark, and the bytes that lost it are counted from the call on. The plan is a line: 256 stations, 255 slots, in slot
- * i stations i - 1 and i hear each other. Its one way from 0 to 255 has 255 legs, the most there can be.
+ * i station i - 1 sends and station i hears. Its one way from 0 to 255 has 255 legs, the most there can be, and is a least chain
+ * for every h. Each function runs where every reading is kept and where it is dropped after one slot; the larger stack is printed.
  */
 #define _XOPEN_SOURCE 600
 #include <inttypes.h>
@@ -21,19 +22,20 @@
 static uint8_t plan[T * JOFTAKI_RECORD_BYTES], set[N];
 static uint16_t hops_table[TABLE], near_hops[N], way[T], list[T];
 static uint64_t counts[TABLE], near_counts[N], through[N], pairs[N], loads[N], work[WORK], count;
-static size_t offset, length, arrival, hops, station;
+static size_t keeping, offset, length, arrival, hops, station;
 static uint32_t verdict;
 
 static uint32_t run_check(void) { return joftaki_check(plan, sizeof plan, N, T); }
 static uint32_t run_reach(void)
 {
-    return joftaki_reach(plan, sizeof plan, N, T, 1, 0, hops_table, TABLE, counts, TABLE, near_hops, N, near_counts, N);
+    return joftaki_reach(plan, sizeof plan, N, T, 1, keeping, 0, hops_table, TABLE, counts, TABLE, near_hops, N,
+                         near_counts, N);
 }
 static uint32_t run_row(void) { return joftaki_row(counts, TABLE, N, T, 255, &offset, &length); }
 static uint32_t run_row_number(void) { return joftaki_row_number(counts, TABLE, N, T, 255); }
 static uint32_t run_pair(void)
 {
-    return joftaki_pair(plan, sizeof plan, N, T, 1, 0, 255, &hops, &count, through, N, work, WORK);
+    return joftaki_pair(plan, sizeof plan, N, T, 1, keeping, 0, 255, &hops, &count, through, N, work, WORK);
 }
 static uint32_t run_foremost(void)
 {
@@ -41,25 +43,31 @@ static uint32_t run_foremost(void)
 }
 static uint32_t run_through_set(void)
 {
-    return joftaki_through_set(plan, sizeof plan, N, T, 1, 0, 255, &count, set, N, work, WORK);
+    return joftaki_through_set(plan, sizeof plan, N, T, 1, keeping, 0, 255, &count, set, N, work, WORK);
 }
-static uint32_t run_loads(void) { return joftaki_loads(plan, sizeof plan, N, T, 1, pairs, N, loads, N, work, WORK); }
+static uint32_t run_loads(void)
+{
+    return joftaki_loads(plan, sizeof plan, N, T, 1, keeping, pairs, N, loads, N, work, WORK);
+}
 static uint32_t run_partial_loads(void)
 {
-    return joftaki_partial_loads(plan, sizeof plan, N, T, 1, N, pairs, N, loads, N, work, WORK);
+    return joftaki_partial_loads(plan, sizeof plan, N, T, 1, keeping, N, pairs, N, loads, N, work, WORK);
 }
-static uint32_t run_busiest(void) { return joftaki_busiest(plan, sizeof plan, N, T, 1, &station, work, WORK); }
+static uint32_t run_busiest(void)
+{
+    return joftaki_busiest(plan, sizeof plan, N, T, 1, keeping, &station, work, WORK);
+}
 static uint32_t run_first_way(void)
 {
-    return joftaki_first_way(plan, sizeof plan, N, T, 1, 0, 255, &hops, way, T, work, WORK);
+    return joftaki_first_way(plan, sizeof plan, N, T, 1, keeping, 0, 255, &hops, way, T, work, WORK);
 }
 static uint32_t run_next_way(void)
 {
-    return joftaki_next_way(plan, sizeof plan, N, T, 1, 0, 255, &hops, way, T, work, WORK);
+    return joftaki_next_way(plan, sizeof plan, N, T, 1, keeping, 0, 255, &hops, way, T, work, WORK);
 }
 static uint32_t run_verdict(void)
 {
-    return joftaki_verdict(plan, sizeof plan, N, T, 1, 0, 255, &verdict, list, T, work, WORK);
+    return joftaki_verdict(plan, sizeof plan, N, T, 1, keeping, 0, 255, &verdict, list, T, work, WORK);
 }
 
 static const struct {
@@ -90,6 +98,23 @@ static void call(void)
     answer = chosen();
 }
 
+/* The bytes of stack that the chosen call takes with an h. */
+static long taken(size_t h)
+{
+    unsigned char *lowest = stack;
+    keeping = h;
+    memset(stack, MARK, sizeof stack);
+    getcontext(&there);
+    there.uc_stack.ss_sp = stack;
+    there.uc_stack.ss_size = sizeof stack;
+    there.uc_link = &here;
+    makecontext(&there, call, 0);
+    swapcontext(&here, &there);
+    while (*lowest == MARK)
+        lowest++;
+    return (long)(top - lowest);
+}
+
 int main(void)
 {
     size_t i;
@@ -101,22 +126,20 @@ int main(void)
         list[i] = (uint16_t)i;
     }
     for (i = 0; i < sizeof calls / sizeof calls[0]; i++) {
-        unsigned char *lowest = stack;
-        memset(stack, MARK, sizeof stack);
+        static const size_t keepings[] = {JOFTAKI_MOST_KEEPING, 1};
+        long most = 0;
+        size_t k;
         chosen = calls[i].run;
-        getcontext(&there);
-        there.uc_stack.ss_sp = stack;
-        there.uc_stack.ss_size = sizeof stack;
-        there.uc_link = &here;
-        makecontext(&there, call, 0);
-        swapcontext(&here, &there);
-        while (*lowest == MARK)
-            lowest++;
-        if (answer != calls[i].expected) {
-            printf("%s gives %" PRIu32 "\n", calls[i].name, answer);
-            return 1;
+        for (k = 0; k < sizeof keepings / sizeof keepings[0]; k++) {
+            long bytes = taken(keepings[k]);
+            if (answer != calls[i].expected) {
+                printf("%s gives %" PRIu32 " with h %zu\n", calls[i].name, answer, keepings[k]);
+                return 1;
+            }
+            if (bytes > most)
+                most = bytes;
         }
-        printf("%s %ld\n", calls[i].name, (long)(top - lowest));
+        printf("%s %ld\n", calls[i].name, most);
     }
     return 0;
 }

@@ -1,8 +1,8 @@
 // Operations 4, 5 and 6, pair, loads and busiest, on cases from standard input.
 //
-// A case is a head of 30 bytes, a label and a plan. The head's first nine numbers have 16 bits, high byte first: the
-// kind (0 pair, 1 loads, 2 busiest), n, T, g, the source, the destination, the length of the plan, the length of the label,
-// a mark. Three numbers of 32 bits follow: the lent entries of the first table (through counts or pairs), of the second
+// A case is a head of 32 bytes, a label and a plan. The head's first ten numbers have 16 bits, high byte first: the
+// kind (0 pair, 1 loads, 2 busiest), n, T, g, h, the source, the destination, the length of the plan, the length of the
+// label, a mark. Three numbers of 32 bits follow: the lent entries of the first table (through counts or pairs), of the second
 // (loads) and of the work area. All of them hold the mark before the call.
 //
 // For each case a line: the label, a colon, a space and the number of the answer, then what was lent, each behind " |":
@@ -52,7 +52,7 @@ fn write_busiest(answer: BusiestAnswer) {
 
 // Fills a table or the work area with the mark.
 fn mark(head: &[u8], table: &mut [u64]) {
-    cases::mark64(table, cases::word(head, 16) as u64);
+    cases::mark64(table, cases::word(head, 18) as u64);
 }
 
 // Calls pair on the lent parts, and writes its answer.
@@ -62,9 +62,10 @@ fn run_pair(head: &[u8], plan: &[u8], through: &mut [u64], work: &mut [u64]) {
     let n = cases::word(head, 2);
     let t = cases::word(head, 4);
     let g = cases::word(head, 6);
-    let s = cases::word(head, 8);
-    let z = cases::word(head, 10);
-    write_pair(pair::pair(plan, n, t, g, s, z, through, work));
+    let h = cases::word(head, 8);
+    let s = cases::word(head, 10);
+    let z = cases::word(head, 12);
+    write_pair(pair::pair(plan, n, t, g, h, s, z, through, work));
     cases::write64(through);
     cases::write64(work);
 }
@@ -77,7 +78,8 @@ fn run_loads(head: &[u8], plan: &[u8], pairs: &mut [u64], loads: &mut [u64], wor
     let n = cases::word(head, 2);
     let t = cases::word(head, 4);
     let g = cases::word(head, 6);
-    write_loads(loads::loads(plan, n, t, g, pairs, loads, work));
+    let h = cases::word(head, 8);
+    write_loads(loads::loads(plan, n, t, g, h, pairs, loads, work));
     cases::write64(pairs);
     cases::write64(loads);
     cases::write64(work);
@@ -89,15 +91,16 @@ fn run_busiest(head: &[u8], plan: &[u8], work: &mut [u64]) {
     let n = cases::word(head, 2);
     let t = cases::word(head, 4);
     let g = cases::word(head, 6);
-    write_busiest(loads::busiest(plan, n, t, g, work));
+    let h = cases::word(head, 8);
+    write_busiest(loads::busiest(plan, n, t, g, h, work));
     cases::write64(work);
 }
 
 // Lends what the head names, and runs the case.
 fn run_named(head: &[u8], plan: &[u8], first: &mut [u64], second: &mut [u64], work: &mut [u64]) {
-    let a = cases::lent(head, 18, first.len());
-    let b = cases::lent(head, 22, second.len());
-    let c = cases::lent(head, 26, work.len());
+    let a = cases::lent(head, 20, first.len());
+    let b = cases::lent(head, 24, second.len());
+    let c = cases::lent(head, 28, work.len());
     let kind = cases::word(head, 0);
     if kind == 0 {
         run_pair(head, plan, &mut first[..a], &mut work[..c]);
@@ -123,19 +126,19 @@ fn run_case(
     second: &mut [u64],
     work: &mut [u64],
 ) -> bool {
-    if !cases::read_case(head, label, plan, 14, 12) {
+    if !cases::read_case(head, label, plan, 16, 14) {
         return false;
     }
-    cases::write_part(label, cases::word(head, 14));
+    cases::write_part(label, cases::word(head, 16));
     cases::write_part(b":", 1);
-    let size = cases::least(cases::word(head, 12), plan.len());
+    let size = cases::least(cases::word(head, 14), plan.len());
     run_named(head, &plan[..size], first, second, work);
     cases::end_line();
     true
 }
 
 fn main() {
-    let mut head = [0u8; 30];
+    let mut head = [0u8; 32];
     let mut label = [0u8; 64];
     let mut plan = [0u8; 49200];
     let mut first = [0u64; 320];

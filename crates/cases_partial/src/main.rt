@@ -1,6 +1,6 @@
 // Document 02's operation over the sources below a number, partial loads, on cases from standard input.
 //
-// A case is a head of 32 bytes, a label and a plan. The head's numbers stand high byte first: n, T and g in 16 bits each, k in
+// A case is a head of 34 bytes, a label and a plan. The head's numbers stand high byte first: n, T, g and h in 16 bits each, k in
 // 64 bits, the length of the plan, the length of the label and a mark in 16 bits each, then in 32 bits each the lent entries of
 // the table of pairs, of the table of loads and of the work area. All of them hold the mark before the call.
 //
@@ -18,22 +18,34 @@ fn write_answer(answer: LoadsAnswer) {
 
 // The number of sources.
 fn sources(head: &[u8]) -> usize {
-    let high = cases::word(head, 6) * 65536 + cases::word(head, 8);
-    let low = cases::word(head, 10) * 65536 + cases::word(head, 12);
+    let high = cases::word(head, 8) * 65536 + cases::word(head, 10);
+    let low = cases::word(head, 12) * 65536 + cases::word(head, 14);
     high * 4294967296 + low
 }
 
-// Calls the operation on the lent parts, and writes its answer.
-fn run_partial(head: &[u8], plan: &[u8], pairs: &mut [u64], sums: &mut [u64], work: &mut [u64]) {
-    let mark = cases::word(head, 18) as u64;
-    cases::mark64(pairs, mark);
-    cases::mark64(sums, mark);
-    cases::mark64(work, mark);
+// Calls the operation with the numbers of the head on the lent parts.
+fn call(
+    head: &[u8],
+    plan: &[u8],
+    pairs: &mut [u64],
+    sums: &mut [u64],
+    work: &mut [u64],
+) -> LoadsAnswer {
     let n = cases::word(head, 0);
     let t = cases::word(head, 2);
     let g = cases::word(head, 4);
+    let h = cases::word(head, 6);
     let k = sources(head);
-    write_answer(loads::partial_loads(plan, n, t, g, k, pairs, sums, work));
+    loads::partial_loads(plan, n, t, g, h, k, pairs, sums, work)
+}
+
+// Makes the call on the lent parts, which hold the mark before it, and writes its answer.
+fn run_partial(head: &[u8], plan: &[u8], pairs: &mut [u64], sums: &mut [u64], work: &mut [u64]) {
+    let mark = cases::word(head, 20) as u64;
+    cases::mark64(pairs, mark);
+    cases::mark64(sums, mark);
+    cases::mark64(work, mark);
+    write_answer(call(head, plan, pairs, sums, work));
     cases::write64(pairs);
     cases::write64(sums);
     cases::write64(work);
@@ -41,10 +53,10 @@ fn run_partial(head: &[u8], plan: &[u8], pairs: &mut [u64], sums: &mut [u64], wo
 
 // Lends what the head names, and runs the case.
 fn run_named(head: &[u8], plan: &[u8], pairs: &mut [u64], sums: &mut [u64], work: &mut [u64]) {
-    let size = cases::least(cases::word(head, 14), plan.len());
-    let a = cases::lent(head, 20, pairs.len());
-    let b = cases::lent(head, 24, sums.len());
-    let c = cases::lent(head, 28, work.len());
+    let size = cases::least(cases::word(head, 16), plan.len());
+    let a = cases::lent(head, 22, pairs.len());
+    let b = cases::lent(head, 26, sums.len());
+    let c = cases::lent(head, 30, work.len());
     run_partial(
         head,
         &plan[..size],
@@ -63,10 +75,10 @@ fn run_case(
     sums: &mut [u64],
     work: &mut [u64],
 ) -> bool {
-    if !cases::read_case(head, label, plan, 16, 14) {
+    if !cases::read_case(head, label, plan, 18, 16) {
         return false;
     }
-    cases::write_part(label, cases::word(head, 16));
+    cases::write_part(label, cases::word(head, 18));
     cases::write_part(b":", 1);
     run_named(head, plan, pairs, sums, work);
     cases::end_line();
@@ -74,7 +86,7 @@ fn run_case(
 }
 
 fn main() {
-    let mut head = [0u8; 32];
+    let mut head = [0u8; 34];
     let mut label = [0u8; 64];
     let mut plan = [0u8; 49200];
     let mut pairs = [0u64; 320];

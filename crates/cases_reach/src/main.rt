@@ -1,9 +1,9 @@
 // Operations 2 and 3, reach and row, on cases from standard input.
 //
-// A case is a head of 32 bytes, a label and a plan. The head's first eight numbers have 16 bits, high byte first: the
-// kind (0 reach, 1 row), n, T, g, the source or the station, the length of the plan, the length of the label, a mark.
+// A case is a head of 34 bytes, a label and a plan. The head's first nine numbers have 16 bits, high byte first: the
+// kind (0 reach, 1 row), n, T, g, h, the source or the station, the length of the plan, the length of the label, a mark.
 // Four numbers of 32 bits follow: the lent entries of reach's tables of hops and counts, of the appearances and then of
-// the stations; row's table has the second, and row takes no g.
+// the stations; row's table has the second, and row takes neither g nor h.
 //
 // For each case a line: the label, a colon, a space and the number of the answer. Reach's tables hold the mark before
 // the call; behind the number stand their lent entries after it, each table behind " |". A run of one value is written
@@ -78,7 +78,7 @@ fn mark_tables(
     station_hops: &mut [u16],
     station_counts: &mut [u64],
 ) {
-    let mark = cases::word(head, 14);
+    let mark = cases::word(head, 16);
     mark16(hops, mark as u16);
     cases::mark64(counts, mark as u64);
     mark16(station_hops, mark as u16);
@@ -97,12 +97,14 @@ fn call_reach(
     let n = cases::word(head, 2);
     let t = cases::word(head, 4);
     let g = cases::word(head, 6);
-    let source = cases::word(head, 8);
+    let h = cases::word(head, 8);
+    let source = cases::word(head, 10);
     reach::reach(
         plan,
         n,
         t,
         g,
+        h,
         source,
         hops,
         counts,
@@ -134,7 +136,7 @@ fn run_row(head: &[u8], table: &mut [u64]) {
     number_entries(table);
     let n = cases::word(head, 2);
     let t = cases::word(head, 4);
-    let station = cases::word(head, 8);
+    let station = cases::word(head, 10);
     cases::write_number(rows::row_number(table, n, t, station) as u64);
     let part = rows::row(table, n, t, station);
     cases::write_number(part.len() as u64);
@@ -150,10 +152,10 @@ fn run_named(
     station_hops: &mut [u16],
     station_counts: &mut [u64],
 ) {
-    let a = cases::lent(head, 16, hops.len());
-    let b = cases::lent(head, 20, counts.len());
-    let c = cases::lent(head, 24, station_hops.len());
-    let d = cases::lent(head, 28, station_counts.len());
+    let a = cases::lent(head, 18, hops.len());
+    let b = cases::lent(head, 22, counts.len());
+    let c = cases::lent(head, 26, station_hops.len());
+    let d = cases::lent(head, 30, station_counts.len());
     if cases::word(head, 0) == 0 {
         run_reach(
             head,
@@ -178,12 +180,12 @@ fn run_case(
     station_hops: &mut [u16],
     station_counts: &mut [u64],
 ) -> bool {
-    if !cases::read_case(head, label, plan, 12, 10) {
+    if !cases::read_case(head, label, plan, 14, 12) {
         return false;
     }
-    cases::write_part(label, cases::word(head, 12));
+    cases::write_part(label, cases::word(head, 14));
     cases::write_part(b":", 1);
-    let size = cases::least(cases::word(head, 10), plan.len());
+    let size = cases::least(cases::word(head, 12), plan.len());
     run_named(
         head,
         &plan[..size],
@@ -197,7 +199,7 @@ fn run_case(
 }
 
 fn main() {
-    let mut head = [0u8; 32];
+    let mut head = [0u8; 34];
     let mut label = [0u8; 64];
     let mut plan = [0u8; 49200];
     let mut hops = [0u16; 65600];

@@ -1,7 +1,7 @@
 // Document 02's verdict on a list of positions, on cases from standard input.
 //
-// A case is a head of 20 bytes, a label, a plan and a list. The head's first eight numbers have 16 bits, high byte first: n, T,
-// g, the source, the destination, the length of the plan, the length of the label, a mark. A number of 32 bits follows: the
+// A case is a head of 22 bytes, a label, a plan and a list. The head's first nine numbers have 16 bits, high byte first: n, T,
+// g, h, the source, the destination, the length of the plan, the length of the label, a mark. A number of 32 bits follows: the
 // lent entries of the work area, which all hold the mark before the call. The list is the number of its entries and these, in
 // 16 bits each.
 //
@@ -41,21 +41,22 @@ fn write_answer(answer: VerdictAnswer) {
 
 // Calls the operation on the lent parts, and writes its answer.
 fn run_verdict(head: &[u8], plan: &[u8], list: &[u16], work: &mut [u64]) {
-    cases::mark64(work, cases::word(head, 14) as u64);
+    cases::mark64(work, cases::word(head, 16) as u64);
     let n = cases::word(head, 0);
     let t = cases::word(head, 2);
     let g = cases::word(head, 4);
-    let s = cases::word(head, 6);
-    let z = cases::word(head, 8);
-    write_answer(verdicts::verdict(plan, n, t, g, s, z, list, work));
+    let h = cases::word(head, 6);
+    let s = cases::word(head, 8);
+    let z = cases::word(head, 10);
+    write_answer(verdicts::verdict(plan, n, t, g, h, s, z, list, work));
     cases::write64(work);
 }
 
 // Lends what the head names and the first k entries of the list, and runs the case.
 fn run_named(head: &[u8], plan: &[u8], list: &[u16], k: usize, work: &mut [u64]) {
-    let size = cases::least(cases::word(head, 10), plan.len());
+    let size = cases::least(cases::word(head, 12), plan.len());
     let entries = cases::least(k, list.len());
-    let area = cases::lent(head, 16, work.len());
+    let area = cases::lent(head, 18, work.len());
     run_verdict(head, &plan[..size], &list[..entries], &mut work[..area]);
 }
 
@@ -68,7 +69,7 @@ fn run_case(
     list: &mut [u16],
     work: &mut [u64],
 ) -> bool {
-    if !cases::read_case(head, label, plan, 12, 10) {
+    if !cases::read_case(head, label, plan, 14, 12) {
         return false;
     }
     if !cases::read_part(entries, 2) {
@@ -79,7 +80,7 @@ fn run_case(
         return false;
     }
     fill(list, entries);
-    cases::write_part(label, cases::word(head, 12));
+    cases::write_part(label, cases::word(head, 14));
     cases::write_part(b":", 1);
     run_named(head, plan, list, k, work);
     cases::end_line();
@@ -87,7 +88,7 @@ fn run_case(
 }
 
 fn main() {
-    let mut head = [0u8; 20];
+    let mut head = [0u8; 22];
     let mut label = [0u8; 80];
     let mut plan = [0u8; 49200];
     let mut entries = [0u8; 131070];

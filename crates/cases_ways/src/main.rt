@@ -2,9 +2,9 @@
 //
 // A case is a trace: a head of 10 bytes, a label, bytes of plans, the entries of the way buffer before the first step, and
 // the steps. All numbers have 16 bits, high byte first, unless said. The head: the length of the label, the number of bytes
-// of plans, the entries of the way buffer, the number of steps, a mark. A step has 22 bytes: the kind (0 first way, 1 next
-// way, 2 the caller writes), n, T, g, source, destination, the first byte of the plan, its length, the lent entries of the
-// way buffer; then in 32 bits the lent entries of the work area. A write has its entry at n and its value at T.
+// of plans, the entries of the way buffer, the number of steps, a mark. A step has 24 bytes: the kind (0 first way, 1 next
+// way, 2 the caller writes), n, T, g, h, source, destination, the first byte of the plan, its length, the lent entries of
+// the way buffer; then in 32 bits the lent entries of the work area. A write has its entry at n and its value at T.
 //
 // For each case a line with the label, then for each call a line: "path" and the hops, "none", "last", or "refused" and the
 // number; behind " |" all entries of the trace's way buffer; behind " |" the runs of the lent work area but those of 0. The
@@ -55,19 +55,20 @@ fn call(step: &[u8], plan: &[u8], way: &mut [u16], work: &mut [u64]) -> WayAnswe
     let n = cases::word(step, 2);
     let t = cases::word(step, 4);
     let g = cases::word(step, 6);
-    let source = cases::word(step, 8);
-    let destination = cases::word(step, 10);
+    let h = cases::word(step, 8);
+    let source = cases::word(step, 10);
+    let destination = cases::word(step, 12);
     if cases::word(step, 0) == 0 {
-        return listing::first_way(plan, n, t, g, source, destination, way, work);
+        return listing::first_way(plan, n, t, g, h, source, destination, way, work);
     }
-    listing::next_way(plan, n, t, g, source, destination, way, work)
+    listing::next_way(plan, n, t, g, h, source, destination, way, work)
 }
 
 // Makes the call of a step on the lent work area, and writes its line.
 fn run_call(step: &[u8], mark: u64, plans: &[u8], way: &mut [u16], work: &mut [u64]) {
-    let from = cases::least(cases::word(step, 12), plans.len());
-    let end = from + cases::least(cases::word(step, 14), plans.len() - from);
-    let size = cases::least(cases::word(step, 16), way.len());
+    let from = cases::least(cases::word(step, 14), plans.len());
+    let end = from + cases::least(cases::word(step, 16), plans.len() - from);
+    let size = cases::least(cases::word(step, 18), way.len());
     cases::mark64(work, mark);
     let answer = call(step, &plans[from..end], &mut way[..size], work);
     write_answer(answer);
@@ -89,7 +90,7 @@ fn run_step(step: &[u8], mark: u64, plans: &[u8], way: &mut [u16], work: &mut [u
     if cases::word(step, 0) == 2 {
         store(step, way);
     } else {
-        let area = cases::lent(step, 18, work.len());
+        let area = cases::lent(step, 20, work.len());
         run_call(step, mark, plans, way, &mut work[..area]);
     }
 }
@@ -106,7 +107,7 @@ fn run_steps(
     fill(way, entries);
     let mark = cases::word(head, 8) as u64;
     let mut left = cases::word(head, 6);
-    while 0 < left && cases::read_part(step, 22) {
+    while 0 < left && cases::read_part(step, 24) {
         run_step(step, mark, plans, way, work);
         left -= 1;
     }
@@ -165,7 +166,7 @@ fn main() {
     let mut label = [0u8; 64];
     let mut plans = [0u8; 49200];
     let mut entries = [0u8; 600];
-    let mut step = [0u8; 22];
+    let mut step = [0u8; 24];
     let mut way = [0u16; 300];
     let mut work = [0u64; 262200];
     let mut left = cases::MOST;

@@ -124,7 +124,7 @@ module _ {A : Type 0} (k : ℕ) (t c : A → ℕ) (l : List A) (some : (x : A) �
             rounded-below k (t x) (c x) d (h .0) (some x m) (h .1) (product-positive c l some)),
       )
 
--- the shortest paths of a pair that have v inside are no more than all
+-- the shortest walks of a pair that have v inside are no more than all
 pub through-less : (p : Plan) (v : ℕ) (e : Ends) → throughOf p v e ≤ countOf p e
 unfolding through
 through-less p v e =
@@ -143,7 +143,7 @@ length-endsBelow k n =
     length-flatMap _ n (λ s. length-map (below n) _ ∙ length-below n) (below k) ∙ ap (λ j. j * n) (length-below k)
 
 module _ (p : Plan) (k v : ℕ) where
-  -- a pair of v has paths through v
+  -- a pair of v has walks through v
   pub pair-through : (e : Ends) → List·Memᴰ e (pairsBelow p k v) → 0 < throughOf p v e
   unfolding pairsBelow
   pair-through e m =
@@ -151,7 +151,7 @@ module _ (p : Plan) (k v : ℕ) where
       (and-eq-true-iff (not (eqb (e .source) (e .destination))) (ltb 0 (throughOf p v e)) .0
       (mem-select (isPairOf p v) (endsBelow k (p .stations)) .0 m .1) .1)
 
-  -- a pair of v has paths
+  -- a pair of v has walks
   pub pair-count : (e : Ends) → List·Memᴰ e (pairsBelow p k v) → 0 < countOf p e
   pair-count e m = omega (arith, pair-through e m, through-less p v e)
 

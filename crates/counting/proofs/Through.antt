@@ -222,7 +222,7 @@ module _ (bs : List ℕ) (n t : ℕ) (terms : Terms) (ok : planFault bs n t ≡ 
       touched-or-avoiding (planOf bs n t terms) (λ i c there. contact-within bs n t terms ok i c there .hearer-station) s z (arrivesBy z e)
       (slots-within bs n t terms ok) (walks-by-once s z e) m
 
--- ---- sets that touch the same paths
+-- ---- sets that touch the same walks
 
 -- the destination is never inside, member or not
 pub touched-others : (p : Plan) (s z : ℕ) (l : List (List ℕ)) (m : ℕ → Bool)

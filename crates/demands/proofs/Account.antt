@@ -14,7 +14,7 @@ use Rattle.temporal.proofs.PlanLaws.{kept-always}
 use Rattle.temporal.specs.Lists.{below, sum}
 use Rattle.temporal.specs.Shortest.{through}
 use Rattle.temporal.specs.Bytes.{planOf}
-use Rattle.temporal.specs.Cause.{first, planCauses, planFault, pairCauses}
+use Rattle.temporal.specs.Cause.{first, planCauses, planFault, termsCauses, endsCauses, pairCauses}
 use Rattle.temporal.specs.Outcome.{Outcome, over}
 use Rattle.temporal.specs.OutcomePair.{PairValues, PairBuffers, paired, pair}
 use Rattle.temporal.specs.OutcomeForemost.{ForemostValues, foremostThrough, foremostPaired, foremost}
@@ -35,10 +35,10 @@ first-entries f n old = ap sum (take-over (map f (below n)) old n (length-made f
 without-cause :
     (bs : List ℕ) (n t : ℕ) (terms : Terms) (s z : ℕ) (short : Bool) → first (planCauses bs n t ++ pairCauses terms n s z short) ≡ 0 →
     (planFault bs n t ≡ 0) × (s ≢ z)
-unfolding planFault pairCauses
+unfolding planFault pairCauses endsCauses
 without-cause bs n t terms s z short none =
-    let call = first-append-right (planCauses bs n t) _ none in
-    (first-append-left (planCauses bs n t) _ none, eqb-false s z (first-head 6 (eqb s z) _ (first-tail 5 _ _ (first-tail 11 _ _ call))))
+    let call = first-append-right (termsCauses terms) _ (first-append-right (planCauses bs n t) _ none) in
+    (first-append-left (planCauses bs n t) _ none, eqb-false s z (first-head 6 (eqb s z) _ (first-tail 5 _ _ call)))
 
 -- (kept) pair, of its contract's own equation where the number is 0
 pair-accounted :
@@ -52,7 +52,7 @@ pair-accounted bs n t terms s z old b x keeps e =
     rw (values, table)
     (first-entries (through (planOf bs n t terms) s z) n (old .throughTable) ∙ shortest-accounted bs n t terms ok keeps s z other)
 
--- (kept) the operation on shortest foremost paths, likewise
+-- the operation on shortest foremost paths, likewise; its units keep a reading until the plan ends
 foremost-paths-accounted :
     (bs : List ℕ) (n t g s z : ℕ) (old b : PairBuffers) (x : ForemostValues) →
     _≡_ {A = Outcome ForemostValues PairBuffers} (record { number = 0; values = x; buffers = b }) (foremost bs n t (turning g) s z old) →

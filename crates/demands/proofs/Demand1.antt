@@ -9,14 +9,15 @@ use mathlib.Core.Logic.{_↔_, _≢_}
 use mathlib.Core.Option.{none}
 use borrow.Author.Tests.{le-ltb}
 use lib.ListN.{length, take, drop, length-take, length-drop}
-use Rattle.temporal.specs.Plan.{Terms}
+use Rattle.temporal.specs.Plan.{Terms, turning}
 use Rattle.temporal.specs.Bytes.{planOf}
-use Rattle.temporal.specs.Cause.{cause, first, planFault, planCauses, wrongSources, appearanceTooMany, tooMany, tooManyBelow, tooManyAnywhere}
+use Rattle.temporal.specs.Cause.{cause, first, planFault, planCauses, termsCauses, pairCauses, wrongSources, appearanceTooMany, tooMany, tooManyBelow, tooManyAnywhere}
 use Rattle.temporal.specs.Outcome.{cleared, workSize, ReachTables, reached, reach, rowNumber, row}
 use Rattle.temporal.specs.OutcomePair.{PairBuffers, paired, pair, LoadBuffers, partlyLoaded, partialLoads, loads, compared, busiest}
 use Rattle.temporal.specs.OutcomeSet.{setCounted, throughSet}
 use Rattle.temporal.specs.OutcomeForemost.{foremostPaired, foremost}
 use Rattle.temporal.specs.OutcomeVerdict.{judged, verdict}
+use Rattle.temporal.proofs.NumberLaws.{none-has, cause-has, append-has, plan-has, ends-has, turning-other}
 use Rattle.plan.specs.Fault.{checkNumber}
 use Rattle.plan.specs.declared.CheckAnswer.{CheckAnswer}
 use Rattle.plan.specs.declared.CheckAnswer.the-variants as check-answer
@@ -118,10 +119,10 @@ pair-judged bs n t terms s z old =
 
 partial-loads-judged : (bs : List ℕ) (n t : ℕ) (terms : Terms) (k : ℕ) (old : LoadBuffers)
     → Judged (partialLoadsCauses bs n t terms k old) tt old (loadsEmptied n t old) (partialLoads bs n t terms k old)
-unfolding partialLoads partlyLoaded partialLoadsCauses loadsEmptied planOf
+unfolding partialLoads partlyLoaded partialLoadsCauses loadsEmptied planOf termsCauses
 partial-loads-judged bs n t terms k old =
     subst (λ l. Judged l tt old (loadsEmptied n t old) (partialLoads bs n t terms k old))
-    (append-assoc (planCauses bs n t) (_ ∷ _ ∷ _ ∷ []) (_ ∷ []))
+    (append-assoc (planCauses bs n t) (_ ∷ _ ∷ _ ∷ _ ∷ []) (_ ∷ []))
     (judged-entered tt old (loadsEmptied n t old) _ _ _ (plain-sources bs n t terms _ k)
     (judged-work tt old (loadsEmptied n t old) (tooManyBelow (planOf bs n t terms) k) _ refl))
 
@@ -130,15 +131,15 @@ loads-judged : (bs : List ℕ) (n t : ℕ) (terms : Terms) (old : LoadBuffers)
     → Judged (loadsCauses bs n t terms old) tt old (loadsEmptied n t old) (loads bs n t terms old)
 unfolding loadsCauses partialLoadsCauses planOf
 loads-judged bs n t terms old =
-    judged-without tt old (loadsEmptied n t old) (planCauses bs n t) _ _ 13 (wrongSources n n) _ (le-ltb n n (omega arith))
+    judged-without tt old (loadsEmptied n t old) (planCauses bs n t) (termsCauses terms) _ 13 (wrongSources n n) _ (le-ltb n n (omega arith))
     (partial-loads-judged bs n t terms n old)
 
 busiest-judged : (bs : List ℕ) (n t : ℕ) (terms : Terms) (old : List ℕ)
     → Judged (busiestCauses bs n t terms old) 0 old (cleared (workSize n t) old) (busiest bs n t terms old)
-unfolding busiest compared busiestCauses planOf
+unfolding busiest compared busiestCauses planOf termsCauses
 busiest-judged bs n t terms old =
     subst (λ l. Judged l 0 old (cleared (workSize n t) old) (busiest bs n t terms old))
-    (append-assoc (planCauses bs n t) (_ ∷ _ ∷ []) (_ ∷ []))
+    (append-assoc (planCauses bs n t) (_ ∷ _ ∷ _ ∷ []) (_ ∷ []))
     (judged-entered 0 old (cleared (workSize n t) old) _ _ _ (plain-short bs n t terms _)
     (judged-work 0 old (cleared (workSize n t) old) (tooManyAnywhere (planOf bs n t terms)) _ refl))
 
@@ -163,6 +164,18 @@ unfolding verdict judged verdictCauses planOf
 verdict-judged bs n t terms s z list old =
     judged-entered none old (cleared (workSize n t) old) _ _ _ (plain-pair bs n t terms _ s z)
     (judged-work none old (cleared (workSize n t) old) (tooMany (planOf bs n t terms) s) _ refl)
+
+-- the causes of the operation on shortest foremost paths, for units that keep a reading until the plan ends: 14 does not hold
+foremost-other : (bs : List ℕ) (n t g s z : ℕ) (old : PairBuffers) → first (foremostCauses bs n t (turning g) s z old) ≢ 14
+unfolding foremostCauses pairCauses
+foremost-other bs n t g s z old =
+    append-has (λ k. k ≢ 14) (λ e. omega arith) _ _
+    (append-has (λ k. k ≢ 14) (λ e. omega arith) (planCauses bs n t) _
+    (plan-has (λ k. k ≢ 14) (λ e. omega arith) (λ e. omega arith) (λ e. omega arith) (λ e. omega arith) (λ e. omega arith)
+    (λ e. omega arith) bs n t)
+    (append-has (λ k. k ≢ 14) (λ e. omega arith) (termsCauses (turning g)) _ (turning-other g)
+    (ends-has (λ k. k ≢ 14) (λ e. omega arith) (λ e. omega arith) (λ e. omega arith) (λ e. omega arith) n s z _)))
+    (cause-has (λ k. k ≢ 14) (λ e. omega arith) 9 _ [] (λ e. omega arith) (none-has (λ k. k ≢ 14) (λ e. omega arith)))
 
 -- ---- the theorem
 
@@ -191,13 +204,16 @@ demand1 =
           subst
           (Judged (foremostCauses bs n t terms s z old) (record { slot = 0; hops = 0; count = 0 }) old (pairEmptied n t old))
           (sym e) (foremost-judged bs n t terms s z old);
+      foremost-takes-none = λ bs n t g s z old x r e four.
+          foremost-other bs n t g s z old (sym (foremost-judged bs n t (turning g) s z old .numbered .the-first) ∙
+          ap (λ o. o .number) (sym e) ∙ four);
       of-verdict = λ bs n t terms s z list old x r e.
           subst (Judged (verdictCauses bs n t terms s z old) none old (cleared (workSize n t) old)) (sym e)
           (verdict-judged bs n t terms s z list old);
-      of-first-way = λ bs n t g s z old x r e.
-          subst (Judged (firstWayCauses (question bs n t g s z) old) 0 old (wayEmptied n t old)) (sym (ap outcomeOf e))
-          (first-way-judged (question bs n t g s z) old);
-      of-next-way = λ bs n t g s z old x r e.
-          subst (Judged (nextWayCauses (question bs n t g s z) old) 0 old (wayEmptied n t old)) (sym (ap outcomeOf e))
-          (next-way-judged (question bs n t g s z) old);
+      of-first-way = λ bs n t g h s z old x r e.
+          subst (Judged (firstWayCauses (question bs n t g h s z) old) 0 old (wayEmptied n t old)) (sym (ap outcomeOf e))
+          (first-way-judged (question bs n t g h s z) old);
+      of-next-way = λ bs n t g h s z old x r e.
+          subst (Judged (nextWayCauses (question bs n t g h s z) old) 0 old (wayEmptied n t old)) (sym (ap outcomeOf e))
+          (next-way-judged (question bs n t g h s z) old);
     }

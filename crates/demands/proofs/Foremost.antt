@@ -131,7 +131,7 @@ module _ (bs : List ℕ) (n t : ℕ) (terms : Terms) (s z : ℕ) (ok : planFault
           among = rw is (foremost-among-shortest bs n t terms ok s z);
         }
 
--- (kept) C-14.
+-- C-14. Its units keep a reading until the plan ends.
 pub foremost-demand : ForemostDemand
 unfolding foremost planFault
 foremost-demand bs n t g s z old new r e q =

@@ -8,7 +8,7 @@ use mathlib.Core.Logic.{_↔_, _≢_}
 use Rattle.temporal.specs.Lists.{below}
 use Rattle.temporal.specs.Plan.{Terms}
 use Rattle.temporal.specs.Bytes.{records}
-use Rattle.temporal.specs.Cause.{cause, first, unless, wrongTurnaround, wrongSources, recordCauses, planCauses, stationCauses, pairCauses}
+use Rattle.temporal.specs.Cause.{cause, first, unless, termsCauses, wrongSources, recordCauses, planCauses, stationCauses, endsCauses, pairCauses}
 use Rattle.temporal.specs.Outcome.{Outcome, entered}
 use Rattle.temporal.specs.OutcomeSet.{setCauses}
 use Rattle.temporal.proofs.CauseLaws.{first-append-none, first-append-some, first-false}
@@ -75,43 +75,43 @@ plain-plan bs n t =
     plain-cause 3 _ _ (omega arith) (omega arith)
     (plain-cause 4 _ _ (omega arith) (omega arith) (plain-cause 5 _ [] (omega arith) (omega arith) plain-none)))))
 
--- the causes of a plan with those of a call that names a station, a pair, or nothing
+plain-terms : (terms : Terms) → Plain (termsCauses terms)
+unfolding termsCauses
+plain-terms terms =
+    plain-cause 12 _ _ (omega arith) (omega arith) (plain-cause 14 _ [] (omega arith) (omega arith) plain-none)
+
+-- the causes of a plan and of the terms with those of a call that names a station, a pair, or nothing
 module _ (bs : List ℕ) (n t : ℕ) (terms : Terms) (lacking : Bool) where
-  pub plain-station : (s : ℕ) → Plain (planCauses bs n t ++ cause 12 (wrongTurnaround terms) ∷ stationCauses n s lacking)
+  plain-call : (rest : List ℕ) → Plain rest → Plain (planCauses bs n t ++ (termsCauses terms ++ rest))
+  plain-call rest plain = plain-append _ _ (plain-plan bs n t) (plain-append _ _ (plain-terms terms) plain)
+
+  pub plain-station : (s : ℕ) → Plain (planCauses bs n t ++ (termsCauses terms ++ stationCauses n s lacking))
   unfolding stationCauses
   plain-station s =
-      plain-append _ _ (plain-plan bs n t)
-      (plain-cause 12 _ _ (omega arith) (omega arith)
-      (plain-cause 6 _ _ (omega arith) (omega arith) (plain-cause 8 _ [] (omega arith) (omega arith) plain-none)))
+      plain-call _ (plain-cause 6 _ _ (omega arith) (omega arith) (plain-cause 8 _ [] (omega arith) (omega arith) plain-none))
 
   pub plain-pair : (s z : ℕ) → Plain (planCauses bs n t ++ pairCauses terms n s z lacking)
-  unfolding pairCauses
+  unfolding pairCauses endsCauses
   plain-pair s z =
-      plain-append _ _ (plain-plan bs n t)
-      (plain-cause 12 _ _ (omega arith) (omega arith)
-      (plain-cause 6 _ _ (omega arith) (omega arith)
-      (plain-cause 7 _ _ (omega arith) (omega arith) (plain-cause 8 _ [] (omega arith) (omega arith) plain-none))))
+      plain-call _ (plain-cause 6 _ _ (omega arith) (omega arith)
+      (plain-cause 7 _ _ (omega arith) (omega arith) (plain-cause 8 _ [] (omega arith) (omega arith) plain-none)))
 
   module _ (k : ℕ) where
     sources-and : (rest : List ℕ) → Plain rest
-        → Plain (planCauses bs n t ++ cause 12 (wrongTurnaround terms) ∷ cause 13 (wrongSources n k) ∷ cause 8 lacking ∷ rest)
+        → Plain (planCauses bs n t ++ (termsCauses terms ++ cause 13 (wrongSources n k) ∷ cause 8 lacking ∷ rest))
     sources-and rest plain =
-        plain-append _ _ (plain-plan bs n t)
-        (plain-cause 12 _ _ (omega arith) (omega arith)
-        (plain-cause 13 _ _ (omega arith) (omega arith) (plain-cause 8 _ _ (omega arith) (omega arith) plain)))
+        plain-call _ (plain-cause 13 _ _ (omega arith) (omega arith) (plain-cause 8 _ _ (omega arith) (omega arith) plain))
 
-    pub plain-sources : Plain (planCauses bs n t ++ cause 12 (wrongTurnaround terms) ∷ cause 13 (wrongSources n k) ∷ cause 8 lacking ∷ [])
+    pub plain-sources : Plain (planCauses bs n t ++ (termsCauses terms ++ cause 13 (wrongSources n k) ∷ cause 8 lacking ∷ []))
     plain-sources = sources-and [] plain-none
 
     -- with 9, where no source has too many
     pub plain-few : (many : Bool) → many ≡ false
-        → Plain (planCauses bs n t ++ cause 12 (wrongTurnaround terms) ∷ cause 13 (wrongSources n k) ∷ cause 8 lacking ∷ cause 9 many ∷ [])
+        → Plain (planCauses bs n t ++ (termsCauses terms ++ cause 13 (wrongSources n k) ∷ cause 8 lacking ∷ cause 9 many ∷ []))
     plain-few many e = sources-and _ (plain-false 9 many [] e plain-none)
 
-  pub plain-short : Plain (planCauses bs n t ++ cause 12 (wrongTurnaround terms) ∷ cause 8 lacking ∷ [])
-  plain-short =
-      plain-append _ _ (plain-plan bs n t)
-      (plain-cause 12 _ _ (omega arith) (omega arith) (plain-cause 8 _ [] (omega arith) (omega arith) plain-none))
+  pub plain-short : Plain (planCauses bs n t ++ (termsCauses terms ++ cause 8 lacking ∷ []))
+  plain-short = plain-call _ (plain-cause 8 _ [] (omega arith) (omega arith) plain-none)
 
 -- and with those of a call that names a pair and a set
 pub plain-set : (bs : List ℕ) (n t : ℕ) (terms : Terms) (s z : ℕ) (set old : List ℕ)
@@ -161,11 +161,12 @@ module _ {Values Buffers : Type 0} (zeros : Values) (old emptied : Buffers) wher
           })
 
   -- a cause that does not hold may be left out of the list
-  pub judged-without : (l m : List ℕ) (c k : ℕ) (b : Bool) (o : Outcome Values Buffers) → b ≡ false
-      → Judged (l ++ c ∷ cause k b ∷ m) zeros old emptied o → Judged (l ++ c ∷ m) zeros old emptied o
-  judged-without l m c k b o e j =
+  pub judged-without : (l c m : List ℕ) (k : ℕ) (b : Bool) (o : Outcome Values Buffers) → b ≡ false
+      → Judged (l ++ (c ++ cause k b ∷ m)) zeros old emptied o → Judged (l ++ (c ++ m)) zeros old emptied o
+  judged-without l c m k b o e j =
       record {
-        numbered = numbered _ _ (j .numbered .the-first ∙ first-append-same l _ _ (first-append-same (c ∷ []) (cause k b ∷ m) m (first-false k b m e)));
+        numbered = numbered _ _ (j .numbered .the-first ∙
+            first-append-same l _ _ (first-append-same c (cause k b ∷ m) m (first-false k b m e)));
         beside = j .beside;
         untouched = j .untouched;
         too-many = j .too-many;

@@ -15,6 +15,8 @@ pub mod Demand3
 pub mod Demand2
 mod ListedLaws
 mod BetweenLaws
+-- where nothing goes stale (C-21)
+pub mod Kept
 -- what the load programs print (C-20)
 pub mod LoadText
 -- C-12: a set of stations

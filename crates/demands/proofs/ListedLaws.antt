@@ -1,11 +1,11 @@
--- The lists of shortest paths and walks are what demand 2 says of them. A law marked (kept) rests on a reading being kept until
--- the plan ends. Assumes nothing.
+-- The lists of shortest walks are what demand 2 says of them, and where nothing goes stale they are lists of paths. A law marked (kept)
+-- rests on a reading being kept until the plan ends. Assumes nothing.
 use Prim.Native.Nat.{ℕ, _≤_, _<_}
 use native.Mathlib.Omega.{arith}
 use mathlib.Core.Path.{_≡_, refl, sym, ap, _∙_}
 use mathlib.Core.Bool.{Bool, true}
 use mathlib.Core.List.{List, [], _∷_, List·Memᴰ, List·Memᴰ·head, List·Memᴰ·tail, List·Memᴰ·not-nil}
-use mathlib.Core.Logic.{_↔_}
+use mathlib.Core.Logic.{_↔_, _⊎_, inl, inr, ⊎-elim}
 use lib.ListN.{length}
 use Rattle.temporal.specs.Lists.{NoneTwice}
 use Rattle.temporal.specs.Plan.{Plan, Terms, Keeps}
@@ -32,7 +32,8 @@ use Rattle.temporal.proofs.ShortestLaws.{
 use Rattle.temporal.proofs.PathLaws.{definition3-is-walk, path-meets-definition3}
 use Rattle.temporal.proofs.PlanLaws.{slots-within}
 use Rattle.temporal.proofs.Adequacy.{bounded-ends, listed-path}
-use Rattle.demands.specs.Demand2.{ShortestList, StationList, AppearanceList}
+use Rattle.demands.specs.Demand2.{IsShortest, ShortestList, StationList, AppearanceList}
+use Rattle.demands.specs.Kept.{PathList, AmongPaths}
 
 -- A list of the shortest walks of a bounded test, where all of them pass another test that only walks pass.
 module _ {p : Plan} {passes isAWalk : List ℕ → Bool} (b : Bounded p isAWalk) (few : p .slots < 65535)
@@ -91,6 +92,44 @@ module _ {p : Plan} {passes isAWalk : List ℕ → Bool} (b : Bounded p isAWalk)
         no-count = uncounted;
       }
 
+-- a list is empty or has a member
+some-member : (l : List (List ℕ)) → (l ≡ []) ⊎ ((m : List ℕ) × List·Memᴰ m l)
+some-member [] = inl refl
+some-member (m ∷ l) = inr (m, List·Memᴰ·head refl)
+
+-- those that pass and that no walk is shorter than are those that none that passes is shorter than, where only walks pass
+among :
+    {passes isAWalk : List ℕ → Bool} {l : List (List ℕ)} {h c : ℕ} → ShortestList passes isAWalk l h c →
+    ((w : List ℕ) → passes w ≡ true → isAWalk w ≡ true) → ShortestList passes passes l h c
+among {passes} {isAWalk} {l} {h} {c} k walks =
+    record {
+      once = k .once;
+      members = λ w. (
+        λ m. let x = k .members w .0 m in record { passing = x .passing; none-shorter = λ w′ e. x .none-shorter w′ (walks w′ e) },
+        λ x. k .members w .1 (record { passing = x .passing; none-shorter = shorter w x }),
+      );
+      lengths = k .lengths;
+      number = k .number;
+      no-hops = (λ e w q. k .no-hops .0 e w (walks w q), λ none. k .no-hops .1 (absent none));
+      no-count = (λ e w q. k .no-count .0 e w (walks w q), λ none. k .no-count .1 (absent none));
+    }
+  where
+    -- without a member there is no walk
+    no-walk : l ≡ [] → (w : List ℕ) → isAWalk w ≡ true → ⊥
+    no-walk e = k .no-count .0 (k .number ∙ ap length e)
+
+    absent : ((w : List ℕ) → passes w ≡ true → ⊥) → (w : List ℕ) → isAWalk w ≡ true → ⊥
+    absent none = ⊎-elim no-walk (λ x w q. none (x .0) (k .members (x .0) .0 (x .1) .passing)) (some-member l)
+
+    shorter : (w : List ℕ) → IsShortest passes passes w → (w′ : List ℕ) → isAWalk w′ ≡ true → length w ≤ length w′
+    shorter w x w′ q =
+        ⊎-elim (λ e. absurd (no-walk e w′ q))
+        (λ m.
+        let a = x .none-shorter (m .0) (k .members (m .0) .0 (m .1) .passing) in
+        let b = k .members (m .0) .0 (m .1) .none-shorter w′ q in
+        omega arith)
+        (some-member l)
+
 -- where the empty list of positions passes, it is the only member
 pub only-empty :
     {passes isAWalk : List ℕ → Bool} {l : List (List ℕ)} {h c : ℕ} → ShortestList passes isAWalk l h c →
@@ -116,15 +155,32 @@ module _ (bs : List ℕ) (n t : ℕ) (terms : Terms) (ok : planFault bs n t ≡ 
   unfolding planOf
   few-slots = let most = accepted bs n t ok .slots in omega arith
 
-  -- (kept) the list of a station
+  -- the list of a station
   pub station-listed :
-      Keeps t terms → (s v : ℕ) →
-      StationList (planOf bs n t terms) s v (hops (shortestWalksTo (planOf bs n t terms) s v)) (count (shortestWalksTo (planOf bs n t terms) s v))
+      (s v : ℕ) →
+      StationList (planOf bs n t terms) s v (hops (shortestWalksTo (planOf bs n t terms) s v))
+      (count (shortestWalksTo (planOf bs n t terms) s v))
   unfolding shortestWalksTo
-  station-listed keeps s v =
-      let p = planOf bs n t terms in
-      listed (bounded-ends p (slots-within bs n t terms ok) s (isAt v)) few-slots (definition3-is-walk p s v)
-      (λ w m. path-meets-definition3 p s v w (listed-path bs n t terms ok keeps s v w m .0))
+  station-listed s v =
+      let b = bounded-ends (planOf bs n t terms) (slots-within bs n t terms ok) s (isAt v) in
+      listed b few-slots (λ w e. e) (λ w m. shortest-mem b .0 m .0)
+
+  -- (kept) the same as a list of paths
+  module _ (keeps : Keeps t terms) (s v : ℕ) where
+    pub path-listed :
+        PathList (planOf bs n t terms) s v (hops (shortestWalksTo (planOf bs n t terms) s v))
+        (count (shortestWalksTo (planOf bs n t terms) s v))
+    unfolding shortestWalksTo
+    path-listed =
+        let p = planOf bs n t terms in
+        listed (bounded-ends p (slots-within bs n t terms ok) s (isAt v)) few-slots (definition3-is-walk p s v)
+        (λ w m. path-meets-definition3 p s v w (listed-path bs n t terms ok keeps s v w m .0))
+
+    -- and among paths: a path that no path is shorter than is one that no walk is shorter than
+    pub among-listed :
+        AmongPaths (planOf bs n t terms) s v (hops (shortestWalksTo (planOf bs n t terms) s v))
+        (count (shortestWalksTo (planOf bs n t terms) s v))
+    among-listed = among path-listed (definition3-is-walk (planOf bs n t terms) s v)
 
   -- the list of an appearance
   pub appearance-listed :

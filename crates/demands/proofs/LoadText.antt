@@ -12,14 +12,14 @@ use Rattle.temporal.specs.Lists.{from, below, sum, select, any, member, distinc
 use Rattle.temporal.specs.Plan.{Plan, Terms, turning, leadsTo, mayFollow}
 use Rattle.temporal.specs.Walk.{along, step, run, lastOr, holds, endsIn, isInterior}
 use Rattle.temporal.specs.Shortest.{orElse, firstNonempty}
-use Rattle.temporal.specs.Load.{endsBelow}
+use Rattle.temporal.specs.Load.{pairsBy, loadBy, endsBelow}
 use Rattle.temporal.specs.Bytes.{wordAt, contactAt, records, planOf}
 use Rattle.temporal.specs.Cause.{cause, first, unless, outside, wrongLength, wrongSlot, wrongEnds, isAbove, wrongOrder}
-use Rattle.temporal.specs.Cause.{recordCauses, planCauses, wrongTurnaround, tooManyAnywhere}
-use Rattle.temporal.proofs.CauseLaws.{first-false}
+use Rattle.temporal.specs.Cause.{recordCauses, planCauses, wrongTurnaround, wrongKeeping, termsCauses, tooManyAnywhere}
+use Rattle.temporal.proofs.CauseLaws.{first-append-none}
 use Rattle.temporal.proofs.EnteredLaws.{unless-none}
 use Rattle.temporal.proofs.FewLaws.{mostLists, few-anywhere}
-use Rattle.temporal.proofs.GrownLaws.{grown, grownShortest, onward, grownWalksTo, pairsBy, loadBy, pairs-by, load-by}
+use Rattle.temporal.proofs.GrownLaws.{grown, grownShortest, onward, grownWalksTo, pairs-by, load-by}
 use Rattle.text.specs.Decimal.{code, codes, powersUpTo, digitCount, decimal}
 use Rattle.report.specs.Sizes.{largest, topStation, inputStations, inputSlots, wrongInput, overLimits}
 use Rattle.report.specs.Report.{field, heading, line, loadsText, inputCauses, inputPlan, refusalText, refusalOf, printed}
@@ -38,26 +38,26 @@ text-grown p =
     ap (λ f. heading (p .stations) (p .slots) (length (p .contacts)) ++ flatMap f (below (p .stations)))
     (fun-ext (λ v. ap₂ (line v) (pairs-by p v) (load-by p v)))
 
--- a cause that does not hold may stand between two lists of causes
+-- causes none of which holds may stand between two lists of causes
 first-without :
-    (k : ℕ) (b : Bool) (l m o : List ℕ) → b ≡ false → first (l ++ (m ++ cause k b ∷ o)) ≡ first (l ++ (m ++ o))
-unfolding first cause
-first-without k b (zero ∷ l) m o e = first-without k b l m o e
-first-without k b (suc i ∷ l) m o e = refl
-first-without k b [] (zero ∷ m) o e = first-without k b [] m o e
-first-without k b [] (suc i ∷ m) o e = refl
-first-without k b [] [] o e = first-false k b o e
+    (c l m o : List ℕ) → first c ≡ 0 → first (l ++ (m ++ (c ++ o))) ≡ first (l ++ (m ++ o))
+unfolding first
+first-without c (zero ∷ l) m o e = first-without c l m o e
+first-without c (suc i ∷ l) m o e = refl
+first-without c [] (zero ∷ m) o e = first-without c [] m o e
+first-without c [] (suc i ∷ m) o e = refl
+first-without c [] [] o e = first-append-none c o e
 
-module _ (terms : Terms) (right : wrongTurnaround terms ≡ false) where
-  -- a turnaround that is allowed leaves the causes of before
-  without-twelve :
+module _ (terms : Terms) (right : first (termsCauses terms) ≡ 0) where
+  -- terms that are allowed leave the causes of before
+  without-terms :
       (bs : List ℕ) →
       refusalOf bs terms ≡
       first (inputCauses bs ++
       (planCauses bs (inputStations bs) (inputSlots bs) ++ cause 9 (tooManyAnywhere (inputPlan bs terms)) ∷ []))
   unfolding refusalOf
-  without-twelve bs =
-      first-without 12 (wrongTurnaround terms) (inputCauses bs) (planCauses bs (inputStations bs) (inputSlots bs)) _ right
+  without-terms bs =
+      first-without (termsCauses terms) (inputCauses bs) (planCauses bs (inputStations bs) (inputSlots bs)) _ right
 
   few : mostLists (inputPlan (planA .bytes) terms) ≤ 18446744073709551615
   unfolding mostLists from below sum tuples wordAt contactAt records planOf largest topStation inputStations inputSlots flatMap
@@ -67,7 +67,7 @@ module _ (terms : Terms) (right : wrongTurnaround terms ≡ false) where
   accepted : refusalOf (planA .bytes) terms ≡ 0
   unfolding from below any wordAt contactAt records planOf cause first outside wrongLength wrongSlot wrongEnds isAbove wrongOrder recordCauses planCauses largest topStation inputStations inputSlots wrongInput overLimits inputCauses flatMap
   accepted =
-      without-twelve (planA .bytes) ∙
+      without-terms (planA .bytes) ∙
       ap (λ b. first (inputCauses (planA .bytes) ++
       (planCauses (planA .bytes) (inputStations (planA .bytes)) (inputSlots (planA .bytes)) ++ cause 9 b ∷ [])))
       (few-anywhere (inputPlan (planA .bytes) terms) few)
@@ -78,12 +78,12 @@ module _ (terms : Terms) (right : wrongTurnaround terms ≡ false) where
       unless-none (refusalOf (planA .bytes) terms) refusalText (loadsText (inputPlan (planA .bytes) terms)) accepted ∙
       text-grown (inputPlan (planA .bytes) terms)
 
-allowed-one : wrongTurnaround (turning 1) ≡ false
-unfolding wrongTurnaround
+allowed-one : first (termsCauses (turning 1)) ≡ 0
+unfolding termsCauses wrongTurnaround wrongKeeping cause first
 allowed-one = refl
 
-allowed-two : wrongTurnaround (turning 2) ≡ false
-unfolding wrongTurnaround
+allowed-two : first (termsCauses (turning 2)) ≡ 0
+unfolding termsCauses wrongTurnaround wrongKeeping cause first
 allowed-two = refl
 
 computed-two : grownText (inputPlan (planA .bytes) (turning 2)) ≡ asText planALinesTwoSlots
@@ -97,7 +97,7 @@ computed-one = refl
 as-before : (bs : List ℕ) → printed bs (turning 1) ≡ printedBefore bs
 unfolding printed
 as-before bs =
-    ap (λ k. unless k refusalText (loadsText (inputPlan bs (turning 1)))) (without-twelve (turning 1) allowed-one bs)
+    ap (λ k. unless k refusalText (loadsText (inputPlan bs (turning 1)))) (without-terms (turning 1) allowed-one bs)
 
 pub load-text : LoadText
 load-text =

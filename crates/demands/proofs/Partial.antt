@@ -11,7 +11,7 @@ use Rattle.temporal.specs.Lists.{from, below, sum, select, any}
 use Rattle.temporal.specs.Plan.{Terms}
 use Rattle.temporal.specs.Load.{endsBelow, pairsBelow, partialPairs, partialLoad, restOfPairs, restOfLoad}
 use Rattle.temporal.specs.Bytes.{planOf}
-use Rattle.temporal.specs.Cause.{cause, first, planCauses, wrongTurnaround, wrongSources, tooManyBelow}
+use Rattle.temporal.specs.Cause.{cause, first, planCauses, termsCauses, wrongSources, tooManyBelow}
 use Rattle.temporal.specs.Outcome.{Outcome, short, workSize}
 use Rattle.temporal.specs.OutcomePair.{LoadBuffers, partlyLoaded, partialLoads}
 use Rattle.temporal.proofs.CauseLaws.{first-append-right, first-head, first-tail}
@@ -38,8 +38,8 @@ module _ (bs : List ℕ) (n t : ℕ) (terms : Terms) (k : ℕ) (old : LoadBuffer
   unfolding partialLoads
   within =
       let none = no-first _ tt tt old new _ (rw (a .accepted) at (a .contract)) in
-      let call = first-append-right (planCauses bs n t) _ none in
-      ltb-false n k (first-head 12 (wrongSources n k) _ (first-tail 11 (wrongTurnaround terms) _ call))
+      let call = first-append-right (termsCauses terms) _ (first-append-right (planCauses bs n t) _ none) in
+      ltb-false n k (first-head 12 (wrongSources n k) _ call)
 
 -- loads is accepted where partial loads with all sources are
 of-all :

@@ -9,7 +9,7 @@ use borrow.Author.Tests.{leb-false}
 use Rattle.temporal.specs.Plan.{Terms}
 use Rattle.temporal.specs.Set.{touched}
 use Rattle.temporal.specs.Bytes.{planOf}
-use Rattle.temporal.specs.Cause.{planCauses, planFault, pairCauses, tooMany}
+use Rattle.temporal.specs.Cause.{planCauses, planFault, termsCauses, endsCauses, pairCauses, tooMany}
 use Rattle.temporal.specs.Outcome.{Outcome}
 use Rattle.temporal.specs.OutcomeSet.{isMember, setCauses, setCounted, throughSet}
 use Rattle.temporal.proofs.CauseLaws.{first-append-left, first-append-right, first-head, first-tail, or-false-left}
@@ -29,7 +29,7 @@ use Rattle.sets.specs.declared.SetAnswer.{SetAnswer}
 use Rattle.demands.specs.Sets.{SetDemand}
 
 module _ (bs : List ℕ) (n t : ℕ) (terms : Terms) (s z : ℕ) (set old : List ℕ) (r : SetAnswer) (new : List ℕ) where
-  -- the work without cause 9 counts the paths that a member touches
+  -- the work without cause 9 counts the walks that a member touches
   set-counted :
       _≡_ {A = Outcome ℕ (List ℕ)} (record { number = 0; values = setCount r; buffers = new })
       (setCounted (planOf bs n t terms) s z set old) →
@@ -43,14 +43,14 @@ module _ (bs : List ℕ) (n t : ℕ) (terms : Terms) (s z : ℕ) (set old : List
 
 -- C-12.
 pub set-demand : SetDemand
-unfolding throughSet planFault setCauses pairCauses planOf
+unfolding throughSet planFault setCauses pairCauses endsCauses planOf
 set-demand bs n t terms s z set old r new a =
     let here = rw (a .accepted) at (a .contract) in
     let p = planOf bs n t terms in
     let none = no-first _ 0 (setCount r) old new _ here in
     let ok : planFault bs n t ≡ 0 = first-append-left (planCauses bs n t) _ none in
     let call = first-append-left (pairCauses terms n s z _) _ (first-append-right (planCauses bs n t) _ none) in
-    let source : s < n = leb-false n s (or-false-left (leb n s) (leb n z) (first-head 5 _ _ (first-tail 11 _ _ call))) in
+    let source : s < n = leb-false n s (or-false-left (leb n s) (leb n z) (first-head 5 _ _ (first-append-right (termsCauses terms) _ call))) in
     let is = set-counted bs n t terms s z set old r new (no-cause _ 0 (setCount r) old new _ here) in
     record {
       counted = is;

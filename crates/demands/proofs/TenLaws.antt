@@ -1,4 +1,4 @@
--- Next way answers 10 exactly where no other cause of refusal holds and the way buffer begins with no shortest path of the
+-- Next way answers 10 exactly where no other cause of refusal holds and the way buffer begins with no shortest walk of the
 -- pair. Assumes nothing.
 use Prim.Native.Nat.{ℕ, zero, suc, _+_, _≤_}
 use native.Mathlib.Omega.{arith}
@@ -47,7 +47,7 @@ module _ (q : Question) (ok : planFault (q .bytes) (q .stations) (q .slots) ≡ 
   unfolding listOf
   member-hops w m = in-complete-list (q .bytes) (q .stations) (q .slots) (q .terms) ok (q .source) (q .destination) w .0 m .1
 
-  -- the cursor is on none exactly where the buffer begins with no shortest path
+  -- the cursor is on none exactly where the buffer begins with no shortest walk
   index-none : (way : List ℕ) → (indexIn (listOf q) way ≡ none) ↔ NotOffered q way
   unfolding indexIn holds
   index-none way = (

@@ -15,7 +15,7 @@ use Rattle.temporal.specs.Lists.{below, any}
 use Rattle.temporal.specs.Cursor.{sameNumbers}
 use Rattle.temporal.specs.Bytes.{planOf}
 use Rattle.temporal.specs.Shortest.{shortestWalksTo, hops}
-use Rattle.temporal.specs.Cause.{cause, planCauses, planFault, pairCauses, tooMany}
+use Rattle.temporal.specs.Cause.{cause, planCauses, planFault, termsCauses, endsCauses, pairCauses, tooMany}
 use Rattle.temporal.specs.Outcome.{Outcome, short, workSize}
 use Rattle.temporal.specs.Verdict.{Verdict, complete, beginning, wrong, joined, verdictOn, IsComplete, IsBeginning}
 use Rattle.temporal.specs.OutcomeVerdict.{judged, verdict}
@@ -56,11 +56,11 @@ module _ (q : Question) (list old : List ℕ) (r : VerdictAnswer) (new : List �
   plan-there = first-append-left (planCauses (q .bytes) (q .stations) (q .slots)) _ (no-first _ none (verdictGiven r) old new _ here)
 
   differ : q .source ≢ q .destination
-  unfolding verdict pairCauses
+  unfolding verdict pairCauses endsCauses
   differ =
       let call = first-append-right (planCauses (q .bytes) (q .stations) (q .slots)) _ (no-first _ none (verdictGiven r) old new _ here) in
       eqb-false (q .source) (q .destination)
-      (first-head 6 (eqb (q .source) (q .destination)) _ (first-tail 5 _ _ (first-tail 11 _ _ call)))
+      (first-head 6 (eqb (q .source) (q .destination)) _ (first-tail 5 _ _ (first-append-right (termsCauses (q .terms)) _ call)))
 
   some-hops : 0 < hops (listOf q)
   unfolding listOf

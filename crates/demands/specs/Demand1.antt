@@ -8,7 +8,7 @@ use mathlib.Core.Logic.{_↔_, _≢_}
 use mathlib.Core.List.{List, [], _∷_}
 use mathlib.Core.Option.{none}
 use denote.Ref.{RefT}
-use Rattle.temporal.specs.Plan.{Terms}
+use Rattle.temporal.specs.Plan.{Terms, turning}
 use Rattle.temporal.specs.Cause.{first, planCauses, planFault}
 use Rattle.temporal.specs.Outcome.{Outcome, cleared, workSize, ReachTables, reach, rowNumber}
 use Rattle.temporal.specs.OutcomePair.{PairBuffers, pair, LoadBuffers, partialLoads, loads, busiest}
@@ -75,7 +75,7 @@ pub record Judged {Values Buffers : Type 0} (causes : List ℕ) (zeros : Values)
   pub beside : o .number ≢ 0 → o .values ≡ zeros
   -- 1 to 8, and numbers added later, leave all lent memory as it was
   pub untouched : o .number ≢ 0 → o .number ≢ 9 → o .number ≢ 10 → o .buffers ≡ old
-  -- an appearance or a station has too many shortest walks; and next way was offered no shortest path of the pair
+  -- an appearance or a station has too many shortest walks; and next way was offered no shortest walk of the pair
   pub too-many : o .number ≡ 9 → o .buffers ≡ emptied
   pub unoffered : o .number ≡ 10 → o .buffers ≡ emptied
 
@@ -130,12 +130,15 @@ pub record Demand1 : Type 0 where
       → foremostOutcome r x ≡ foremost bs n t terms s z old
       → Judged (foremostCauses bs n t terms s z old) (record { slot = 0; hops = 0; count = 0 }) old (pairEmptied n t old)
       (foremostOutcome r x)
+  -- for the units of its contract it never gives 14
+  pub foremost-takes-none : (bs : List ℕ) (n t g s z : ℕ) (old x : PairBuffers) (r : ForemostAnswer)
+      → foremostOutcome r x ≡ foremost bs n t (turning g) s z old → foremostOutcome r x .number ≢ 14
   pub of-verdict : (bs : List ℕ) (n t : ℕ) (terms : Terms) (s z : ℕ) (list old x : List ℕ) (r : VerdictAnswer)
       → verdictOutcome r x ≡ verdict bs n t terms s z list old
       → Judged (verdictCauses bs n t terms s z old) none old (cleared (workSize n t) old) (verdictOutcome r x)
-  pub of-first-way : (bs : List ℕ) (n t g s z : ℕ) (old x : WayBuffers) (r : WayAnswer)
-      → WayContract first-way (question bs n t g s z) (old .way) (old .work) (replyOf r) (x .way) (x .work)
-      → Judged (firstWayCauses (question bs n t g s z) old) 0 old (wayEmptied n t old) (wayResult r x)
-  pub of-next-way : (bs : List ℕ) (n t g s z : ℕ) (old x : WayBuffers) (r : WayAnswer)
-      → WayContract next-way (question bs n t g s z) (old .way) (old .work) (replyOf r) (x .way) (x .work)
-      → Judged (nextWayCauses (question bs n t g s z) old) 0 old (wayEmptied n t old) (wayResult r x)
+  pub of-first-way : (bs : List ℕ) (n t g h s z : ℕ) (old x : WayBuffers) (r : WayAnswer)
+      → WayContract first-way (question bs n t g h s z) (old .way) (old .work) (replyOf r) (x .way) (x .work)
+      → Judged (firstWayCauses (question bs n t g h s z) old) 0 old (wayEmptied n t old) (wayResult r x)
+  pub of-next-way : (bs : List ℕ) (n t g h s z : ℕ) (old x : WayBuffers) (r : WayAnswer)
+      → WayContract next-way (question bs n t g h s z) (old .way) (old .work) (replyOf r) (x .way) (x .work)
+      → Judged (nextWayCauses (question bs n t g h s z) old) 0 old (wayEmptied n t old) (wayResult r x)

@@ -1,16 +1,18 @@
--- Demand 2: what reach and pair leave in the tables is read off the list of a station's shortest paths, or of an appearance's
--- shortest walks, and nothing stands in these lists but what document 000 means. Definitions only.
+-- Demand 2: what reach and pair leave in the tables is read off the list of a station's shortest walks, or of an appearance's, for every
+-- turnaround and for however long a reading is kept; and nothing stands in these lists but what document 000 means, with document 002's
+-- restless rule (section 4.3). Definitions only.
 -- Assumes nothing.
 use Prim.Native.Nat.{ℕ, _+_, _-_, _*_, _≤_, _<_}
 use mathlib.Core.Path.{_≡_}
 use mathlib.Core.Bool.{Bool, true}
 use mathlib.Core.List.{List, List·Memᴰ}
+use mathlib.Core.Option.{some}
 use mathlib.Core.Logic.{_↔_}
 use lib.ListN.{length, take, getD}
 use Rattle.temporal.specs.Lists.{member, select, NoneTwice}
-use Rattle.temporal.specs.Plan.{Plan, Terms, turning, Keeps, start}
+use Rattle.temporal.specs.Plan.{Plan, Terms, Appearance, start}
 use Rattle.temporal.specs.Walk.{run, stationsOf, holds, isWalkTo, isWalk}
-use Rattle.temporal.specs.Definition3.{isPath000}
+use Rattle.temporal.specs.Definition3.{startingPoints}
 use Rattle.temporal.specs.Shortest.{shortestWalks, shortestWalksTo}
 use Rattle.temporal.specs.Bytes.{planOf}
 use Rattle.temporal.specs.Cause.{planFault}
@@ -39,9 +41,9 @@ pub record ShortestList (passes isAWalk : List ℕ → Bool) (l : List (List ℕ
   pub no-hops : (h ≡ 65535) ↔ ((w : List ℕ) → isAWalk w ≡ true → ⊥)
   pub no-count : (c ≡ 0) ↔ ((w : List ℕ) → isAWalk w ≡ true → ⊥)
 
--- the list of a station: document 000's paths (Def. 3) from s to v, none longer than a strict temporal walk from s to v
+-- the list of a station: the strict temporal walks from s to v, none longer than another
 abbrev pub StationList : Plan → ℕ → ℕ → ℕ → ℕ → Type 0
-StationList p s v h c = ShortestList (isPath000 p s v) (isWalkTo p s v) (shortestWalksTo p s v) h c
+StationList p s v h c = ShortestList (isWalkTo p s v) (isWalkTo p s v) (shortestWalksTo p s v) h c
 
 -- the list of an appearance: the strict temporal walks from s to (v, u), none longer than another
 abbrev pub AppearanceList : Plan → ℕ → ℕ → ℕ → ℕ → ℕ → Type 0
@@ -69,13 +71,21 @@ pub record PairTold (p : Plan) (s z : ℕ) (x : PairValues) (b : PairBuffers) : 
   pub between :
       (v : ℕ) → v < p .stations → getD (b .throughTable) v 0 ≡ length (select (isBetween p s v) (shortestWalksTo p s z))
 
--- Demand 2, for every call of reach and of pair that its contract allows and that is not refused, where nothing goes stale.
+-- a walk whose appearances are l comes back neither to its source s, nor to its destination z before its end
+pub record NoReturn (s z : ℕ) (l : List Appearance) : Type 0 where
+  pub to-source : List·Memᴰ s (stationsOf l) → ⊥
+  pub to-destination : List·Memᴰ z (startingPoints (start s) l) → ⊥
+
+-- Demand 2, for every call of reach and of pair that its contract allows and that is not refused.
 pub record Demand2 : Type 0 where
-  -- in an accepted plan nothing does with the terms that the operations have
-  pub always : (bs : List ℕ) (n t g : ℕ) → planFault bs n t ≡ 0 → Keeps t (turning g)
   pub of-reach :
-      (bs : List ℕ) (n t : ℕ) (terms : Terms) (s : ℕ) (old new : ReachTables) (r : ReachAnswer) → Keeps t terms →
+      (bs : List ℕ) (n t : ℕ) (terms : Terms) (s : ℕ) (old new : ReachTables) (r : ReachAnswer) →
       reachOutcome r new ≡ reach bs n t terms s old → reachNumber r ≡ 0 → ReachTold (planOf bs n t terms) s new
   pub of-pair :
-      (bs : List ℕ) (n t : ℕ) (terms : Terms) (s z : ℕ) (old new : PairBuffers) (r : PairAnswer) → Keeps t terms →
+      (bs : List ℕ) (n t : ℕ) (terms : Terms) (s z : ℕ) (old new : PairBuffers) (r : PairAnswer) →
       pairOutcome r new ≡ pair bs n t terms s z old → pairNumber r ≡ 0 → PairTold (planOf bs n t terms) s z (pairValues r) new
+  -- a member of a station's list visits its ends once; between them it may visit a station more often
+  pub ends-once :
+      (bs : List ℕ) (n t : ℕ) (terms : Terms) (s z : ℕ) → planFault bs n t ≡ 0 → (w : List ℕ) →
+      List·Memᴰ w (shortestWalksTo (planOf bs n t terms) s z) → (l : List Appearance) → run (planOf bs n t terms) (start s) w ≡ some l →
+      NoReturn s z l

@@ -34,7 +34,7 @@ EveryWayAccounted =
     (old : PairBuffers) (r : PairAnswer) (new : PairBuffers) → PairAccepts q old r new →
     CountedByPair q (given (e ∷ es)) r new
 
--- Document 01's cause 10: the first entries of the way buffer, as many as the pair has hops, are no shortest path of the pair,
+-- Document 01's cause 10: the first entries of the way buffer, as many as the pair has hops, are no shortest walk of the pair,
 -- or it has none.
 abbrev pub NotOffered : Question → List ℕ → Type 0
 NotOffered q way = (List·Memᴰ (take (hops (listOf q)) way) (listOf q) → ⊥) ⊎ (listOf q ≡ [])

@@ -9,6 +9,8 @@ pub mod PairLoads
 pub mod Demand3
 -- demand 2
 pub mod Demand2
+-- where nothing goes stale (C-21)
+pub mod Kept
 -- what the load programs print (C-20)
 pub mod LoadText
 -- C-12: a set of stations

@@ -1,4 +1,5 @@
--- The plans within the limits: the rules of document 01's section "Plan bytes", with document 02's C-16, as facts about numbers. Definitions only.
+-- The plans within the limits: the rules of document 01's section "Plan bytes", with document 02's C-16, as facts about numbers.
+-- Definitions only.
 -- Assumes nothing.
 use Prim.Native.Nat.{ℕ, _+_, _*_, _≤_, _<_}
 use mathlib.Core.Path.{_≡_}

@@ -36,7 +36,8 @@ planALinesOneSlot =
 unfoldable pub asText : List String → List ℕ
 asText lines = flatMap (λ l. ascii l ++ lineFeed) lines
 
--- The load program before C-20, whose units turn round in one slot and which knows no 12: the number of its refusal, and its text.
+-- The load program before C-20, whose units turn round in one slot and which knows neither 12 nor 14: the number of its refusal, and its
+-- text.
 abbrev pub refusalBefore : List ℕ → ℕ
 refusalBefore bs =
     first

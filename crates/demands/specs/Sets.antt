@@ -1,4 +1,4 @@
--- Document 02's C-12: what holds of the number of shortest paths that have a member of a set inside. Definitions only.
+-- Document 02's C-12: what holds of the number of shortest walks that have a member of a set inside. Definitions only.
 -- Assumes nothing.
 use Prim.Native.Nat.{ℕ, _≤_, _<_}
 use mathlib.Core.Path.{_≡_}

@@ -10,16 +10,16 @@ use Rattle.temporal.specs.Lists.{below, select}
 use Rattle.temporal.specs.Plan.{Plan}
 use Rattle.temporal.specs.Walk.{isPath}
 use Rattle.temporal.specs.Shortest.{hops, count, throughIn, through}
-use Rattle.temporal.specs.Load.{load}
+use Rattle.temporal.specs.Load.{pairsBy, loadBy, load}
 use Rattle.temporal.specs.Bytes.{planOf}
-use Rattle.temporal.specs.Cause.{cause, first, wrongTurnaround, wrongSources, planCauses, pairCauses, stationCauses}
+use Rattle.temporal.specs.Cause.{cause, first, termsCauses, wrongSources, planCauses, pairCauses, stationCauses}
 use Rattle.temporal.specs.Outcome.{ReachTables, entered, over, short, places, workSize, appearanceTable, stationTable, reached, reach}
 use Rattle.temporal.specs.OutcomePair.{paired, pair, partlyLoaded, partialLoads}
 use Rattle.temporal.specs.Cursor.{Reply, sameNumbers, Operation, indexIn, move}
 use Rattle.temporal.specs.FirstNext.{listOf, wayCauses, overflow, wayWork, wayAnswer}
 use Rattle.temporal.proofs.EnteredLaws.{unless-none}
 use Rattle.temporal.proofs.FewLaws.{mostLists, few-walks, few-anywhere}
-use Rattle.temporal.proofs.GrownLaws.{grownWalks, grownWalksTo, walks-grown, walks-to-grown, pairsBy, loadBy, pairs-by, load-by}
+use Rattle.temporal.proofs.GrownLaws.{grownWalks, grownWalksTo, walks-grown, walks-to-grown, pairs-by, load-by}
 use Rattle.examples.specs.Questions.{PlanBytes, station, appearance, walks, complete, throughs, gives, loadsOf, sevens}
 use Rattle.examples.specs.Questions.{termsOf, questionOf, reachedFrom, sameLists, sameReply}
 use Rattle.examples.specs.Table.{right}
@@ -32,10 +32,10 @@ module _ (g : PlanBytes) where
     -- ---- reach
 
     module _ (s v : ℕ)
-        (free : first (planCauses (g .bytes) (g .stations) (g .slots) ++ cause 12 (wrongTurnaround (termsOf g)) ∷ stationCauses (g .stations) s
+        (free : first (planCauses (g .bytes) (g .stations) (g .slots) ++ (termsCauses (termsOf g) ++ stationCauses (g .stations) s
         (short (places (g .stations) (g .slots)) (sevens (places (g .stations) (g .slots))) ||
         short (places (g .stations) (g .slots)) (sevens (places (g .stations) (g .slots))) ||
-        (short (g .stations) (sevens (g .stations)) || short (g .stations) (sevens (g .stations))))) ≡ 0)
+        (short (g .stations) (sevens (g .stations)) || short (g .stations) (sevens (g .stations)))))) ≡ 0)
       where
         -- the tables that reach leaves
         reached-is :
@@ -126,10 +126,10 @@ module _ (g : PlanBytes) where
 
     pub loads-right :
         (ps ls : List ℕ) →
-        first (planCauses (g .bytes) (g .stations) (g .slots) ++ cause 12 (wrongTurnaround (termsOf g)) ∷
+        first (planCauses (g .bytes) (g .stations) (g .slots) ++ (termsCauses (termsOf g) ++
         cause 13 (wrongSources (g .stations) (g .stations)) ∷ cause 8
         (short (g .stations) (sevens (g .stations)) || (short (g .stations) (sevens (g .stations)) ||
-        short (workSize (g .stations) (g .slots)) (sevens (workSize (g .stations) (g .slots))))) ∷ []) ≡ 0 →
+        short (workSize (g .stations) (g .slots)) (sevens (workSize (g .stations) (g .slots))))) ∷ [])) ≡ 0 →
         (sameNumbers
         (over (map (λ v. length (pairsBy p (grownWalksTo p) v)) (below (g .stations))) (sevens (g .stations))) ps &&
         sameNumbers (over (map (loadBy p (grownWalksTo p)) (below (g .stations))) (sevens (g .stations))) ls) ≡ true →

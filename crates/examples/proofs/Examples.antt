@@ -11,15 +11,15 @@ use Rattle.temporal.specs.Lists.{from, below, sum, select, any, member, distinc
 use Rattle.temporal.specs.Plan.{leadsTo, mayFollow}
 use Rattle.temporal.specs.Walk.{along, step, run, lastOr, holds, endsIn, isWalk, isPath, isInterior}
 use Rattle.temporal.specs.Shortest.{orElse, firstNonempty, hops}
-use Rattle.temporal.specs.Load.{endsBelow}
+use Rattle.temporal.specs.Load.{pairsBy, loadBy, endsBelow}
 use Rattle.temporal.specs.Bytes.{wordAt, contactAt, records, planOf}
 use Rattle.temporal.specs.Cause.{cause, first, unless, outside, wrongLength, wrongSlot, wrongEnds, isAbove, wrongOrder}
-use Rattle.temporal.specs.Cause.{recordCauses, planCauses, planFault, wrongTurnaround, pairCauses, stationCauses}
+use Rattle.temporal.specs.Cause.{recordCauses, planCauses, planFault, wrongTurnaround, wrongKeeping, termsCauses, endsCauses, pairCauses, stationCauses}
 use Rattle.temporal.specs.Outcome.{over}
 use Rattle.temporal.specs.Cursor.{sameNumbers, indexIn, stay, give, goFirst, goNext, go, move}
 use Rattle.temporal.specs.FirstNext.{wayCauses, wayAnswer}
 use Rattle.temporal.proofs.FewLaws.{mostLists}
-use Rattle.temporal.proofs.GrownLaws.{grown, grownShortest, onward, grownWalks, grownWalksTo, pairsBy, loadBy}
+use Rattle.temporal.proofs.GrownLaws.{grown, grownShortest, onward, grownWalks, grownWalksTo}
 use Rattle.temporal.specs.Cursor.{path, no-path, last-path, refused, first-way, next-way}
 use Rattle.examples.specs.Questions.{planA, emptyPlan, repeated, withItself, sameSlot, single, slowA, slowest, without, tooSlow, termsOf}
 use Rattle.examples.specs.Questions.{Example, checks, station, appearance}
@@ -57,111 +57,111 @@ few-slowest = leb-true _ _ refl
 -- ---- the entries, each by itself
 
 empty-source : right (station emptyPlan 0 0 0 1) ≡ true
-unfolding from below sum select any member distinct leadsTo mayFollow along step run lastOr holds endsIn isWalk isPath isInterior orElse firstNonempty hops endsBelow wordAt contactAt records planOf cause first outside wrongLength wrongSlot wrongEnds isAbove wrongOrder recordCauses planCauses planFault wrongTurnaround pairCauses stationCauses unless over sameNumbers indexIn stay give goFirst goNext go move wayCauses sameLists sameReply flatMap bind grown grownShortest onward grownWalks grownWalksTo pairsBy loadBy
+unfolding from below sum select any member distinct leadsTo mayFollow along step run lastOr holds endsIn isWalk isPath isInterior orElse firstNonempty hops endsBelow wordAt contactAt records planOf cause first outside wrongLength wrongSlot wrongEnds isAbove wrongOrder recordCauses planCauses planFault wrongTurnaround wrongKeeping termsCauses endsCauses pairCauses stationCauses unless over sameNumbers indexIn stay give goFirst goNext go move wayCauses sameLists sameReply flatMap bind grown grownShortest onward grownWalks grownWalksTo pairsBy loadBy
 empty-source = station-right emptyPlan few-empty 0 0 refl 0 1 refl
 
 station-three : right (station planA 0 3 2 3) ≡ true
-unfolding from below sum select any member distinct leadsTo mayFollow along step run lastOr holds endsIn isWalk isPath isInterior orElse firstNonempty hops endsBelow wordAt contactAt records planOf cause first outside wrongLength wrongSlot wrongEnds isAbove wrongOrder recordCauses planCauses planFault wrongTurnaround pairCauses stationCauses unless over sameNumbers indexIn stay give goFirst goNext go move wayCauses sameLists sameReply flatMap bind grown grownShortest onward grownWalks grownWalksTo pairsBy loadBy
+unfolding from below sum select any member distinct leadsTo mayFollow along step run lastOr holds endsIn isWalk isPath isInterior orElse firstNonempty hops endsBelow wordAt contactAt records planOf cause first outside wrongLength wrongSlot wrongEnds isAbove wrongOrder recordCauses planCauses planFault wrongTurnaround wrongKeeping termsCauses endsCauses pairCauses stationCauses unless over sameNumbers indexIn stay give goFirst goNext go move wayCauses sameLists sameReply flatMap bind grown grownShortest onward grownWalks grownWalksTo pairsBy loadBy
 station-three = station-right planA few-a 0 3 refl 2 3 refl
 
 station-four : right (station planA 0 4 3 3) ≡ true
-unfolding from below sum select any member distinct leadsTo mayFollow along step run lastOr holds endsIn isWalk isPath isInterior orElse firstNonempty hops endsBelow wordAt contactAt records planOf cause first outside wrongLength wrongSlot wrongEnds isAbove wrongOrder recordCauses planCauses planFault wrongTurnaround pairCauses stationCauses unless over sameNumbers indexIn stay give goFirst goNext go move wayCauses sameLists sameReply flatMap bind grown grownShortest onward grownWalks grownWalksTo pairsBy loadBy
+unfolding from below sum select any member distinct leadsTo mayFollow along step run lastOr holds endsIn isWalk isPath isInterior orElse firstNonempty hops endsBelow wordAt contactAt records planOf cause first outside wrongLength wrongSlot wrongEnds isAbove wrongOrder recordCauses planCauses planFault wrongTurnaround wrongKeeping termsCauses endsCauses pairCauses stationCauses unless over sameNumbers indexIn stay give goFirst goNext go move wayCauses sameLists sameReply flatMap bind grown grownShortest onward grownWalks grownWalksTo pairsBy loadBy
 station-four = station-right planA few-a 0 4 refl 3 3 refl
 
 back-home : right (appearance planA 0 2 3 3 2) ≡ true
-unfolding from below sum select any member distinct leadsTo mayFollow along step run lastOr holds endsIn isWalk isPath isInterior orElse firstNonempty hops endsBelow wordAt contactAt records planOf cause first outside wrongLength wrongSlot wrongEnds isAbove wrongOrder recordCauses planCauses planFault wrongTurnaround pairCauses stationCauses unless over sameNumbers indexIn stay give goFirst goNext go move wayCauses sameLists sameReply flatMap bind grown grownShortest onward grownWalks grownWalksTo pairsBy loadBy
+unfolding from below sum select any member distinct leadsTo mayFollow along step run lastOr holds endsIn isWalk isPath isInterior orElse firstNonempty hops endsBelow wordAt contactAt records planOf cause first outside wrongLength wrongSlot wrongEnds isAbove wrongOrder recordCauses planCauses planFault wrongTurnaround wrongKeeping termsCauses endsCauses pairCauses stationCauses unless over sameNumbers indexIn stay give goFirst goNext go move wayCauses sameLists sameReply flatMap bind grown grownShortest onward grownWalks grownWalksTo pairsBy loadBy
 back-home = appearance-right planA few-a 0 2 refl 3 3 2 refl
 
 its-walks : right (walks planA 0 2 3 ((0 ∷ 4 ∷ 9 ∷ []) ∷ (1 ∷ 5 ∷ 9 ∷ []) ∷ []) ((0 ∷ 4 ∷ 9 ∷ []) ∷ [])) ≡ true
-unfolding from below sum select any member distinct leadsTo mayFollow along step run lastOr holds endsIn isWalk isPath isInterior orElse firstNonempty hops endsBelow wordAt contactAt records planOf cause first outside wrongLength wrongSlot wrongEnds isAbove wrongOrder recordCauses planCauses planFault wrongTurnaround pairCauses stationCauses unless over sameNumbers indexIn stay give goFirst goNext go move wayCauses sameLists sameReply flatMap bind grown grownShortest onward grownWalks grownWalksTo pairsBy loadBy
+unfolding from below sum select any member distinct leadsTo mayFollow along step run lastOr holds endsIn isWalk isPath isInterior orElse firstNonempty hops endsBelow wordAt contactAt records planOf cause first outside wrongLength wrongSlot wrongEnds isAbove wrongOrder recordCauses planCauses planFault wrongTurnaround wrongKeeping termsCauses endsCauses pairCauses stationCauses unless over sameNumbers indexIn stay give goFirst goNext go move wayCauses sameLists sameReply flatMap bind grown grownShortest onward grownWalks grownWalksTo pairsBy loadBy
 its-walks = walks-right planA 0 2 3 _ _ refl
 
 station-two : right (station planA 0 2 1 1) ≡ true
-unfolding from below sum select any member distinct leadsTo mayFollow along step run lastOr holds endsIn isWalk isPath isInterior orElse firstNonempty hops endsBelow wordAt contactAt records planOf cause first outside wrongLength wrongSlot wrongEnds isAbove wrongOrder recordCauses planCauses planFault wrongTurnaround pairCauses stationCauses unless over sameNumbers indexIn stay give goFirst goNext go move wayCauses sameLists sameReply flatMap bind grown grownShortest onward grownWalks grownWalksTo pairsBy loadBy
+unfolding from below sum select any member distinct leadsTo mayFollow along step run lastOr holds endsIn isWalk isPath isInterior orElse firstNonempty hops endsBelow wordAt contactAt records planOf cause first outside wrongLength wrongSlot wrongEnds isAbove wrongOrder recordCauses planCauses planFault wrongTurnaround wrongKeeping termsCauses endsCauses pairCauses stationCauses unless over sameNumbers indexIn stay give goFirst goNext go move wayCauses sameLists sameReply flatMap bind grown grownShortest onward grownWalks grownWalksTo pairsBy loadBy
 station-two = station-right planA few-a 0 2 refl 1 1 refl
 
 complete-list : right (complete planA 0 4 ((0 ∷ 4 ∷ 10 ∷ []) ∷ (1 ∷ 5 ∷ 10 ∷ []) ∷ (1 ∷ 8 ∷ 10 ∷ []) ∷ [])) ≡ true
-unfolding from below sum select any member distinct leadsTo mayFollow along step run lastOr holds endsIn isWalk isPath isInterior orElse firstNonempty hops endsBelow wordAt contactAt records planOf cause first outside wrongLength wrongSlot wrongEnds isAbove wrongOrder recordCauses planCauses planFault wrongTurnaround pairCauses stationCauses unless over sameNumbers indexIn stay give goFirst goNext go move wayCauses sameLists sameReply flatMap bind grown grownShortest onward grownWalks grownWalksTo pairsBy loadBy
+unfolding from below sum select any member distinct leadsTo mayFollow along step run lastOr holds endsIn isWalk isPath isInterior orElse firstNonempty hops endsBelow wordAt contactAt records planOf cause first outside wrongLength wrongSlot wrongEnds isAbove wrongOrder recordCauses planCauses planFault wrongTurnaround wrongKeeping termsCauses endsCauses pairCauses stationCauses unless over sameNumbers indexIn stay give goFirst goNext go move wayCauses sameLists sameReply flatMap bind grown grownShortest onward grownWalks grownWalksTo pairsBy loadBy
 complete-list = complete-right planA 0 4 _ refl
 
 first-given : right (gives first-way planA 0 4 (9 ∷ 9 ∷ 9 ∷ 9 ∷ []) (path 3) (0 ∷ 4 ∷ 10 ∷ 9 ∷ [])) ≡ true
-unfolding from below sum select any member distinct leadsTo mayFollow along step run lastOr holds endsIn isWalk isPath isInterior orElse firstNonempty hops endsBelow wordAt contactAt records planOf cause first outside wrongLength wrongSlot wrongEnds isAbove wrongOrder recordCauses planCauses planFault wrongTurnaround pairCauses stationCauses unless over sameNumbers indexIn stay give goFirst goNext go move wayCauses sameLists sameReply flatMap bind grown grownShortest onward grownWalks grownWalksTo pairsBy loadBy
+unfolding from below sum select any member distinct leadsTo mayFollow along step run lastOr holds endsIn isWalk isPath isInterior orElse firstNonempty hops endsBelow wordAt contactAt records planOf cause first outside wrongLength wrongSlot wrongEnds isAbove wrongOrder recordCauses planCauses planFault wrongTurnaround wrongKeeping termsCauses endsCauses pairCauses stationCauses unless over sameNumbers indexIn stay give goFirst goNext go move wayCauses sameLists sameReply flatMap bind grown grownShortest onward grownWalks grownWalksTo pairsBy loadBy
 first-given = gives-right planA few-a first-way 0 4 (9 ∷ 9 ∷ 9 ∷ 9 ∷ []) (path 3) (0 ∷ 4 ∷ 10 ∷ 9 ∷ []) refl refl
 
 second-given : right (gives next-way planA 0 4 (0 ∷ 4 ∷ 10 ∷ 9 ∷ []) (path 3) (1 ∷ 5 ∷ 10 ∷ 9 ∷ [])) ≡ true
-unfolding from below sum select any member distinct leadsTo mayFollow along step run lastOr holds endsIn isWalk isPath isInterior orElse firstNonempty hops endsBelow wordAt contactAt records planOf cause first outside wrongLength wrongSlot wrongEnds isAbove wrongOrder recordCauses planCauses planFault wrongTurnaround pairCauses stationCauses unless over sameNumbers indexIn stay give goFirst goNext go move wayCauses sameLists sameReply flatMap bind grown grownShortest onward grownWalks grownWalksTo pairsBy loadBy
+unfolding from below sum select any member distinct leadsTo mayFollow along step run lastOr holds endsIn isWalk isPath isInterior orElse firstNonempty hops endsBelow wordAt contactAt records planOf cause first outside wrongLength wrongSlot wrongEnds isAbove wrongOrder recordCauses planCauses planFault wrongTurnaround wrongKeeping termsCauses endsCauses pairCauses stationCauses unless over sameNumbers indexIn stay give goFirst goNext go move wayCauses sameLists sameReply flatMap bind grown grownShortest onward grownWalks grownWalksTo pairsBy loadBy
 second-given = gives-right planA few-a next-way 0 4 (0 ∷ 4 ∷ 10 ∷ 9 ∷ []) (path 3) (1 ∷ 5 ∷ 10 ∷ 9 ∷ []) refl refl
 
 third-given : right (gives next-way planA 0 4 (1 ∷ 5 ∷ 10 ∷ 9 ∷ []) (path 3) (1 ∷ 8 ∷ 10 ∷ 9 ∷ [])) ≡ true
-unfolding from below sum select any member distinct leadsTo mayFollow along step run lastOr holds endsIn isWalk isPath isInterior orElse firstNonempty hops endsBelow wordAt contactAt records planOf cause first outside wrongLength wrongSlot wrongEnds isAbove wrongOrder recordCauses planCauses planFault wrongTurnaround pairCauses stationCauses unless over sameNumbers indexIn stay give goFirst goNext go move wayCauses sameLists sameReply flatMap bind grown grownShortest onward grownWalks grownWalksTo pairsBy loadBy
+unfolding from below sum select any member distinct leadsTo mayFollow along step run lastOr holds endsIn isWalk isPath isInterior orElse firstNonempty hops endsBelow wordAt contactAt records planOf cause first outside wrongLength wrongSlot wrongEnds isAbove wrongOrder recordCauses planCauses planFault wrongTurnaround wrongKeeping termsCauses endsCauses pairCauses stationCauses unless over sameNumbers indexIn stay give goFirst goNext go move wayCauses sameLists sameReply flatMap bind grown grownShortest onward grownWalks grownWalksTo pairsBy loadBy
 third-given = gives-right planA few-a next-way 0 4 (1 ∷ 5 ∷ 10 ∷ 9 ∷ []) (path 3) (1 ∷ 8 ∷ 10 ∷ 9 ∷ []) refl refl
 
 through-table : right (throughs planA 0 4 (0 ∷ 1 ∷ 2 ∷ 3 ∷ 0 ∷ [])) ≡ true
-unfolding from below sum select any member distinct leadsTo mayFollow along step run lastOr holds endsIn isWalk isPath isInterior orElse firstNonempty hops endsBelow wordAt contactAt records planOf cause first outside wrongLength wrongSlot wrongEnds isAbove wrongOrder recordCauses planCauses planFault wrongTurnaround pairCauses stationCauses unless over sameNumbers indexIn stay give goFirst goNext go move wayCauses sameLists sameReply flatMap bind grown grownShortest onward grownWalks grownWalksTo pairsBy loadBy
+unfolding from below sum select any member distinct leadsTo mayFollow along step run lastOr holds endsIn isWalk isPath isInterior orElse firstNonempty hops endsBelow wordAt contactAt records planOf cause first outside wrongLength wrongSlot wrongEnds isAbove wrongOrder recordCauses planCauses planFault wrongTurnaround wrongKeeping termsCauses endsCauses pairCauses stationCauses unless over sameNumbers indexIn stay give goFirst goNext go move wayCauses sameLists sameReply flatMap bind grown grownShortest onward grownWalks grownWalksTo pairsBy loadBy
 through-table = throughs-right planA few-a 0 4 _ refl refl
 
 none-given : right (gives first-way planA 2 1 (9 ∷ 9 ∷ 9 ∷ 9 ∷ []) no-path (9 ∷ 9 ∷ 9 ∷ 9 ∷ [])) ≡ true
-unfolding from below sum select any member distinct leadsTo mayFollow along step run lastOr holds endsIn isWalk isPath isInterior orElse firstNonempty hops endsBelow wordAt contactAt records planOf cause first outside wrongLength wrongSlot wrongEnds isAbove wrongOrder recordCauses planCauses planFault wrongTurnaround pairCauses stationCauses unless over sameNumbers indexIn stay give goFirst goNext go move wayCauses sameLists sameReply flatMap bind grown grownShortest onward grownWalks grownWalksTo pairsBy loadBy
+unfolding from below sum select any member distinct leadsTo mayFollow along step run lastOr holds endsIn isWalk isPath isInterior orElse firstNonempty hops endsBelow wordAt contactAt records planOf cause first outside wrongLength wrongSlot wrongEnds isAbove wrongOrder recordCauses planCauses planFault wrongTurnaround wrongKeeping termsCauses endsCauses pairCauses stationCauses unless over sameNumbers indexIn stay give goFirst goNext go move wayCauses sameLists sameReply flatMap bind grown grownShortest onward grownWalks grownWalksTo pairsBy loadBy
 none-given = gives-right planA few-a first-way 2 1 (9 ∷ 9 ∷ 9 ∷ 9 ∷ []) no-path (9 ∷ 9 ∷ 9 ∷ 9 ∷ []) refl refl
 
 last-told : right (gives next-way planA 0 4 (1 ∷ 8 ∷ 10 ∷ 9 ∷ []) last-path (1 ∷ 8 ∷ 10 ∷ 9 ∷ [])) ≡ true
-unfolding from below sum select any member distinct leadsTo mayFollow along step run lastOr holds endsIn isWalk isPath isInterior orElse firstNonempty hops endsBelow wordAt contactAt records planOf cause first outside wrongLength wrongSlot wrongEnds isAbove wrongOrder recordCauses planCauses planFault wrongTurnaround pairCauses stationCauses unless over sameNumbers indexIn stay give goFirst goNext go move wayCauses sameLists sameReply flatMap bind grown grownShortest onward grownWalks grownWalksTo pairsBy loadBy
+unfolding from below sum select any member distinct leadsTo mayFollow along step run lastOr holds endsIn isWalk isPath isInterior orElse firstNonempty hops endsBelow wordAt contactAt records planOf cause first outside wrongLength wrongSlot wrongEnds isAbove wrongOrder recordCauses planCauses planFault wrongTurnaround wrongKeeping termsCauses endsCauses pairCauses stationCauses unless over sameNumbers indexIn stay give goFirst goNext go move wayCauses sameLists sameReply flatMap bind grown grownShortest onward grownWalks grownWalksTo pairsBy loadBy
 last-told = gives-right planA few-a next-way 0 4 (1 ∷ 8 ∷ 10 ∷ 9 ∷ []) last-path (1 ∷ 8 ∷ 10 ∷ 9 ∷ []) refl refl
 
 ten-told : right (gives next-way planA 0 4 (0 ∷ 5 ∷ 10 ∷ 9 ∷ []) (refused 10) (0 ∷ 5 ∷ 10 ∷ 9 ∷ [])) ≡ true
-unfolding from below sum select any member distinct leadsTo mayFollow along step run lastOr holds endsIn isWalk isPath isInterior orElse firstNonempty hops endsBelow wordAt contactAt records planOf cause first outside wrongLength wrongSlot wrongEnds isAbove wrongOrder recordCauses planCauses planFault wrongTurnaround pairCauses stationCauses unless over sameNumbers indexIn stay give goFirst goNext go move wayCauses sameLists sameReply flatMap bind grown grownShortest onward grownWalks grownWalksTo pairsBy loadBy
+unfolding from below sum select any member distinct leadsTo mayFollow along step run lastOr holds endsIn isWalk isPath isInterior orElse firstNonempty hops endsBelow wordAt contactAt records planOf cause first outside wrongLength wrongSlot wrongEnds isAbove wrongOrder recordCauses planCauses planFault wrongTurnaround wrongKeeping termsCauses endsCauses pairCauses stationCauses unless over sameNumbers indexIn stay give goFirst goNext go move wayCauses sameLists sameReply flatMap bind grown grownShortest onward grownWalks grownWalksTo pairsBy loadBy
 ten-told = gives-right planA few-a next-way 0 4 (0 ∷ 5 ∷ 10 ∷ 9 ∷ []) (refused 10) (0 ∷ 5 ∷ 10 ∷ 9 ∷ []) refl refl
 
 accepted : right (checks planA 0) ≡ true
-unfolding from below sum select any member distinct leadsTo mayFollow along step run lastOr holds endsIn isWalk isPath isInterior orElse firstNonempty hops endsBelow wordAt contactAt records planOf cause first outside wrongLength wrongSlot wrongEnds isAbove wrongOrder recordCauses planCauses planFault wrongTurnaround pairCauses stationCauses unless over sameNumbers indexIn stay give goFirst goNext go move wayCauses sameLists sameReply flatMap bind grown grownShortest onward grownWalks grownWalksTo pairsBy loadBy right
+unfolding from below sum select any member distinct leadsTo mayFollow along step run lastOr holds endsIn isWalk isPath isInterior orElse firstNonempty hops endsBelow wordAt contactAt records planOf cause first outside wrongLength wrongSlot wrongEnds isAbove wrongOrder recordCauses planCauses planFault wrongTurnaround wrongKeeping termsCauses endsCauses pairCauses stationCauses unless over sameNumbers indexIn stay give goFirst goNext go move wayCauses sameLists sameReply flatMap bind grown grownShortest onward grownWalks grownWalksTo pairsBy loadBy right
 accepted = refl
 
 repeated-refused : right (checks repeated 5) ≡ true
-unfolding from below sum select any member distinct leadsTo mayFollow along step run lastOr holds endsIn isWalk isPath isInterior orElse firstNonempty hops endsBelow wordAt contactAt records planOf cause first outside wrongLength wrongSlot wrongEnds isAbove wrongOrder recordCauses planCauses planFault wrongTurnaround pairCauses stationCauses unless over sameNumbers indexIn stay give goFirst goNext go move wayCauses sameLists sameReply flatMap bind grown grownShortest onward grownWalks grownWalksTo pairsBy loadBy right
+unfolding from below sum select any member distinct leadsTo mayFollow along step run lastOr holds endsIn isWalk isPath isInterior orElse firstNonempty hops endsBelow wordAt contactAt records planOf cause first outside wrongLength wrongSlot wrongEnds isAbove wrongOrder recordCauses planCauses planFault wrongTurnaround wrongKeeping termsCauses endsCauses pairCauses stationCauses unless over sameNumbers indexIn stay give goFirst goNext go move wayCauses sameLists sameReply flatMap bind grown grownShortest onward grownWalks grownWalksTo pairsBy loadBy right
 repeated-refused = refl
 
 itself-refused : right (checks withItself 4) ≡ true
-unfolding from below sum select any member distinct leadsTo mayFollow along step run lastOr holds endsIn isWalk isPath isInterior orElse firstNonempty hops endsBelow wordAt contactAt records planOf cause first outside wrongLength wrongSlot wrongEnds isAbove wrongOrder recordCauses planCauses planFault wrongTurnaround pairCauses stationCauses unless over sameNumbers indexIn stay give goFirst goNext go move wayCauses sameLists sameReply flatMap bind grown grownShortest onward grownWalks grownWalksTo pairsBy loadBy right
+unfolding from below sum select any member distinct leadsTo mayFollow along step run lastOr holds endsIn isWalk isPath isInterior orElse firstNonempty hops endsBelow wordAt contactAt records planOf cause first outside wrongLength wrongSlot wrongEnds isAbove wrongOrder recordCauses planCauses planFault wrongTurnaround wrongKeeping termsCauses endsCauses pairCauses stationCauses unless over sameNumbers indexIn stay give goFirst goNext go move wayCauses sameLists sameReply flatMap bind grown grownShortest onward grownWalks grownWalksTo pairsBy loadBy right
 itself-refused = refl
 
 loads-of-a : right (loadsOf planA (0 ∷ 2 ∷ 2 ∷ 4 ∷ 0 ∷ []) (0 ∷ 2863311530 ∷ 5726623060 ∷ 17179869184 ∷ 0 ∷ [])) ≡ true
-unfolding from below sum select any member distinct leadsTo mayFollow along step run lastOr holds endsIn isWalk isPath isInterior orElse firstNonempty hops endsBelow wordAt contactAt records planOf cause first outside wrongLength wrongSlot wrongEnds isAbove wrongOrder recordCauses planCauses planFault wrongTurnaround pairCauses stationCauses unless over sameNumbers indexIn stay give goFirst goNext go move wayCauses sameLists sameReply flatMap bind grown grownShortest onward grownWalks grownWalksTo pairsBy loadBy
+unfolding from below sum select any member distinct leadsTo mayFollow along step run lastOr holds endsIn isWalk isPath isInterior orElse firstNonempty hops endsBelow wordAt contactAt records planOf cause first outside wrongLength wrongSlot wrongEnds isAbove wrongOrder recordCauses planCauses planFault wrongTurnaround wrongKeeping termsCauses endsCauses pairCauses stationCauses unless over sameNumbers indexIn stay give goFirst goNext go move wayCauses sameLists sameReply flatMap bind grown grownShortest onward grownWalks grownWalksTo pairsBy loadBy
 loads-of-a = loads-right planA few-a _ _ refl refl
 
 same-slot : right (gives first-way sameSlot 0 2 (9 ∷ 9 ∷ []) no-path (9 ∷ 9 ∷ [])) ≡ true
-unfolding from below sum select any member distinct leadsTo mayFollow along step run lastOr holds endsIn isWalk isPath isInterior orElse firstNonempty hops endsBelow wordAt contactAt records planOf cause first outside wrongLength wrongSlot wrongEnds isAbove wrongOrder recordCauses planCauses planFault wrongTurnaround pairCauses stationCauses unless over sameNumbers indexIn stay give goFirst goNext go move wayCauses sameLists sameReply flatMap bind grown grownShortest onward grownWalks grownWalksTo pairsBy loadBy
+unfolding from below sum select any member distinct leadsTo mayFollow along step run lastOr holds endsIn isWalk isPath isInterior orElse firstNonempty hops endsBelow wordAt contactAt records planOf cause first outside wrongLength wrongSlot wrongEnds isAbove wrongOrder recordCauses planCauses planFault wrongTurnaround wrongKeeping termsCauses endsCauses pairCauses stationCauses unless over sameNumbers indexIn stay give goFirst goNext go move wayCauses sameLists sameReply flatMap bind grown grownShortest onward grownWalks grownWalksTo pairsBy loadBy
 same-slot = gives-right sameSlot few-same first-way 0 2 (9 ∷ 9 ∷ []) no-path (9 ∷ 9 ∷ []) refl refl
 
 one-way : right (gives first-way single 0 1 (9 ∷ []) (path 1) (0 ∷ [])) ≡ true
-unfolding from below sum select any member distinct leadsTo mayFollow along step run lastOr holds endsIn isWalk isPath isInterior orElse firstNonempty hops endsBelow wordAt contactAt records planOf cause first outside wrongLength wrongSlot wrongEnds isAbove wrongOrder recordCauses planCauses planFault wrongTurnaround pairCauses stationCauses unless over sameNumbers indexIn stay give goFirst goNext go move wayCauses sameLists sameReply flatMap bind grown grownShortest onward grownWalks grownWalksTo pairsBy loadBy
+unfolding from below sum select any member distinct leadsTo mayFollow along step run lastOr holds endsIn isWalk isPath isInterior orElse firstNonempty hops endsBelow wordAt contactAt records planOf cause first outside wrongLength wrongSlot wrongEnds isAbove wrongOrder recordCauses planCauses planFault wrongTurnaround wrongKeeping termsCauses endsCauses pairCauses stationCauses unless over sameNumbers indexIn stay give goFirst goNext go move wayCauses sameLists sameReply flatMap bind grown grownShortest onward grownWalks grownWalksTo pairsBy loadBy
 one-way = gives-right single few-single first-way 0 1 (9 ∷ []) (path 1) (0 ∷ []) refl refl
 
 no-way-back : right (gives first-way single 1 0 (9 ∷ []) no-path (9 ∷ [])) ≡ true
-unfolding from below sum select any member distinct leadsTo mayFollow along step run lastOr holds endsIn isWalk isPath isInterior orElse firstNonempty hops endsBelow wordAt contactAt records planOf cause first outside wrongLength wrongSlot wrongEnds isAbove wrongOrder recordCauses planCauses planFault wrongTurnaround pairCauses stationCauses unless over sameNumbers indexIn stay give goFirst goNext go move wayCauses sameLists sameReply flatMap bind grown grownShortest onward grownWalks grownWalksTo pairsBy loadBy
+unfolding from below sum select any member distinct leadsTo mayFollow along step run lastOr holds endsIn isWalk isPath isInterior orElse firstNonempty hops endsBelow wordAt contactAt records planOf cause first outside wrongLength wrongSlot wrongEnds isAbove wrongOrder recordCauses planCauses planFault wrongTurnaround wrongKeeping termsCauses endsCauses pairCauses stationCauses unless over sameNumbers indexIn stay give goFirst goNext go move wayCauses sameLists sameReply flatMap bind grown grownShortest onward grownWalks grownWalksTo pairsBy loadBy
 no-way-back = gives-right single few-single first-way 1 0 (9 ∷ []) no-path (9 ∷ []) refl refl
 
 no-time : right (gives first-way slowA 0 4 (9 ∷ 9 ∷ 9 ∷ 9 ∷ []) no-path (9 ∷ 9 ∷ 9 ∷ 9 ∷ [])) ≡ true
-unfolding from below sum select any member distinct leadsTo mayFollow along step run lastOr holds endsIn isWalk isPath isInterior orElse firstNonempty hops endsBelow wordAt contactAt records planOf cause first outside wrongLength wrongSlot wrongEnds isAbove wrongOrder recordCauses planCauses planFault wrongTurnaround pairCauses stationCauses unless over sameNumbers indexIn stay give goFirst goNext go move wayCauses sameLists sameReply flatMap bind grown grownShortest onward grownWalks grownWalksTo pairsBy loadBy
+unfolding from below sum select any member distinct leadsTo mayFollow along step run lastOr holds endsIn isWalk isPath isInterior orElse firstNonempty hops endsBelow wordAt contactAt records planOf cause first outside wrongLength wrongSlot wrongEnds isAbove wrongOrder recordCauses planCauses planFault wrongTurnaround wrongKeeping termsCauses endsCauses pairCauses stationCauses unless over sameNumbers indexIn stay give goFirst goNext go move wayCauses sameLists sameReply flatMap bind grown grownShortest onward grownWalks grownWalksTo pairsBy loadBy
 no-time = gives-right slowA few-slow first-way 0 4 (9 ∷ 9 ∷ 9 ∷ 9 ∷ []) no-path (9 ∷ 9 ∷ 9 ∷ 9 ∷ []) refl refl
 
 in-time : right (complete slowA 0 3 ((1 ∷ 8 ∷ []) ∷ [])) ≡ true
-unfolding from below sum select any member distinct leadsTo mayFollow along step run lastOr holds endsIn isWalk isPath isInterior orElse firstNonempty hops endsBelow wordAt contactAt records planOf cause first outside wrongLength wrongSlot wrongEnds isAbove wrongOrder recordCauses planCauses planFault wrongTurnaround pairCauses stationCauses unless over sameNumbers indexIn stay give goFirst goNext go move wayCauses sameLists sameReply flatMap bind grown grownShortest onward grownWalks grownWalksTo pairsBy loadBy
+unfolding from below sum select any member distinct leadsTo mayFollow along step run lastOr holds endsIn isWalk isPath isInterior orElse firstNonempty hops endsBelow wordAt contactAt records planOf cause first outside wrongLength wrongSlot wrongEnds isAbove wrongOrder recordCauses planCauses planFault wrongTurnaround wrongKeeping termsCauses endsCauses pairCauses stationCauses unless over sameNumbers indexIn stay give goFirst goNext go move wayCauses sameLists sameReply flatMap bind grown grownShortest onward grownWalks grownWalksTo pairsBy loadBy
 in-time = complete-right slowA 0 3 _ refl
 
 loads-of-slow : right (loadsOf slowA (0 ∷ 0 ∷ 1 ∷ 2 ∷ 0 ∷ []) (0 ∷ 0 ∷ 4294967296 ∷ 8589934592 ∷ 0 ∷ [])) ≡ true
-unfolding from below sum select any member distinct leadsTo mayFollow along step run lastOr holds endsIn isWalk isPath isInterior orElse firstNonempty hops endsBelow wordAt contactAt records planOf cause first outside wrongLength wrongSlot wrongEnds isAbove wrongOrder recordCauses planCauses planFault wrongTurnaround pairCauses stationCauses unless over sameNumbers indexIn stay give goFirst goNext go move wayCauses sameLists sameReply flatMap bind grown grownShortest onward grownWalks grownWalksTo pairsBy loadBy
+unfolding from below sum select any member distinct leadsTo mayFollow along step run lastOr holds endsIn isWalk isPath isInterior orElse firstNonempty hops endsBelow wordAt contactAt records planOf cause first outside wrongLength wrongSlot wrongEnds isAbove wrongOrder recordCauses planCauses planFault wrongTurnaround wrongKeeping termsCauses endsCauses pairCauses stationCauses unless over sameNumbers indexIn stay give goFirst goNext go move wayCauses sameLists sameReply flatMap bind grown grownShortest onward grownWalks grownWalksTo pairsBy loadBy
 loads-of-slow = loads-right slowA few-slow _ _ refl refl
 
 first-leg : right (gives first-way slowest 0 1 (9 ∷ []) (path 1) (0 ∷ [])) ≡ true
-unfolding from below sum select any member distinct leadsTo mayFollow along step run lastOr holds endsIn isWalk isPath isInterior orElse firstNonempty hops endsBelow wordAt contactAt records planOf cause first outside wrongLength wrongSlot wrongEnds isAbove wrongOrder recordCauses planCauses planFault wrongTurnaround pairCauses stationCauses unless over sameNumbers indexIn stay give goFirst goNext go move wayCauses sameLists sameReply flatMap bind grown grownShortest onward grownWalks grownWalksTo pairsBy loadBy
+unfolding from below sum select any member distinct leadsTo mayFollow along step run lastOr holds endsIn isWalk isPath isInterior orElse firstNonempty hops endsBelow wordAt contactAt records planOf cause first outside wrongLength wrongSlot wrongEnds isAbove wrongOrder recordCauses planCauses planFault wrongTurnaround wrongKeeping termsCauses endsCauses pairCauses stationCauses unless over sameNumbers indexIn stay give goFirst goNext go move wayCauses sameLists sameReply flatMap bind grown grownShortest onward grownWalks grownWalksTo pairsBy loadBy
 first-leg = gives-right slowest few-slowest first-way 0 1 (9 ∷ []) (path 1) (0 ∷ []) refl refl
 
 none-refused : right (gives first-way without 0 9 [] (refused 12) []) ≡ true
-unfolding from below sum select any member distinct leadsTo mayFollow along step run lastOr holds endsIn isWalk isPath isInterior orElse firstNonempty hops endsBelow wordAt contactAt records planOf cause first outside wrongLength wrongSlot wrongEnds isAbove wrongOrder recordCauses planCauses planFault wrongTurnaround pairCauses stationCauses unless over sameNumbers indexIn stay give goFirst goNext go move wayCauses sameLists sameReply flatMap bind grown grownShortest onward grownWalks grownWalksTo pairsBy loadBy right wayAnswer
+unfolding from below sum select any member distinct leadsTo mayFollow along step run lastOr holds endsIn isWalk isPath isInterior orElse firstNonempty hops endsBelow wordAt contactAt records planOf cause first outside wrongLength wrongSlot wrongEnds isAbove wrongOrder recordCauses planCauses planFault wrongTurnaround wrongKeeping termsCauses endsCauses pairCauses stationCauses unless over sameNumbers indexIn stay give goFirst goNext go move wayCauses sameLists sameReply flatMap bind grown grownShortest onward grownWalks grownWalksTo pairsBy loadBy right wayAnswer
 none-refused = refl
 
 seventeen-refused : right (gives next-way tooSlow 0 9 [] (refused 12) []) ≡ true
-unfolding from below sum select any member distinct leadsTo mayFollow along step run lastOr holds endsIn isWalk isPath isInterior orElse firstNonempty hops endsBelow wordAt contactAt records planOf cause first outside wrongLength wrongSlot wrongEnds isAbove wrongOrder recordCauses planCauses planFault wrongTurnaround pairCauses stationCauses unless over sameNumbers indexIn stay give goFirst goNext go move wayCauses sameLists sameReply flatMap bind grown grownShortest onward grownWalks grownWalksTo pairsBy loadBy right wayAnswer
+unfolding from below sum select any member distinct leadsTo mayFollow along step run lastOr holds endsIn isWalk isPath isInterior orElse firstNonempty hops endsBelow wordAt contactAt records planOf cause first outside wrongLength wrongSlot wrongEnds isAbove wrongOrder recordCauses planCauses planFault wrongTurnaround wrongKeeping termsCauses endsCauses pairCauses stationCauses unless over sameNumbers indexIn stay give goFirst goNext go move wayCauses sameLists sameReply flatMap bind grown grownShortest onward grownWalks grownWalksTo pairsBy loadBy right wayAnswer
 seventeen-refused = refl
 
 -- a right entry before right ones

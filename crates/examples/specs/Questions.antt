@@ -11,7 +11,8 @@ use Rattle.temporal.specs.Outcome.{ReachTables, places, reach}
 use Rattle.temporal.specs.Cursor.{Reply, path, no-path, last-path, refused, sameNumbers, Operation}
 use Rattle.temporal.specs.FirstNext.{Question}
 
--- a plan's bytes with its numbers of stations and slots, and the turnaround (document 02, C-17)
+-- a plan's bytes with its numbers of stations and slots, and the turnaround (document 02, C-17); its units keep a reading until the plan
+-- ends
 pub record PlanBytes : Type 0 where
   pub bytes : List ℕ
   pub stations : ℕ

@@ -50,7 +50,7 @@ fn appearance_too_many(
     requires { ⌜ AppearancesReady (now plan) n t (turning g) s (now work) ⌝ }
     ensures { λ r. ⌜ Appearances (now (plan .entry)) n t (turning g) s (now (work .entry)) (now (work .exit)) r ⌝ }
 {
-    let ended = pass::pass_until(work, plan, n, t, g, s, 0, 0, n);
+    let ended = forward::pass_until(work, plan, n, t, g, 255, 255, s, 0, 0, n);
     met_appearance(ended)
 }
 
@@ -73,7 +73,7 @@ fn foremost_throughs(
     if appearance_too_many(work, plan, n, t, g, s) {
         return 0;
     }
-    pair::throughs(through, work, plan, n, t, g, s, z, z)
+    pair::throughs(through, work, plan, n, t, g, 255, s, z, z)
 }
 
 // The slot of arrival, from the slot in which the pass ended: 65535 where there is no path.
@@ -98,7 +98,8 @@ fn foremost_work(
     z: usize,
 ) -> ForemostAnswer
     requires { ⌜ PairReady (now plan) n t (turning g) s z (now through) (now work) ⌝ }
-    ensures { λ r. ⌜ foremostOutcome r (pairBuffers (now (through .exit)) (now (work .exit))) ≡ foremostPaired (planOf (now (plan .entry)) n t (turning g)) s z (pairBuffers (now (through .entry)) (now (work .entry))) ⌝ }
+    ensures { λ r. ⌜ foremostOutcome r (pairBuffers (now (through .exit)) (now (work .exit))) ≡
+        foremostPaired (planOf (now (plan .entry)) n t (turning g)) s z (pairBuffers (now (through .entry)) (now (work .entry))) ⌝ }
 {
     let slot = foremost_throughs(through, work, plan, n, t, g, s, z);
     if slot == 0 {
@@ -124,10 +125,20 @@ fn foremost_accepted(
     z: usize,
 ) -> ForemostAnswer
     requires { ⌜ planFault (now plan) n t ≡ 0 ⌝ }
-    ensures { λ r. ⌜ foremostOutcome r (pairBuffers (now (through .exit)) (now (work .exit))) ≡ foremost (now (plan .entry)) n t (turning g) s z (pairBuffers (now (through .entry)) (now (work .entry))) ⌝ }
+    ensures { λ r. ⌜ foremostOutcome r (pairBuffers (now (through .exit)) (now (work .exit))) ≡
+        foremost (now (plan .entry)) n t (turning g) s z (pairBuffers (now (through .entry)) (now (work .entry))) ⌝ }
 {
-    let CallCheck::Refused(fault) = calls::pair_call(n, t, g, s, z, through.len(), n, work.len())
-    else {
+    let CallCheck::Refused(fault) = calls::pair_call(
+        n,
+        t,
+        g,
+        255,
+        s,
+        z,
+        through.len(),
+        n,
+        work.len(),
+    ) else {
         return foremost_work(through, work, plan, n, t, g, s, z);
     };
     ForemostAnswer::Refused(Fault::Call(fault))
@@ -145,7 +156,8 @@ pub fn foremost(
     through: &mut [u64],
     work: &mut [u64],
 ) -> ForemostAnswer
-    ensures { λ r. ⌜ foremostOutcome r (pairBuffers (now (through .exit)) (now (work .exit))) ≡ foremost (now (plan .entry)) n t (turning g) s z (pairBuffers (now (through .entry)) (now (work .entry))) ⌝ }
+    ensures { λ r. ⌜ foremostOutcome r (pairBuffers (now (through .exit)) (now (work .exit))) ≡
+        foremost (now (plan .entry)) n t (turning g) s z (pairBuffers (now (through .entry)) (now (work .entry))) ⌝ }
 {
     let CheckAnswer::Refused(fault) = plan::check(plan, n, t) else {
         return foremost_accepted(through, work, plan, n, t, g, s, z);

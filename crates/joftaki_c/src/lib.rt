@@ -2,7 +2,7 @@
 // and the values beside it in lent slots, 0 on refusal. include/joftaki.h declares them.
 ghost use mathlib.Core.Path.{_≡_};
 ghost use mathlib.Core.Option.{some};
-ghost use Rattle.temporal.specs.Plan.{turning};
+ghost use Rattle.temporal.specs.Plan.{units, turning};
 ghost use Rattle.temporal.specs.Cause.{planFault};
 ghost use Rattle.temporal.specs.Outcome.{reach, rowNumber};
 ghost use Rattle.temporal.specs.OutcomePair.{pair, partialLoads, loads, busiest};
@@ -62,15 +62,30 @@ pub extern "C" fn joftaki_reach(
     n: usize,
     t: usize,
     g: usize,
+    h: usize,
     s: usize,
     hops: &mut [u16],
     counts: &mut [u64],
     station_hops: &mut [u16],
     station_counts: &mut [u64],
 ) -> u32
-    ensures { λ r. ⌜ answered r (lentTables (now (hops .exit)) (now (counts .exit)) (now («station_hops» .exit)) (now («station_counts» .exit))) ≡ reach (now (plan .entry)) n t (turning g) s (lentTables (now (hops .entry)) (now (counts .entry)) (now («station_hops» .entry)) (now («station_counts» .entry))) ⌝ }
+    ensures { λ r. ⌜ answered r (lentTables (now (hops .exit)) (now (counts .exit)) (now («station_hops» .exit))
+        (now («station_counts» .exit))) ≡
+        reach (now (plan .entry)) n t (units g h) s
+        (lentTables (now (hops .entry)) (now (counts .entry)) (now («station_hops» .entry)) (now («station_counts» .entry))) ⌝ }
 {
-    match reach::reach(plan, n, t, g, s, hops, counts, station_hops, station_counts) {
+    match reach::reach(
+        plan,
+        n,
+        t,
+        g,
+        h,
+        s,
+        hops,
+        counts,
+        station_hops,
+        station_counts,
+    ) {
         ReachAnswer::Reached => 0,
         ReachAnswer::Refused(fault) => fault_code(fault),
     }
@@ -114,6 +129,7 @@ pub extern "C" fn joftaki_pair(
     n: usize,
     t: usize,
     g: usize,
+    h: usize,
     s: usize,
     z: usize,
     hops: &mut usize,
@@ -121,11 +137,12 @@ pub extern "C" fn joftaki_pair(
     through: &mut [u64],
     work: &mut [u64],
 ) -> u32
-    ensures { λ r. ⌜ pairGiven r (now (hops .exit)) (now (count .exit)) (pairBuffers (now (through .exit)) (now (work .exit))) ≡ pair (now (plan .entry)) n t (turning g) s z (pairBuffers (now (through .entry)) (now (work .entry))) ⌝ }
+    ensures { λ r. ⌜ pairGiven r (now (hops .exit)) (now (count .exit)) (pairBuffers (now (through .exit)) (now (work .exit))) ≡
+        pair (now (plan .entry)) n t (units g h) s z (pairBuffers (now (through .entry)) (now (work .entry))) ⌝ }
 {
-    match pair::pair(plan, n, t, g, s, z, through, work) {
-        PairAnswer::Counted(h, c) => {
-            *hops = h as usize;
+    match pair::pair(plan, n, t, g, h, s, z, through, work) {
+        PairAnswer::Counted(l, c) => {
+            *hops = l as usize;
             *count = c;
             0
         }
@@ -154,14 +171,16 @@ pub extern "C" fn joftaki_partial_loads(
     n: usize,
     t: usize,
     g: usize,
+    h: usize,
     k: usize,
     pairs: &mut [u64],
     sums: &mut [u64],
     work: &mut [u64],
 ) -> u32
-    ensures { λ r. ⌜ answered r (loadBuffers (now (pairs .exit)) (now (sums .exit)) (now (work .exit))) ≡ partialLoads (now (plan .entry)) n t (turning g) k (loadBuffers (now (pairs .entry)) (now (sums .entry)) (now (work .entry))) ⌝ }
+    ensures { λ r. ⌜ answered r (loadBuffers (now (pairs .exit)) (now (sums .exit)) (now (work .exit))) ≡
+        partialLoads (now (plan .entry)) n t (units g h) k (loadBuffers (now (pairs .entry)) (now (sums .entry)) (now (work .entry))) ⌝ }
 {
-    loads_code(loads::partial_loads(plan, n, t, g, k, pairs, sums, work))
+    loads_code(loads::partial_loads(plan, n, t, g, h, k, pairs, sums, work))
 }
 
 // Operation 5, loads: its number, and the lent tables and work area as loads leaves them.
@@ -171,13 +190,15 @@ pub extern "C" fn joftaki_loads(
     n: usize,
     t: usize,
     g: usize,
+    h: usize,
     pairs: &mut [u64],
     sums: &mut [u64],
     work: &mut [u64],
 ) -> u32
-    ensures { λ r. ⌜ answered r (loadBuffers (now (pairs .exit)) (now (sums .exit)) (now (work .exit))) ≡ loads (now (plan .entry)) n t (turning g) (loadBuffers (now (pairs .entry)) (now (sums .entry)) (now (work .entry))) ⌝ }
+    ensures { λ r. ⌜ answered r (loadBuffers (now (pairs .exit)) (now (sums .exit)) (now (work .exit))) ≡
+        loads (now (plan .entry)) n t (units g h) (loadBuffers (now (pairs .entry)) (now (sums .entry)) (now (work .entry))) ⌝ }
 {
-    loads_code(loads::loads(plan, n, t, g, pairs, sums, work))
+    loads_code(loads::loads(plan, n, t, g, h, pairs, sums, work))
 }
 
 // Operation 6, busiest: its number, and the station in a slot; 0 on refusal.
@@ -187,12 +208,14 @@ pub extern "C" fn joftaki_busiest(
     n: usize,
     t: usize,
     g: usize,
+    h: usize,
     station: &mut usize,
     work: &mut [u64],
 ) -> u32
-    ensures { λ r. ⌜ busiestGiven r (now (station .exit)) (now (work .exit)) ≡ busiest (now (plan .entry)) n t (turning g) (now (work .entry)) ⌝ }
+    ensures { λ r. ⌜ busiestGiven r (now (station .exit)) (now (work .exit)) ≡
+        busiest (now (plan .entry)) n t (units g h) (now (work .entry)) ⌝ }
 {
-    match loads::busiest(plan, n, t, g, work) {
+    match loads::busiest(plan, n, t, g, h, work) {
         BusiestAnswer::Station(v) => {
             *station = v;
             0
@@ -211,15 +234,17 @@ pub extern "C" fn joftaki_through_set(
     n: usize,
     t: usize,
     g: usize,
+    h: usize,
     s: usize,
     z: usize,
     count: &mut u64,
     set: &[u8],
     work: &mut [u64],
 ) -> u32
-    ensures { λ r. ⌜ setGiven r (now (count .exit)) (now (work .exit)) ≡ throughSet (now (plan .entry)) n t (turning g) s z (now (set .entry)) (now (work .entry)) ⌝ }
+    ensures { λ r. ⌜ setGiven r (now (count .exit)) (now (work .exit)) ≡
+        throughSet (now (plan .entry)) n t (units g h) s z (now (set .entry)) (now (work .entry)) ⌝ }
 {
-    match sets::through_set(plan, n, t, g, s, z, set, work) {
+    match sets::through_set(plan, n, t, g, h, s, z, set, work) {
         SetAnswer::Counted(c) => {
             *count = c;
             0
@@ -249,15 +274,17 @@ pub extern "C" fn joftaki_verdict(
     n: usize,
     t: usize,
     g: usize,
+    h: usize,
     s: usize,
     z: usize,
     told: &mut u32,
     list: &[u16],
     work: &mut [u64],
 ) -> u32
-    ensures { λ r. ⌜ verdictTold r (now (told .exit)) (now (work .exit)) ≡ verdictCoded (verdict (now (plan .entry)) n t (turning g) s z (now (list .entry)) (now (work .entry))) ⌝ }
+    ensures { λ r. ⌜ verdictTold r (now (told .exit)) (now (work .exit)) ≡
+        verdictCoded (verdict (now (plan .entry)) n t (units g h) s z (now (list .entry)) (now (work .entry))) ⌝ }
 {
-    match verdicts::verdict(plan, n, t, g, s, z, list, work) {
+    match verdicts::verdict(plan, n, t, g, h, s, z, list, work) {
         VerdictAnswer::Judged(judgement) => {
             *told = verdict_code(judgement);
             0
@@ -285,7 +312,9 @@ pub extern "C" fn joftaki_foremost(
     through: &mut [u64],
     work: &mut [u64],
 ) -> u32
-    ensures { λ r. ⌜ foremostGiven r (now (arrival .exit)) (now (hops .exit)) (now (count .exit)) (pairBuffers (now (through .exit)) (now (work .exit))) ≡ foremost (now (plan .entry)) n t (turning g) s z (pairBuffers (now (through .entry)) (now (work .entry))) ⌝ }
+    ensures { λ r. ⌜ foremostGiven r (now (arrival .exit)) (now (hops .exit)) (now (count .exit))
+        (pairBuffers (now (through .exit)) (now (work .exit))) ≡
+        foremost (now (plan .entry)) n t (turning g) s z (pairBuffers (now (through .entry)) (now (work .entry))) ⌝ }
 {
     match foremost::foremost(plan, n, t, g, s, z, through, work) {
         ForemostAnswer::Counted(u, h, c) => {
@@ -334,15 +363,17 @@ pub extern "C" fn joftaki_first_way(
     n: usize,
     t: usize,
     g: usize,
+    h: usize,
     s: usize,
     z: usize,
     hops: &mut usize,
     way: &mut [u16],
     work: &mut [u64],
 ) -> u32
-    ensures { λ r. ⌜ wayGiven r (now (hops .exit)) (now (way .exit)) (now (work .exit)) ≡ wayExit (wayAnswer first-way (question (now (plan .entry)) n t g s z) (now (way .entry)) (now (work .entry))) ⌝ }
+    ensures { λ r. ⌜ wayGiven r (now (hops .exit)) (now (way .exit)) (now (work .exit)) ≡
+        wayExit (wayAnswer first-way (question (now (plan .entry)) n t g h s z) (now (way .entry)) (now (work .entry))) ⌝ }
 {
-    let answer = listing::first_way(plan, n, t, g, s, z, way, work);
+    let answer = listing::first_way(plan, n, t, g, h, s, z, way, work);
     *hops = way_hops(answer);
     way_code(answer)
 }
@@ -354,15 +385,17 @@ pub extern "C" fn joftaki_next_way(
     n: usize,
     t: usize,
     g: usize,
+    h: usize,
     s: usize,
     z: usize,
     hops: &mut usize,
     way: &mut [u16],
     work: &mut [u64],
 ) -> u32
-    ensures { λ r. ⌜ wayGiven r (now (hops .exit)) (now (way .exit)) (now (work .exit)) ≡ wayExit (wayAnswer next-way (question (now (plan .entry)) n t g s z) (now (way .entry)) (now (work .entry))) ⌝ }
+    ensures { λ r. ⌜ wayGiven r (now (hops .exit)) (now (way .exit)) (now (work .exit)) ≡
+        wayExit (wayAnswer next-way (question (now (plan .entry)) n t g h s z) (now (way .entry)) (now (work .entry))) ⌝ }
 {
-    let answer = listing::next_way(plan, n, t, g, s, z, way, work);
+    let answer = listing::next_way(plan, n, t, g, h, s, z, way, work);
     *hops = way_hops(answer);
     way_code(answer)
 }

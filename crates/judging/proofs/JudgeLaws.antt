@@ -1,4 +1,4 @@
--- A list of entries against the ways of the complete list, way by way. The laws are (kept). Assumes nothing.
+-- A list of entries against the ways of the complete list, way by way. Assumes nothing.
 use Prim.Native.Nat.{ℕ, zero, suc, _+_, _-_, _*_, _/_, _%_, _≤_, _<_}
 use mathlib.Core.Path.{_≡_, refl, sym, ap, ap₂, _∙_, subst}
 use mathlib.Core.Bool.{Bool, true, false}
@@ -253,7 +253,7 @@ module _ (bs : List ℕ) (q : Pair) (l : List ℕ) (g : Judgeable bs q l) (e : L
           let more : suc (length e / q .hops - 1) ≡ length e / q .hops = omega arith in
           rw more (omega arith)
 
--- ---- where there is no path
+-- ---- where there is no walk
 
 pub none-complete : (e : List ℕ) → length e ≡ 0 → complete ≡ verdictOn [] e
 unfolding joined flatMap

@@ -1,4 +1,4 @@
--- What a search behind the first legs of a way tells, for a pair with a path. The laws are (kept). Assumes nothing.
+-- What a search behind the first legs of a way tells, for a pair with a walk. Assumes nothing.
 use Prim.Native.Nat.{ℕ, zero, suc, _+_, _-_, _≤_, _<_}
 use mathlib.Core.Path.{_≡_, refl, sym, ap, ap₂, _∙_}
 use mathlib.Core.Bool.{Bool, true, false}

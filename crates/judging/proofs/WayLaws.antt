@@ -1,4 +1,4 @@
--- Ways of the complete list by their legs: the first one, the next one, the last one. The laws are (kept). Assumes nothing.
+-- Ways of the complete list by their legs: the first one, the next one, the last one. Assumes nothing.
 use Prim.Native.Nat.{ℕ, zero, suc, _+_, _≤_, _<_}
 use mathlib.Core.Path.{_≡_, refl, sym, ap, _∙_, subst}
 use mathlib.Core.Bool.{Bool, true}

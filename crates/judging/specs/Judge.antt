@@ -20,8 +20,8 @@ pub record Tells (r : Bool) (P : Type 0) : Type 0 where
   pub yes : r ≡ true → P
   pub no : r ≡ false → P → ⊥
 
--- A pair with a path and a completion table: an accepted plan, a source in it, the pair's hops. A caller has excluded the causes 1 to
--- 9 and 12, and source and destination differ.
+-- A pair with a walk and a completion table: an accepted plan, a source in it, the pair's hops. A caller has excluded the causes 1 to
+-- 9, 12 and 14, and source and destination differ.
 pub record Judgeable (bs : List ℕ) (q : Pair) (l : List ℕ) : Type 0 where
   pub accepted : planFault bs (q .stations) (q .slots) ≡ 0
   pub source : q .source < q .stations

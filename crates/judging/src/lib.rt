@@ -97,7 +97,8 @@ fn last_leg(way: &[u16], work: &[u64], plan: &[u8], q: Pair, k: usize) -> bool
 // Whether leg k of b is the first position after that of a that leads home behind the legs of a before it.
 fn next_leg(a: &[u16], b: &[u16], work: &[u64], plan: &[u8], q: Pair, k: usize) -> bool
     requires { ⌜ LegJudgeable (now plan) q (now work) k (now a) × (k < length (now b)) ⌝ }
-    ensures { λ r. ⌜ Tells r (FirstBehind (begins (now (plan .entry)) q) (take k (now (a .entry))) (getD (now (a .entry)) k 0 + 1) (getD (now (b .entry)) k 0)) ⌝ }
+    ensures { λ r. ⌜ Tells r (FirstBehind (begins (now (plan .entry)) q) (take k (now (a .entry))) (getD (now (a .entry)) k 0 + 1)
+        (getD (now (b .entry)) k 0)) ⌝ }
 {
     let from = ways::wide(a[k]) + 1;
     let i = ways::wide(b[k]);
@@ -184,7 +185,8 @@ fn follows(a: &[u16], b: &[u16], work: &[u64], plan: &[u8], q: Pair) -> bool
 // Whether the way that begins at a place of a list follows the one before it.
 fn follows_at(list: &[u16], work: &[u64], plan: &[u8], q: Pair, at: usize) -> bool
     requires { ⌜ Judgeable (now plan) q (now work) × (q .hops ≤ at) × (at + q .hops ≤ length (now list)) ⌝ }
-    ensures { λ r. ⌜ Tells r (Follows (begins (now (plan .entry)) q) (q .hops) (take (q .hops) (drop (at - q .hops) (now (list .entry)))) (take (q .hops) (drop at (now (list .entry))))) ⌝ }
+    ensures { λ r. ⌜ Tells r (Follows (begins (now (plan .entry)) q) (q .hops) (take (q .hops) (drop (at - q .hops) (now (list .entry))))
+        (take (q .hops) (drop at (now (list .entry))))) ⌝ }
 {
     let before = at - q.hops;
     let end = at + q.hops;
@@ -212,7 +214,8 @@ fn ways_follow(list: &[u16], work: &[u64], plan: &[u8], q: Pair) -> bool
 // Whether the last way of a list is one behind which the complete list has no other.
 fn last_way(list: &[u16], work: &[u64], plan: &[u8], q: Pair) -> bool
     requires { ⌜ Judgeable (now plan) q (now work) × (q .hops ≤ length (now list)) ⌝ }
-    ensures { λ r. ⌜ Tells r (LastLegs (begins (now (plan .entry)) q) (q .hops) 0 (drop (length (now (list .entry)) - q .hops) (now (list .entry)))) ⌝ }
+    ensures { λ r. ⌜ Tells r (LastLegs (begins (now (plan .entry)) q) (q .hops) 0
+        (drop (length (now (list .entry)) - q .hops) (now (list .entry)))) ⌝ }
 {
     let start = list.len() - q.hops;
     last_legs(&list[start..], work, plan, q, 0)
@@ -235,7 +238,7 @@ fn judge_ways(list: &[u16], work: &[u64], plan: &[u8], q: Pair) -> Judgement
     Judgement::Wrong
 }
 
-// The verdict on a list of positions by the complete list of a pair that has a path.
+// The verdict on a list of positions by the complete list of a pair that has a walk.
 pub fn judge(list: &[u16], work: &[u64], plan: &[u8], q: Pair) -> Judgement
     requires { ⌜ Judgeable (now plan) q (now work) ⌝ }
     ensures { λ r. ⌜ verdictOf r ≡ verdictOn (listIn (now (plan .entry)) q) (now (list .entry)) ⌝ }
@@ -250,7 +253,7 @@ pub fn judge(list: &[u16], work: &[u64], plan: &[u8], q: Pair) -> Judgement
     judge_ways(list, work, plan, q)
 }
 
-// The verdict on a list of positions where there is no path: the empty list is complete.
+// The verdict on a list of positions where there is no walk: the empty list is complete.
 pub fn judge_none(list: &[u16]) -> Judgement
     ensures { λ r. ⌜ verdictOf r ≡ verdictOn [] (now (list .entry)) ⌝ }
 {

@@ -1,10 +1,9 @@
--- How first way and next way begin: the plan's causes, then 12, 6, 7 and 8 of the call, then the work. Assumes nothing.
+-- How first way and next way begin: the plan's causes, then 12, 14, 6, 7 and 8 of the call, then the work. Assumes nothing.
 use Prim.Native.Nat.{ℕ, _<_}
 use native.Mathlib.Omega.{arith}
 use mathlib.Core.Path.{_≡_, sym, ap, _∙_}
 use mathlib.Core.List.{List}
 use lib.ListN.{length}
-use Rattle.temporal.specs.Plan.{Keeps}
 use Rattle.temporal.specs.Cause.{first, planFault, planCauses}
 use Rattle.temporal.specs.Cursor.{refused, Operation}
 use Rattle.temporal.specs.FirstNext.{Question, wayCauses, WayOutcome, wayWork, wayAnswer}
@@ -60,7 +59,7 @@ module _ (o : Operation) (q : Question) (way work : List ℕ) where
       sym (rw (plan-decides (omega arith)) (unless-some planFaultOf refusal (wayWork o q way work) (omega arith)))
 
   module _ (ok : planFaultOf ≡ 0) where
-    -- a call that 12, 6, 7 or 8 refuses
+    -- a call that 12, 14, 6, 7 or 8 refuses
     pub way-call : (r : CallCheck) (f : CallFault) → callCheckNumber r ≡ callFaultOf → r ≡ call-check.Refused f
         → wayOutcome (refused (callNumber f)) way work ≡ wayAnswer o q way work
     unfolding wayAnswer
@@ -71,7 +70,7 @@ module _ (o : Operation) (q : Question) (way work : List ℕ) where
         sym (rw (call-decides ok) (unless-some callFaultOf refusal (wayWork o q way work) (omega arith)))
 
     module _ (r : CallCheck) (answer : callCheckNumber r ≡ callFaultOf) (e : r ≡ call-check.Free) where
-      -- a call that 1 to 5, 12 and 6 to 8 do not refuse does the work
+      -- a call that 1 to 5, 12, 14 and 6 to 8 do not refuse does the work
       pub way-works : wayAnswer o q way work ≡ wayWork o q way work
       unfolding wayAnswer
       way-works =
@@ -79,12 +78,12 @@ module _ (o : Operation) (q : Question) (way work : List ℕ) where
           rw (call-decides ok) (unless-none callFaultOf refusal (wayWork o q way work) none)
 
       -- it is ready for the work
-      pub way-ready : Keeps (q .slots) (q .terms) → WayReady q way work
-      way-ready keeps =
+      pub way-ready : WayReady q way work
+      way-ready =
           let none : callFaultOf ≡ 0 = sym answer ∙ ap callCheckNumber e in
           let free =
           free-call (q .stations) (q .slots) (q .terms) (q .source) (q .destination)
-          (length way) (q .slots) (length work) none keeps in
+          (length way) (q .slots) (length work) none in
           record {
             asked = record {
               accepted = ok;

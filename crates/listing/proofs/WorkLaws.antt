@@ -1,8 +1,7 @@
--- What the work of first way and next way does: 9, the empty list, the first path, 10, the next path and the last one.
+-- What the work of first way and next way does: 9, the empty list, the first walk, 10, the next walk and the last one.
 -- Assumes nothing.
 use Prim.Native.Nat.{ℕ, _+_, _-_, _*_, _<_, _≤_}
 use native.Mathlib.Omega.{arith}
-use native.Mathlib.Nat.{mul-le-mul}
 use mathlib.Core.Path.{_≡_, refl, sym, ap, _∙_}
 use mathlib.Core.Bool.{Bool, true, false}
 use mathlib.Core.Logic.{_⊎_, inl, inr, ⊎-elim, _≢_}
@@ -39,7 +38,9 @@ use Rattle.temporal.proofs.ListLaws.{mem-getD}
 use Rattle.temporal.proofs.ShortestLaws.{hops-bound}
 use Rattle.temporal.proofs.PlanLaws.{slots-within}
 use Rattle.temporal.proofs.Adequacy.{bounded-ends, in-complete-list}
-use Rattle.pass.specs.Passed.{waiting, areaSize, PassReady, Passed}
+use Rattle.stale.proofs.DepthLaws.{deep-all}
+use Rattle.forward.specs.Passed.{passSize, PassReady, Passed}
+use Rattle.forward.proofs.SizeLaws.{small-fits}
 use Rattle.ways.specs.Home.{Completed}
 use Rattle.ways.specs.Found.{listIn, isOffered, Listable, Startable, Continuable, Stepped}
 use Rattle.ways.specs.declared.Pair.{Pair}
@@ -119,28 +120,32 @@ module _ (q : Question) (way work : List ℕ) (ready : WayReady q way work) wher
       (getD (listOf q) i []) .0 (mem-getD (listOf q) i [] h) .1
 
   -- the pass has room
-  within-area : areaSize (q .stations) (waiting (q .slots) (q .terms)) 0 ≤ workSize (q .stations) (q .slots)
+  within-area : passSize (q .stations) (q .slots) (q .terms) (q .terms .keeping) 0 ≤ workSize (q .stations) (q .slots)
   within-area =
-      let rows : q .stations * (1 + waiting (q .slots) (q .terms)) ≤ q .stations * (q .slots + 1) =
-      mul-le-mul {n₂ = q .stations} {m₂ = q .slots + 1} (omega arith) (omega arith) in
-      omega arith
+      let plan = accepted (q .bytes) (q .stations) (q .slots) (ready .asked .accepted) in
+      let source = ready .asked .source in
+      small-fits (q .stations) (q .slots) (q .terms) 0 (ready .units) (omega arith) (plan .some-slot) (plan .slots) (omega arith)
 
-  pub pass-ready : PassReady (q .bytes) (q .stations) (q .slots) (q .terms) (q .source) 0 0 work
+  pub pass-ready : PassReady (q .bytes) (q .stations) (q .slots) (q .terms) (q .terms .keeping) (q .source) 0 0 work
   pass-ready =
       let room = within-area in
       let area = ready .area in
+      let turns = ready .units .turns in
+      let keeps = ready .units .keeps in
       record {
         accepted = ready .asked .accepted;
         units = ready .units;
+        deep = deep-all (q .bytes) (q .stations) (q .terms .keeping) (omega arith);
         source = ready .asked .source;
         stations = omega arith;
         fits = omega arith;
       }
 
-  module _ (mid : List ℕ) (r : Bool) (passed : Passed (q .bytes) (q .stations) (q .slots) (q .terms) (q .source) 0 0 work mid r) where
+  module _ (mid : List ℕ) (r : Bool)
+      (passed : Passed (q .bytes) (q .stations) (q .slots) (q .terms) (q .terms .keeping) (q .source) 0 0 work mid r) where
     pub pass-beyond : drop (workSize (q .stations) (q .slots)) mid ≡ drop (workSize (q .stations) (q .slots)) work
     pass-beyond =
-        later-drop (areaSize (q .stations) (waiting (q .slots) (q .terms)) 0) (workSize (q .stations) (q .slots)) mid work
+        later-drop (passSize (q .stations) (q .slots) (q .terms) (q .terms .keeping) 0) (workSize (q .stations) (q .slots)) mid work
         within-area (passed .beyond)
 
     -- a count over 2^64 - 1
@@ -199,7 +204,7 @@ module _ (q : Question) (way work : List ℕ) (ready : WayReady q way work) wher
         finite-hops : hops (listOf q) ≢ 65535
         finite-hops e = finite (read-hops ∙ e)
 
-        -- what the crate below asks of a pair with a path
+        -- what the crate below asks of a pair with a walk
         pub ready-listable : Listable (q .bytes) (pairOf q h) way
         unfolding listOf
         ready-listable =
@@ -213,7 +218,7 @@ module _ (q : Question) (way work : List ℕ) (ready : WayReady q way work) wher
               room = ready .room;
             }
 
-        -- a buffer that begins with no shortest path
+        -- a buffer that begins with no shortest walk
         pub worked-not-offered : isOffered (q .bytes) (pairOf q h) way ≡ false → Worked next-way q way work (refused 10) way mid
         unfolding go goNext stay listOf
         worked-not-offered e =
@@ -240,7 +245,7 @@ module _ (q : Question) (way work : List ℕ) (ready : WayReady q way work) wher
               → Continuable (q .bytes) (pairOf q h) done way
           ready-continuable e = record { listable = ready-listable; table = completed .table; offered = e }
 
-          -- the first path
+          -- the first walk
           pub worked-first : (new : List ℕ) → new ≡ over (getD (listIn (q .bytes) (pairOf q h)) 0 []) way
               → Worked first-way q way work (path h) new done
           unfolding go give listOf
@@ -256,7 +261,7 @@ module _ (q : Question) (way work : List ℕ) (ready : WayReady q way work) wher
 
           module _ (offer : isOffered (q .bytes) (pairOf q h) way ≡ true) (more : Bool) (new : List ℕ)
               (stepped : Stepped (listIn (q .bytes) (pairOf q h)) way more new) where
-            -- the next path
+            -- the next walk
             pub worked-next : more ≡ true → Worked next-way q way work (path h) new done
             unfolding go goNext give listOf
             worked-next e =
@@ -273,7 +278,7 @@ module _ (q : Question) (way work : List ℕ) (ready : WayReady q way work) wher
                   same = completed .same ∙ passed .same-length;
                 }
 
-            -- the last path
+            -- the last walk
             pub worked-last : more ≡ false → Worked next-way q way work last-path new done
             unfolding go goNext stay listOf
             worked-last e =

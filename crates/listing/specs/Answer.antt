@@ -2,7 +2,7 @@
 -- Assumes nothing.
 use Prim.Native.Nat.{ℕ}
 use mathlib.Core.List.{List}
-use Rattle.temporal.specs.Plan.{turning}
+use Rattle.temporal.specs.Plan.{units}
 use Rattle.temporal.specs.Cursor.{Reply, path, no-path, last-path, refused}
 use Rattle.temporal.specs.FirstNext.{Question}
 use Rattle.plan.specs.Fault.{faultNumber}
@@ -17,6 +17,6 @@ replyOf LastPath = last-path
 replyOf (Refused f) = refused (faultNumber f)
 
 -- what a call with these arguments asks about
-abbrev pub question : List ℕ → ℕ → ℕ → ℕ → ℕ → ℕ → Question
-question bs n t g s z =
-    record { bytes = bs; stations = n; slots = t; terms = turning g; source = s; destination = z }
+abbrev pub question : List ℕ → ℕ → ℕ → ℕ → ℕ → ℕ → ℕ → Question
+question bs n t g h s z =
+    record { bytes = bs; stations = n; slots = t; terms = units g h; source = s; destination = z }

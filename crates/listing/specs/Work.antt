@@ -1,23 +1,23 @@
--- What the work of first way and next way asks, once 1 to 5, 12 and 6 to 8 are excluded, and what it leaves. Definitions only.
+-- What the work of first way and next way asks, once 1 to 5, 12, 14 and 6 to 8 are excluded, and what it leaves. Definitions only.
 -- Assumes nothing.
 use Prim.Native.Nat.{ℕ, _<_, _≤_}
 use mathlib.Core.Path.{_≡_}
 use mathlib.Core.List.{List}
 use lib.ListN.{length, drop}
-use Rattle.temporal.specs.Plan.{Lasting}
+use Rattle.temporal.specs.Plan.{Allowed}
 use Rattle.temporal.specs.Outcome.{workSize}
 use Rattle.temporal.specs.Cursor.{Reply, Operation, Moved, indexIn, move}
 use Rattle.temporal.specs.FirstNext.{Question, listOf, overflow, WayOutcome}
 use Rattle.temporal.specs.Trace.{Asked}
 
--- an accepted plan, two different stations of it, a turnaround, and buffers that are long enough
+-- an accepted plan, two different stations of it, allowed terms, and buffers that are long enough
 pub record WayReady (q : Question) (way work : List ℕ) : Type 0 where
   pub asked : Asked q
-  pub units : Lasting (q .slots) (q .terms)
+  pub units : Allowed (q .terms)
   pub room : q .slots ≤ length way
   pub area : workSize (q .stations) (q .slots) ≤ length work
 
--- the cursor's move at a call that 1 to 5, 12 and 6 to 8 do not refuse
+-- the cursor's move at a call that 1 to 5, 12, 14 and 6 to 8 do not refuse
 abbrev pub moved : Operation → Question → List ℕ → Moved
 moved o q way = move o (overflow q) (listOf q) (indexIn (listOf q) way) way
 

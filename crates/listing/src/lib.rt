@@ -1,4 +1,4 @@
-// Operations 7 and 8: first way and next way, which list the shortest paths of a pair in lexicographic order, one a call.
+// Operations 7 and 8: first way and next way, which list the shortest walks of a pair in lexicographic order, one a call.
 // A call is told where the listing stands by the way buffer alone.
 ghost use mathlib.Core.Path.{_≡_};
 ghost use Prim.Native.Nat.{_≤_};
@@ -31,39 +31,41 @@ fn clear_area(work: &mut [u64], n: usize, t: usize)
     memory::clear(work, 4 * (n * (t + 1)));
 }
 
-// First way once 1 to 5, 12 and 6 to 8 are excluded: the first path of the list, or none where it is empty.
+// First way once 1 to 5, 12, 14 and 6 to 8 are excluded: the first walk of the list, or none where it is empty.
 fn first_work(
     plan: &[u8],
     n: usize,
     t: usize,
     g: usize,
+    h: usize,
     source: usize,
     destination: usize,
     way: &mut [u16],
     work: &mut [u64],
 ) -> WayAnswer
-    requires { ⌜ WayReady (question (now plan) n t g source destination) (now way) (now work) ⌝ }
-    ensures { λ r. ⌜ Worked first-way (question (now (plan .entry)) n t g source destination) (now (way .entry)) (now (work .entry)) (replyOf r) (now (way .exit)) (now (work .exit)) ⌝ }
+    requires { ⌜ WayReady (question (now plan) n t g h source destination) (now way) (now work) ⌝ }
+    ensures { λ r. ⌜ Worked first-way (question (now (plan .entry)) n t g h source destination) (now (way .entry)) (now (work .entry))
+        (replyOf r) (now (way .exit)) (now (work .exit)) ⌝ }
 {
-    if pass::pass(work, plan, n, t, g, source, 0, 0) {
+    if forward::pass(work, plan, n, t, g, h, h, source, 0, 0) {
         return WayAnswer::Refused(Fault::Call(CallFault::TooMany));
     }
-    let h = work[destination] as usize;
-    if h == 65535 {
+    let hops = work[destination] as usize;
+    if hops == 65535 {
         return WayAnswer::NoPath;
     }
-    ways::complete(work, plan, n, t, g, destination);
+    ways::complete(work, plan, n, t, g, h, destination);
     let pair = Pair {
         stations: n,
         slots: t,
         turnaround: g,
-        keeping: 255,
+        keeping: h,
         source,
         destination,
-        hops: h,
+        hops,
     };
     ways::first_path(way, work, plan, pair);
-    WayAnswer::Path(h)
+    WayAnswer::Path(hops)
 }
 
 // The work, and the work area cleared after it.
@@ -72,44 +74,49 @@ fn first_cleared(
     n: usize,
     t: usize,
     g: usize,
+    h: usize,
     source: usize,
     destination: usize,
     way: &mut [u16],
     work: &mut [u64],
 ) -> WayAnswer
-    requires { ⌜ WayReady (question (now plan) n t g source destination) (now way) (now work) ⌝ }
-    ensures { λ r. ⌜ wayOutcome (replyOf r) (now (way .exit)) (now (work .exit)) ≡ wayWork first-way (question (now (plan .entry)) n t g source destination) (now (way .entry)) (now (work .entry)) ⌝ }
+    requires { ⌜ WayReady (question (now plan) n t g h source destination) (now way) (now work) ⌝ }
+    ensures { λ r. ⌜ wayOutcome (replyOf r) (now (way .exit)) (now (work .exit)) ≡
+        wayWork first-way (question (now (plan .entry)) n t g h source destination) (now (way .entry)) (now (work .entry)) ⌝ }
 {
-    let answer = first_work(plan, n, t, g, source, destination, way, work);
+    let answer = first_work(plan, n, t, g, h, source, destination, way, work);
     clear_area(work, n, t);
     answer
 }
 
-// The operation on an accepted plan: 12, 6, 7 and 8, then the work.
+// The operation on an accepted plan: 12, 14, 6, 7 and 8, then the work.
 fn first_accepted(
     plan: &[u8],
     n: usize,
     t: usize,
     g: usize,
+    h: usize,
     source: usize,
     destination: usize,
     way: &mut [u16],
     work: &mut [u64],
 ) -> WayAnswer
     requires { ⌜ planFault (now plan) n t ≡ 0 ⌝ }
-    ensures { λ r. ⌜ WayContract first-way (question (now (plan .entry)) n t g source destination) (now (way .entry)) (now (work .entry)) (replyOf r) (now (way .exit)) (now (work .exit)) ⌝ }
+    ensures { λ r. ⌜ WayContract first-way (question (now (plan .entry)) n t g h source destination) (now (way .entry))
+        (now (work .entry)) (replyOf r) (now (way .exit)) (now (work .exit)) ⌝ }
 {
     let CallCheck::Refused(fault) = calls::pair_call(
         n,
         t,
         g,
+        h,
         source,
         destination,
         way.len(),
         t,
         work.len(),
     ) else {
-        return first_cleared(plan, n, t, g, source, destination, way, work);
+        return first_cleared(plan, n, t, g, h, source, destination, way, work);
     };
     WayAnswer::Refused(Fault::Call(fault))
 }
@@ -120,53 +127,57 @@ pub fn first_way(
     n: usize,
     t: usize,
     g: usize,
+    h: usize,
     source: usize,
     destination: usize,
     way: &mut [u16],
     work: &mut [u64],
 ) -> WayAnswer
-    ensures { λ r. ⌜ WayContract first-way (question (now (plan .entry)) n t g source destination) (now (way .entry)) (now (work .entry)) (replyOf r) (now (way .exit)) (now (work .exit)) ⌝ }
+    ensures { λ r. ⌜ WayContract first-way (question (now (plan .entry)) n t g h source destination) (now (way .entry))
+        (now (work .entry)) (replyOf r) (now (way .exit)) (now (work .exit)) ⌝ }
 {
     let CheckAnswer::Refused(fault) = plan::check(plan, n, t) else {
-        return first_accepted(plan, n, t, g, source, destination, way, work);
+        return first_accepted(plan, n, t, g, h, source, destination, way, work);
     };
     WayAnswer::Refused(Fault::Plan(fault))
 }
 
-// Next way once 1 to 5, 12 and 6 to 8 are excluded: on from the path with which the buffer begins; 10 where it begins with none.
+// Next way once 1 to 5, 12, 14 and 6 to 8 are excluded: on from the walk with which the buffer begins; 10 where it begins with none.
 fn next_work(
     plan: &[u8],
     n: usize,
     t: usize,
     g: usize,
+    h: usize,
     source: usize,
     destination: usize,
     way: &mut [u16],
     work: &mut [u64],
 ) -> WayAnswer
-    requires { ⌜ WayReady (question (now plan) n t g source destination) (now way) (now work) ⌝ }
-    ensures { λ r. ⌜ Worked next-way (question (now (plan .entry)) n t g source destination) (now (way .entry)) (now (work .entry)) (replyOf r) (now (way .exit)) (now (work .exit)) ⌝ }
+    requires { ⌜ WayReady (question (now plan) n t g h source destination) (now way) (now work) ⌝ }
+    ensures { λ r. ⌜ Worked next-way (question (now (plan .entry)) n t g h source destination) (now (way .entry)) (now (work .entry))
+        (replyOf r) (now (way .exit)) (now (work .exit)) ⌝ }
 {
-    if pass::pass(work, plan, n, t, g, source, 0, 0) {
+    if forward::pass(work, plan, n, t, g, h, h, source, 0, 0) {
         return WayAnswer::Refused(Fault::Call(CallFault::TooMany));
     }
-    let h = work[destination] as usize;
-    if h == 65535 {
+    let hops = work[destination] as usize;
+    if hops == 65535 {
         return WayAnswer::Refused(Fault::Call(CallFault::NotShortestPath));
     }
     let pair = Pair {
         stations: n,
         slots: t,
         turnaround: g,
-        keeping: 255,
+        keeping: h,
         source,
         destination,
-        hops: h,
+        hops,
     };
     if ways::offered(way, plan, pair) {
-        ways::complete(work, plan, n, t, g, destination);
+        ways::complete(work, plan, n, t, g, h, destination);
         if ways::next_path(way, work, plan, pair) {
-            return WayAnswer::Path(h);
+            return WayAnswer::Path(hops);
         }
         return WayAnswer::LastPath;
     }
@@ -179,44 +190,49 @@ fn next_cleared(
     n: usize,
     t: usize,
     g: usize,
+    h: usize,
     source: usize,
     destination: usize,
     way: &mut [u16],
     work: &mut [u64],
 ) -> WayAnswer
-    requires { ⌜ WayReady (question (now plan) n t g source destination) (now way) (now work) ⌝ }
-    ensures { λ r. ⌜ wayOutcome (replyOf r) (now (way .exit)) (now (work .exit)) ≡ wayWork next-way (question (now (plan .entry)) n t g source destination) (now (way .entry)) (now (work .entry)) ⌝ }
+    requires { ⌜ WayReady (question (now plan) n t g h source destination) (now way) (now work) ⌝ }
+    ensures { λ r. ⌜ wayOutcome (replyOf r) (now (way .exit)) (now (work .exit)) ≡
+        wayWork next-way (question (now (plan .entry)) n t g h source destination) (now (way .entry)) (now (work .entry)) ⌝ }
 {
-    let answer = next_work(plan, n, t, g, source, destination, way, work);
+    let answer = next_work(plan, n, t, g, h, source, destination, way, work);
     clear_area(work, n, t);
     answer
 }
 
-// The operation on an accepted plan: 12, 6, 7 and 8, then the work.
+// The operation on an accepted plan: 12, 14, 6, 7 and 8, then the work.
 fn next_accepted(
     plan: &[u8],
     n: usize,
     t: usize,
     g: usize,
+    h: usize,
     source: usize,
     destination: usize,
     way: &mut [u16],
     work: &mut [u64],
 ) -> WayAnswer
     requires { ⌜ planFault (now plan) n t ≡ 0 ⌝ }
-    ensures { λ r. ⌜ WayContract next-way (question (now (plan .entry)) n t g source destination) (now (way .entry)) (now (work .entry)) (replyOf r) (now (way .exit)) (now (work .exit)) ⌝ }
+    ensures { λ r. ⌜ WayContract next-way (question (now (plan .entry)) n t g h source destination) (now (way .entry)) (now (work .entry))
+        (replyOf r) (now (way .exit)) (now (work .exit)) ⌝ }
 {
     let CallCheck::Refused(fault) = calls::pair_call(
         n,
         t,
         g,
+        h,
         source,
         destination,
         way.len(),
         t,
         work.len(),
     ) else {
-        return next_cleared(plan, n, t, g, source, destination, way, work);
+        return next_cleared(plan, n, t, g, h, source, destination, way, work);
     };
     WayAnswer::Refused(Fault::Call(fault))
 }
@@ -227,15 +243,17 @@ pub fn next_way(
     n: usize,
     t: usize,
     g: usize,
+    h: usize,
     source: usize,
     destination: usize,
     way: &mut [u16],
     work: &mut [u64],
 ) -> WayAnswer
-    ensures { λ r. ⌜ WayContract next-way (question (now (plan .entry)) n t g source destination) (now (way .entry)) (now (work .entry)) (replyOf r) (now (way .exit)) (now (work .exit)) ⌝ }
+    ensures { λ r. ⌜ WayContract next-way (question (now (plan .entry)) n t g h source destination) (now (way .entry)) (now (work .entry))
+        (replyOf r) (now (way .exit)) (now (work .exit)) ⌝ }
 {
     let CheckAnswer::Refused(fault) = plan::check(plan, n, t) else {
-        return next_accepted(plan, n, t, g, source, destination, way, work);
+        return next_accepted(plan, n, t, g, h, source, destination, way, work);
     };
     WayAnswer::Refused(Fault::Plan(fault))
 }

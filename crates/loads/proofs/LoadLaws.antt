@@ -6,11 +6,11 @@ use mathlib.Core.Bool.{Bool, true, false, cond, _||_}
 use mathlib.Core.List.{List, [], _∷_, map}
 use borrow.Author.Tests.{lt-ltb, le-ltb}
 use lib.ListN.{length, getD, drop, replicate}
-use Rattle.temporal.specs.Plan.{Terms, Keeps}
+use Rattle.temporal.specs.Plan.{Terms}
 use Rattle.temporal.specs.Lists.{below}
 use Rattle.temporal.specs.Load.{partialPairs, partialLoad, load, Busiest}
 use Rattle.temporal.specs.Bytes.{planOf}
-use Rattle.temporal.specs.Cause.{planFault, wrongTurnaround, wrongSources}
+use Rattle.temporal.specs.Cause.{planFault, first, termsCauses, wrongSources}
 use Rattle.temporal.specs.Outcome.{Outcome, over, cleared, short, workSize}
 use Rattle.temporal.specs.OutcomePair.{LoadBuffers, partlyLoaded, partialLoads, compared, busiest}
 use Rattle.temporal.proofs.Accepted.{accepted}
@@ -20,16 +20,21 @@ use Rattle.temporal.proofs.EnteredLaws.{
   refusedWith,
   entered-plan,
   entered-call,
+  entered-none,
   entered-cause,
   entered-pass,
   entered-work,
 }
-use Rattle.plan.specs.Fault.{planNumber, checkNumber}
+use Rattle.plan.specs.Fault.{planNumber, callNumber, checkNumber}
+use Rattle.plan.specs.declared.CallFault.{CallFault}
+use Rattle.calls.specs.Call.{callCheckNumber}
+use Rattle.calls.specs.declared.CallCheck.{CallCheck}
+use Rattle.calls.specs.declared.CallCheck.the-variants as call-check
 use Rattle.plan.specs.declared.PlanFault.{PlanFault}
 use Rattle.plan.specs.declared.CheckAnswer.{CheckAnswer}
 use Rattle.plan.specs.declared.CheckAnswer.the-variants as check-answer
 use Rattle.plan.proofs.Answers.{number-positive}
-use Rattle.calls.proofs.CallLaws.{terms-inv}
+use Rattle.calls.proofs.CallLaws.{terms-allowed, terms-refused}
 use Rattle.tallies.specs.Tally.{tallyBase, Tallied}
 use Rattle.tallies.proofs.Sizes.{base-fits}
 use Rattle.loads.specs.Answer.{loadBuffers}
@@ -54,7 +59,7 @@ module _ (bs : List ℕ) (n t : ℕ) (terms : Terms) (k : ℕ) (ps ls area : Lis
 
   -- the tables have the pairs and the loads
   pub loaded-filled :
-      r ≡ false → (base : ℕ) (ps′ ls′ area″ : List ℕ) → base ≡ tallyBase n t terms → Copied area′ base n ps ps′ →
+      r ≡ false → (base : ℕ) (ps′ ls′ area″ : List ℕ) → base ≡ tallyBase n t → Copied area′ base n ps ps′ →
       Copied area′ (base + n) n ls ls′ → area″ ≡ over (replicate (workSize n t) 0) area′ →
       _≡_ {A = Outcome (Unit {0}) LoadBuffers} (record { number = 0; values = tt; buffers = loadBuffers ps′ ls′ area″ })
       (partlyLoaded (planOf bs n t terms) k (loadBuffers ps ls area))
@@ -86,22 +91,24 @@ module _ (bs : List ℕ) (n t : ℕ) (terms : Terms) (k : ℕ) (ps ls area : Lis
       sym (entered-plan tt (loadBuffers ps ls area) (partlyLoaded (planOf bs n t terms) k (loadBuffers ps ls area)) bs n t _ (omega arith))
 
   module _ (ok : planFault bs n t ≡ 0) where
+    -- 12 or 14
     pub loads-terms :
-        wrongTurnaround terms ≡ true →
-        _≡_ {A = Outcome (Unit {0}) LoadBuffers} (record { number = 12; values = tt; buffers = loadBuffers ps ls area })
+        (r : CallCheck) → callCheckNumber r ≡ first (termsCauses terms) → (f : CallFault) → r ≡ call-check.Refused f →
+        _≡_ {A = Outcome (Unit {0}) LoadBuffers} (record { number = callNumber f; values = tt; buffers = loadBuffers ps ls area })
         (partialLoads bs n t terms k (loadBuffers ps ls area))
     unfolding partialLoads
-    loads-terms e = sym (entered-call tt _ _ bs n t _ ok ∙ entered-cause tt _ _ 11 _ _ e)
+    loads-terms r found f e = terms-refused tt _ _ bs n t terms _ ok r found f e
 
     pub loads-sources :
-        wrongTurnaround terms ≡ false → n < k →
+        first (termsCauses terms) ≡ 0 → n < k →
         _≡_ {A = Outcome (Unit {0}) LoadBuffers} (record { number = 13; values = tt; buffers = loadBuffers ps ls area })
         (partialLoads bs n t terms k (loadBuffers ps ls area))
     unfolding partialLoads
     loads-sources right h =
-        sym (entered-call tt _ _ bs n t _ ok ∙ entered-pass tt _ _ 12 _ _ right ∙ entered-cause tt _ _ 12 _ _ (lt-ltb n k h))
+        sym (entered-call tt _ _ bs n t _ ok ∙ entered-none tt _ _ (termsCauses terms) _ right ∙
+        entered-cause tt _ _ 12 _ _ (lt-ltb n k h))
 
-    module _ (right : wrongTurnaround terms ≡ false) (few : k ≤ n) where
+    module _ (right : first (termsCauses terms) ≡ 0) (few : k ≤ n) where
       abbrev lacking : Bool
       lacking = short n ps || (short n ls || short (workSize n t) area)
 
@@ -110,7 +117,7 @@ module _ (bs : List ℕ) (n t : ℕ) (terms : Terms) (k : ℕ) (ps ls area : Lis
           _≡_ {A = Outcome (Unit {0}) LoadBuffers} (record { number = 8; values = tt; buffers = loadBuffers ps ls area })
           (partialLoads bs n t terms k (loadBuffers ps ls area))
       unfolding partialLoads
-      lacks e = sym (entered-call tt _ _ bs n t _ ok ∙ entered-pass tt _ _ 12 _ _ right ∙
+      lacks e = sym (entered-call tt _ _ bs n t _ ok ∙ entered-none tt _ _ (termsCauses terms) _ right ∙
           entered-pass tt _ _ 13 _ _ (le-ltb n k few) ∙ entered-cause tt _ _ 7 _ [] e)
 
       pub loads-short-pairs :
@@ -140,23 +147,20 @@ module _ (bs : List ℕ) (n t : ℕ) (terms : Terms) (k : ℕ) (ps ls area : Lis
           unfolding partialLoads
           loads-works h =
               entered-call tt _ _ bs n t _ ok ∙
-              entered-pass tt _ _ 12 _ _ right ∙
+              entered-none tt _ _ (termsCauses terms) _ right ∙
               entered-pass tt _ _ 13 _ _ (le-ltb n k few) ∙
               entered-pass tt _ _ 8 _ []
               (rw (le-ltb (length ps) n a, le-ltb (length ls) n b, le-ltb (length area) (workSize n t) h)) ∙
               entered-work tt _ _
 
           -- what the work asks
-          pub loads-ready : workSize n t ≤ length area → Keeps t terms → LoadsReady bs n t terms k ps ls area
-          loads-ready h keeps =
-              record { accepted = ok; units = record { turns = terms-inv terms right .0; keeps = keeps }; sources = few; pairs-room = a; loads-room = b; area = h }
+          pub loads-ready : workSize n t ≤ length area → LoadsReady bs n t terms k ps ls area
+          loads-ready h =
+              record { accepted = ok; units = terms-allowed terms right; sources = few; pairs-room = a; loads-room = b; area = h }
 
 -- the tallies end within the work area
-pub tally-room :
-    (bs : List ℕ) (n t : ℕ) (terms : Terms) (base size : ℕ) → planFault bs n t ≡ 0 → base ≡ tallyBase n t terms → workSize n t ≤ size → base + n + n ≤ size
-tally-room bs n t terms base size ok e fits =
-    let room = base-fits n t terms (accepted bs n t ok .some-slot) in
-    omega arith
+pub tally-room : (n t base size : ℕ) → base ≡ tallyBase n t → workSize n t ≤ size → base + n + n ≤ size
+tally-room n t base size e fits = let room = base-fits n t in omega arith
 
 -- ---- busiest
 
@@ -172,31 +176,32 @@ module _ (bs : List ℕ) (n t : ℕ) (terms : Terms) (area : List ℕ) where
       sym (entered-plan 0 area (compared (planOf bs n t terms) area) bs n t _ (omega arith))
 
   module _ (ok : planFault bs n t ≡ 0) where
+    -- 12 or 14
     pub busiest-terms :
-        wrongTurnaround terms ≡ true →
-        _≡_ {A = Outcome ℕ (List ℕ)} (record { number = 12; values = 0; buffers = area }) (busiest bs n t terms area)
+        (r : CallCheck) → callCheckNumber r ≡ first (termsCauses terms) → (f : CallFault) → r ≡ call-check.Refused f →
+        _≡_ {A = Outcome ℕ (List ℕ)} (record { number = callNumber f; values = 0; buffers = area }) (busiest bs n t terms area)
     unfolding busiest
-    busiest-terms e = sym (entered-call 0 area _ bs n t _ ok ∙ entered-cause 0 area _ 11 _ _ e)
+    busiest-terms r found f e = terms-refused 0 area _ bs n t terms _ ok r found f e
 
-    module _ (right : wrongTurnaround terms ≡ false) where
+    module _ (right : first (termsCauses terms) ≡ 0) where
       pub busiest-short :
           length area < workSize n t →
           _≡_ {A = Outcome ℕ (List ℕ)} (record { number = 8; values = 0; buffers = area }) (busiest bs n t terms area)
       unfolding busiest
       busiest-short h =
-          sym (entered-call 0 area _ bs n t _ ok ∙ entered-pass 0 area _ 12 _ _ right ∙
+          sym (entered-call 0 area _ bs n t _ ok ∙ entered-none 0 area _ (termsCauses terms) _ right ∙
           entered-cause 0 area _ 7 _ [] (lt-ltb (length area) (workSize n t) h))
 
       pub busiest-works : workSize n t ≤ length area → busiest bs n t terms area ≡ compared (planOf bs n t terms) area
       unfolding busiest
       busiest-works h =
           entered-call 0 area _ bs n t _ ok ∙
-          entered-pass 0 area _ 12 _ _ right ∙
+          entered-none 0 area _ (termsCauses terms) _ right ∙
           entered-pass 0 area _ 8 _ [] (le-ltb (length area) (workSize n t) h) ∙ entered-work 0 area _
 
       -- what the work asks
-      pub busiest-ready : workSize n t ≤ length area → Keeps t terms → BusiestReady bs n t terms area
-      busiest-ready h keeps = record { accepted = ok; units = record { turns = terms-inv terms right .0; keeps = keeps }; area = h }
+      pub busiest-ready : workSize n t ≤ length area → BusiestReady bs n t terms area
+      busiest-ready h = record { accepted = ok; units = terms-allowed terms right; area = h }
 
   module _ (area′ : List ℕ) (r : Bool) (f : Tallied bs n t terms n area area′ r) (area″ : List ℕ)
       (c : area″ ≡ over (replicate (workSize n t) 0) area′) where
@@ -215,7 +220,7 @@ module _ (bs : List ℕ) (n t : ℕ) (terms : Terms) (area : List ℕ) where
 
     -- the lowest station with the largest load
     pub compared-found :
-        r ≡ false → (base v : ℕ) → base ≡ tallyBase n t terms → Largest area′ (base + n) n v →
+        r ≡ false → (base v : ℕ) → base ≡ tallyBase n t → Largest area′ (base + n) n v →
         _≡_ {A = Outcome ℕ (List ℕ)} (record { number = 0; values = v; buffers = area″ }) (compared (planOf bs n t terms) area)
     unfolding compared planOf
     compared-found e base v at l =

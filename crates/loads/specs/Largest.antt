@@ -7,7 +7,7 @@ use mathlib.Core.Bool.{cond}
 use mathlib.Core.List.{List}
 use lib.Dec.{ltb}
 use lib.ListN.{length, getD}
-use Rattle.temporal.specs.Plan.{Terms, Lasting}
+use Rattle.temporal.specs.Plan.{Terms, Allowed}
 use Rattle.temporal.specs.Cause.{planFault}
 use Rattle.temporal.specs.Outcome.{workSize}
 
@@ -21,17 +21,17 @@ pub record Largest (l : List ℕ) (from k r : ℕ) : Type 0 where
   pub largest : (u : ℕ) → u < k → getD l (from + u) 0 ≤ getD l (from + r) 0
   pub lowest : (u : ℕ) → u < r → getD l (from + u) 0 < getD l (from + r) 0
 
--- what partial loads asks once 1 to 8, 12 and 13 are excluded
+-- what partial loads asks once 1 to 8, 12, 14 and 13 are excluded
 pub record LoadsReady (bs : List ℕ) (n t : ℕ) (terms : Terms) (k : ℕ) (pairTable loadTable work : List ℕ) : Type 0 where
   pub accepted : planFault bs n t ≡ 0
-  pub units : Lasting t terms
+  pub units : Allowed terms
   pub sources : k ≤ n
   pub pairs-room : n ≤ length pairTable
   pub loads-room : n ≤ length loadTable
   pub area : workSize n t ≤ length work
 
--- what busiest asks once 1 to 8 and 12 are excluded
+-- what busiest asks once 1 to 8, 12 and 14 are excluded
 pub record BusiestReady (bs : List ℕ) (n t : ℕ) (terms : Terms) (work : List ℕ) : Type 0 where
   pub accepted : planFault bs n t ≡ 0
-  pub units : Lasting t terms
+  pub units : Allowed terms
   pub area : workSize n t ≤ length work

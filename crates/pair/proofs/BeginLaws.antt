@@ -1,12 +1,11 @@
--- How an operation with pair's arguments and buffers begins: the plan's causes, then 12, 6, 7 and 8, then the work. Assumes nothing.
+-- How an operation with pair's arguments and buffers begins: the plan's causes, then 12, 14, 6, 7 and 8, then the work. Assumes nothing.
 use Prim.Native.Nat.{ℕ}
 use native.Mathlib.Omega.{arith}
 use mathlib.Core.Path.{_≡_, sym, ap, _∙_}
 use mathlib.Core.Bool.{_||_}
 use mathlib.Core.List.{List, _++_}
 use lib.ListN.{length}
-use Rattle.temporal.specs.Plan.{Terms, turning}
-use Rattle.temporal.proofs.PlanLaws.{kept-always}
+use Rattle.temporal.specs.Plan.{Terms}
 use Rattle.temporal.specs.Cause.{planFault, planCauses, pairCauses}
 use Rattle.temporal.specs.Outcome.{Outcome, entered, short, workSize}
 use Rattle.temporal.specs.OutcomePair.{PairBuffers}
@@ -26,11 +25,11 @@ use Rattle.pair.specs.Throughs.{PairReady}
 
 -- an accepted plan and a free call are what counting asks
 pub call-free :
-    (bs : List ℕ) (n t g s z : ℕ) (table area : List ℕ) → planFault bs n t ≡ 0 → (r : CallCheck) →
-    callCheckNumber r ≡ pairCallFault n t (turning g) s z (length table) n (length area) → r ≡ call-check.Free →
-    PairReady bs n t (turning g) s z table area
-call-free bs n t g s z table area ok r answer e =
-    let f = free-call n t (turning g) s z (length table) n (length area) (sym answer ∙ ap callCheckNumber e) (kept-always bs n t ok) in
+    (bs : List ℕ) (n t : ℕ) (terms : Terms) (s z : ℕ) (table area : List ℕ) → planFault bs n t ≡ 0 → (r : CallCheck) →
+    callCheckNumber r ≡ pairCallFault n t terms s z (length table) n (length area) → r ≡ call-check.Free →
+    PairReady bs n t terms s z table area
+call-free bs n t terms s z table area ok r answer e =
+    let f = free-call n t terms s z (length table) n (length area) (sym answer ∙ ap callCheckNumber e) in
     record {
       accepted = ok;
       units = f .units;
@@ -61,7 +60,7 @@ module _ (bs : List ℕ) (n t : ℕ) (terms : Terms) (s z : ℕ) (table area : L
 
   module _ (ok : planFault bs n t ≡ 0) (r : CallCheck)
       (answer : callCheckNumber r ≡ pairCallFault n t terms s z (length table) n (length area)) where
-    -- 12, 6, 7 or 8
+    -- 12, 14, 6, 7 or 8
     pub begins-call :
         (f : CallFault) → r ≡ call-check.Refused f →
         _≡_ {A = Outcome Values PairBuffers}

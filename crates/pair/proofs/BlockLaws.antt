@@ -4,6 +4,7 @@ use Prim.Native.Nat.{ℕ, zero, suc, _+_, _-_, _*_, _<_, _≤_, min}
 use native.Mathlib.Omega.{arith}
 use native.Mathlib.Numerals.{add-one}
 use native.Mathlib.Decide.{decLt, ℕ-discrete}
+use native.Mathlib.Nat.{mul-le-mul-left}
 use mathlib.Core.Path.{_≡_, refl, sym, ap, subst, _∙_}
 use mathlib.Core.Bool.{Bool, true, false, not, _&&_, and-false}
 use mathlib.Core.Logic.{_≢_, _⊎_, inl, inr, ⊎-elim, by-cases}
@@ -12,7 +13,7 @@ use borrow.Author.Tests.{eq-eqb}
 use lib.Dec.{eqb}
 use lib.ListN.{length, getD, drop}
 use Rattle.temporal.specs.Lists.{select}
-use Rattle.temporal.specs.Plan.{Plan, Terms}
+use Rattle.temporal.specs.Plan.{Plan, Terms, units}
 use Rattle.temporal.specs.Walk.{isInterior}
 use Rattle.temporal.specs.Shortest.{hops, count, throughIn}
 use Rattle.temporal.specs.Foremost.{arrival, arrivesBy, walksBy}
@@ -26,14 +27,15 @@ use Rattle.temporal.proofs.ForemostLaws.{foremost-at-most, foremost-by-arrival}
 use Rattle.temporal.proofs.ListLaws.{select-none}
 use Rattle.temporal.proofs.PlanLaws.{slots-within}
 use Rattle.temporal.proofs.ShortestLaws.{hops-empty, hops-bound}
-use Rattle.pass.specs.Passed.{waiting, areaSize, mostColumns}
 use Rattle.pass.specs.Column.{blockColumn}
 use Rattle.pass.specs.declared.Ended.{Ended}
-use Rattle.pass.specs.PassedColumns.{ColumnsReady, SettledAt, ColumnsPassed, slotOf}
-use Rattle.pass.proofs.SizeLaws.{first-part, some-column, area-fits}
-use Rattle.pass.proofs.UseLaws.{block-row, settled-in, not-settled, whole-few}
+use Rattle.pass.specs.PassedColumns.{SettledAt, ColumnsPassed, slotOf}
+use Rattle.stale.specs.Depth.{DepthOf}
+use Rattle.forward.specs.Passed.{passSize, mostColumns, Lent, DepthReady, UntilReady}
+use Rattle.forward.proofs.SizeLaws.{first-part, some-column, whole-lent, area-fits}
+use Rattle.forward.proofs.UseLaws.{block-row, settled-in, not-settled, whole-few}
 use Rattle.pair.specs.Throughs.{throughEntry, Storing, StoredBlock, PairReady, Asks, lastSlot, BlockReady}
-use Rattle.pair.specs.Throughs.{PairBy, BlockDone, ThroughsReady, Throughs}
+use Rattle.pair.specs.Throughs.{PairBy, BlockDone, ThroughsReady, BlocksReady, Throughs}
 use Rattle.pair.proofs.ThroughLaws.{entry-itself, entry-no-path, entry-rest}
 
 -- an end is never inside
@@ -53,12 +55,12 @@ difference row through count whole e f = omega arith
 -- ---- one block
 
 -- the source is not the station that the pass waits for
-pub waits-for-another : (n s z until : ℕ) → s < n → s ≢ z → Asks n z until → s ≢ until
+pub waits-for-another : (n s z until : ℕ) → s < n → s ≢ z → (until ≡ n) ⊎ (until ≡ z) → s ≢ until
 waits-for-another n s z until source different asks =
     ⊎-elim (λ none q. omega arith) (λ same q. different (q ∙ same)) asks
 
-module _ (bs : List ℕ) (n t : ℕ) (terms : Terms) (s z until low block : ℕ) (table area : List ℕ)
-    (ready : BlockReady bs n t terms s z until low block table area) where
+module _ (bs : List ℕ) (n t : ℕ) (terms : Terms) (depth s z until low block : ℕ) (table area : List ℕ)
+    (ready : BlockReady bs n t terms depth s z until low block table area) where
   ok : planFault bs n t ≡ 0
   ok = ready .accepted
 
@@ -66,16 +68,25 @@ module _ (bs : List ℕ) (n t : ℕ) (terms : Terms) (s z until low block : ℕ)
   p = planOf bs n t terms
 
   other : s ≢ until
-  other = waits-for-another n s z until (ready .source) (ready .different) (ready .asks)
+  other = waits-for-another n s z until (ready .source) (ready .different) (ready .asks .which)
 
   -- the pass can be made
-  pub block-pass : ColumnsReady bs n t terms s until block area
+  pub block-pass : UntilReady bs n t terms depth s until block area
   block-pass =
-      record { accepted = ok; units = ready .units; source = ready .source; other = other; fits = ready .fits }
+      record {
+        accepted = ok;
+        units = ready .units;
+        deep = ready .deep;
+        source = ready .source;
+        other = other;
+        waits = ready .asks .waits;
+        fits = ready .fits;
+      }
 
-  module _ (area′ : List ℕ) (r : Ended) (passed : ColumnsPassed bs n t terms s until (blockColumn low block) block area area′ r) where
+  module _ (area′ : List ℕ) (r : Ended)
+      (passed : ColumnsPassed bs n t terms s until (blockColumn low block) block (passSize n t terms depth block) area area′ r) where
     -- a count over 2^64 - 1
-    pub block-over : slotOf r ≡ 0 → BlockDone bs n t terms s z until low block table area table area′ 0
+    pub block-over : slotOf r ≡ 0 → BlockDone bs n t terms depth s z until low block table area table area′ 0
     block-over e =
         record {
           over = λ q. not-settled bs n t terms s until ok other (blockColumn low block) block area′ r (passed .ends) e;
@@ -95,7 +106,7 @@ module _ (bs : List ℕ) (n t : ℕ) (terms : Terms) (s z until low block : ℕ)
       -- the pair's walks by that slot are no more
       small : count (walksBy p s z (slotOf r)) ≤ 18446744073709551615
       unfolding planOf
-      small = ⊎-elim none-asked destination-asked (ready .asks)
+      small = ⊎-elim none-asked destination-asked (ready .asks .which)
         where
           none-asked : until ≡ n → count (walksBy p s z (slotOf r)) ≤ 18446744073709551615
           none-asked q = at-end .stations (omega arith) z (ready .destination)
@@ -161,14 +172,14 @@ module _ (bs : List ℕ) (n t : ℕ) (terms : Terms) (s z until low block : ℕ)
             few = accepted bs n t ok .stations;
             stations = ready .stations;
             table = ready .table;
-            fits = let first = first-part n (waiting t terms) block in omega arith;
+            fits = let first = first-part n t terms depth block in omega arith;
             at-most = λ j h ne path. let both = row j h ne path in let whole = here-count in omega arith;
           }
 
       -- and then it is done
       pub block-done :
           (table′ : List ℕ) → StoredBlock n z low block block area′ table table′ →
-          BlockDone bs n t terms s z until low block table area table′ area′ (slotOf r)
+          BlockDone bs n t terms depth s z until low block table area table′ area′ (slotOf r)
       block-done table′ st =
           record {
             over = λ q. absurd (d q);
@@ -189,9 +200,9 @@ module _ (bs : List ℕ) (n t : ℕ) (terms : Terms) (s z until low block : ℕ)
 -- ---- the loop
 
 -- the stations below low have their through counts, and after the first block the work area has the pair's hops and count
-pub record Blocks (bs : List ℕ) (n t : ℕ) (terms : Terms) (s z until : ℕ) (table area : List ℕ) (low : ℕ) (table′ area′ : List ℕ) (slot : ℕ) :
-    Type 0 where
-  pub ready : ThroughsReady bs n t terms s z until table area
+pub record Blocks (bs : List ℕ) (n t : ℕ) (terms : Terms) (depth most s z until : ℕ) (table area : List ℕ) (low : ℕ)
+    (table′ area′ : List ℕ) (slot : ℕ) : Type 0 where
+  pub blocks : BlocksReady bs n t terms depth most s z until table area
   pub within : low ≤ n
   pub some-slot : 0 < low → slot ≢ 0
   pub settled : 0 < low → PairBy bs n t terms s z until area′ slot
@@ -203,11 +214,11 @@ pub record Blocks (bs : List ℕ) (n t : ℕ) (terms : Terms) (s z until : ℕ) 
   pub area-length : length area′ ≡ length area
 
 pub blocks-none :
-    (bs : List ℕ) (n t : ℕ) (terms : Terms) (s z until : ℕ) (table area : List ℕ) (slot : ℕ) → ThroughsReady bs n t terms s z until table area →
-    Blocks bs n t terms s z until table area 0 table area slot
-blocks-none bs n t terms s z until table area slot r =
+    (bs : List ℕ) (n t : ℕ) (terms : Terms) (depth most s z until : ℕ) (table area : List ℕ) (slot : ℕ) →
+    BlocksReady bs n t terms depth most s z until table area → Blocks bs n t terms depth most s z until table area 0 table area slot
+blocks-none bs n t terms depth most s z until table area slot r =
     record {
-      ready = r;
+      blocks = r;
       within = omega arith;
       some-slot = λ h. absurd (omega arith);
       settled = λ h. absurd (omega arith);
@@ -218,47 +229,56 @@ blocks-none bs n t terms s z until table area slot r =
       area-length = refl;
     }
 
-module _ (bs : List ℕ) (n t : ℕ) (terms : Terms) (s z until : ℕ) (table area : List ℕ) (low : ℕ) (table′ area′ : List ℕ) (slot : ℕ)
-    (b : Blocks bs n t terms s z until table area low table′ area′ slot) (more : low < n) (most block : ℕ)
-    (m : most ≡ mostColumns n (4 * (t + 1)) (waiting t terms)) (k : block ≡ min most (n - low)) where
+module _ (bs : List ℕ) (n t : ℕ) (terms : Terms) (depth most s z until : ℕ) (table area : List ℕ) (low : ℕ) (table′ area′ : List ℕ)
+    (slot : ℕ) (b : Blocks bs n t terms depth most s z until table area low table′ area′ slot) (more : low < n) (block : ℕ)
+    (k : block ≡ min most (n - low)) where
+  ready : PairReady bs n t terms s z table area
+  ready = b .blocks .asked .ready
+
   some-block : 0 < block
   some-block =
-      let a = accepted bs n t (b .ready .ready .accepted) in
-      let columns = some-column n (4 * (t + 1)) (waiting t terms) (omega arith) (a .some-station) in
+      let a = accepted bs n t (ready .accepted) in
+      let lent = whole-lent n t terms depth (ready .units) (a .some-slot) (a .slots) (b .blocks .kept) in
+      let columns = some-column n t terms depth (4 * (t + 1)) lent (a .some-station) in
+      let same = b .blocks .columns in
       omega arith
 
-  few-columns : block ≤ mostColumns n (4 * (t + 1)) (waiting t terms)
-  few-columns = omega arith
+  few-columns : block ≤ mostColumns n t terms depth (4 * (t + 1))
+  few-columns = let same = b .blocks .columns in omega arith
+
+  fits : passSize n t terms depth block ≤ workSize n t
+  fits =
+      let a = accepted bs n t (ready .accepted) in
+      area-fits n t terms depth (ready .units) (a .some-slot) (a .slots) (b .blocks .kept) block few-columns
 
   pub block-within : low + block ≤ n
   block-within = omega arith
 
   -- the next block can be counted
-  pub next-ready : BlockReady bs n t terms s z until low block table′ area′
+  pub next-ready : BlockReady bs n t terms depth s z until low block table′ area′
   next-ready =
-      let fits = area-fits n t terms block few-columns in
-      let room = b .ready .ready .area in
+      let size = fits in
+      let room = ready .area in
       let same = b .area-length in
-      let tables = b .ready .ready .table in
+      let tables = ready .table in
       let kept = b .table-length in
       record {
-        accepted = b .ready .ready .accepted;
-        units = b .ready .ready .units;
-        source = b .ready .ready .source;
-        destination = b .ready .ready .destination;
-        different = b .ready .ready .different;
-        asks = b .ready .asks;
+        accepted = ready .accepted;
+        units = ready .units;
+        deep = b .blocks .deep;
+        source = ready .source;
+        destination = ready .destination;
+        different = ready .different;
+        asks = b .blocks .asked .asks;
         stations = block-within;
         table = omega arith;
         fits = omega arith;
       }
 
-  module _ (table″ area″ : List ℕ) (r : ℕ) (done : BlockDone bs n t terms s z until low block table′ area′ table″ area″ r) where
+  module _ (table″ area″ : List ℕ) (r : ℕ) (done : BlockDone bs n t terms depth s z until low block table′ area′ table″ area″ r) where
     same-beyond : drop (workSize n t) area″ ≡ drop (workSize n t) area
     same-beyond =
-        later-drop (areaSize n (waiting t terms) block) (workSize n t) area″ area′ (area-fits n t terms block few-columns)
-        (done .area-beyond) ∙
-        b .area-beyond
+        later-drop (passSize n t terms depth block) (workSize n t) area″ area′ fits (done .area-beyond) ∙ b .area-beyond
 
     -- too many
     pub blocks-refused : r ≡ 0 → Throughs bs n t terms s z until table area table″ area″ 0
@@ -275,10 +295,10 @@ module _ (bs : List ℕ) (n t : ℕ) (terms : Terms) (s z until : ℕ) (table ar
 
     module _ (d : r ≢ 0) where
       -- the next block
-      pub blocks-more : Blocks bs n t terms s z until table area (low + block) table″ area″ r
+      pub blocks-more : Blocks bs n t terms depth most s z until table area (low + block) table″ area″ r
       blocks-more =
           record {
-            ready = b .ready;
+            blocks = b .blocks;
             within = block-within;
             some-slot = λ h. d;
             settled = λ h. done .settled d;
@@ -305,10 +325,11 @@ module _ (bs : List ℕ) (n t : ℕ) (terms : Terms) (s z until : ℕ) (table ar
 
 -- after the last block
 pub blocks-end :
-    (bs : List ℕ) (n t : ℕ) (terms : Terms) (s z until : ℕ) (table area : List ℕ) (low : ℕ) (table′ area′ : List ℕ) (slot : ℕ) → n ≤ low →
-    Blocks bs n t terms s z until table area low table′ area′ slot → Throughs bs n t terms s z until table area table′ area′ slot
-blocks-end bs n t terms s z until table area low table′ area′ slot last b =
-    let some = accepted bs n t (b .ready .ready .accepted) .some-station in
+    (bs : List ℕ) (n t : ℕ) (terms : Terms) (depth most s z until : ℕ) (table area : List ℕ) (low : ℕ) (table′ area′ : List ℕ) (slot : ℕ) →
+    n ≤ low → Blocks bs n t terms depth most s z until table area low table′ area′ slot →
+    Throughs bs n t terms s z until table area table′ area′ slot
+blocks-end bs n t terms depth most s z until table area low table′ area′ slot last b =
+    let some = accepted bs n t (b .blocks .asked .ready .accepted) .some-station in
     record {
       over = λ q. absurd (b .some-slot (omega arith) q);
       settled = λ q. b .settled (omega arith);
@@ -320,3 +341,65 @@ blocks-end bs n t terms s z until table area low table′ area′ slot last b =
       area-beyond = b .area-beyond;
       area-length = b .area-length;
     }
+
+-- ---- before the blocks
+
+module _ (bs : List ℕ) (n t g h s z until : ℕ) (table area : List ℕ) (asked : ThroughsReady bs n t (units g h) s z until table area) where
+  -- how many appearances are kept can be found
+  pub depth-ready : DepthReady bs n t h area
+  depth-ready =
+      let turns = asked .ready .units .turns in
+      let keeps = asked .ready .units .keeps in
+      let room = asked .ready .area in
+      record {
+        accepted = asked .ready .accepted;
+        some = omega arith;
+        most = asked .ready .units .most;
+        fits = let one = mul-le-mul-left {m = 1} {n = t + 1} n (omega arith) in omega arith;
+      }
+
+  module _ (area′ : List ℕ) (depth : ℕ) (found : DepthOf bs n h area area′ depth) where
+    -- and how many columns fit
+    pub columns-lent : Lent t (units g h) depth (4 * (t + 1))
+    columns-lent =
+        let a = accepted bs n t (asked .ready .accepted) in
+        whole-lent n t (units g h) depth (asked .ready .units) (a .some-slot) (a .slots) (found .most)
+
+    pub blocks-ready : (most : ℕ) → most ≡ mostColumns n t (units g h) depth (4 * (t + 1))
+        → BlocksReady bs n t (units g h) depth most s z until table area′
+    blocks-ready most columns =
+        let room = asked .ready .area in
+        let same = found .same-length in
+        record {
+          asked = record {
+            ready = record {
+              accepted = asked .ready .accepted;
+              units = asked .ready .units;
+              source = asked .ready .source;
+              destination = asked .ready .destination;
+              different = asked .ready .different;
+              table = asked .ready .table;
+              area = omega arith;
+            };
+            asks = asked .asks;
+          };
+          deep = found .deep;
+          kept = found .most;
+          columns = columns;
+        }
+
+    -- what is counted then is counted from the entry on
+    pub throughs-entry : (table″ area″ : List ℕ) (r : ℕ) → Throughs bs n t (units g h) s z until table area′ table″ area″ r
+        → Throughs bs n t (units g h) s z until table area table″ area″ r
+    throughs-entry table″ area″ r x =
+        record {
+          over = x .over;
+          settled = x .settled;
+          counted = x .counted;
+          table-beyond = x .table-beyond;
+          table-length = x .table-length;
+          area-beyond = x .area-beyond ∙
+              later-drop n (workSize n t) area′ area (let one = mul-le-mul-left {m = 1} {n = t + 1} n (omega arith) in omega arith)
+              (found .beyond);
+          area-length = x .area-length ∙ found .same-length;
+        }

@@ -30,7 +30,7 @@ use Rattle.pair.specs.Answer.{pairBuffers}
 use Rattle.pair.specs.Throughs.{PairReady, Throughs}
 use Rattle.pair.proofs.BeginLaws.{begins-plan, begins-call, begins-works}
 
--- a pass that waits for no station ends in the last slot, and the walks by it are the shortest paths
+-- a pass that waits for no station ends in the last slot, and the walks by it are the shortest walks
 by-last-slot :
     (bs : List ℕ) (n t : ℕ) (terms : Terms) (s z : ℕ) → planFault bs n t ≡ 0 → s < n → (e : ℕ) → e ≡ min t (arrival (planOf bs n t terms) s n) →
     walksBy (planOf bs n t terms) s z e ≡ shortestWalksTo (planOf bs n t terms) s z
@@ -96,7 +96,7 @@ module _ (bs : List ℕ) (n t : ℕ) (terms : Terms) (s z : ℕ) (table area : L
 
   module _ (ok : planFault bs n t ≡ 0) (r : CallCheck)
       (answer : callCheckNumber r ≡ pairCallFault n t terms s z (length table) n (length area)) where
-    -- 12, 6, 7 or 8
+    -- 12, 14, 6, 7 or 8
     pub pair-call :
         (f : CallFault) → r ≡ call-check.Refused f →
         _≡_ {A = Outcome PairValues PairBuffers}

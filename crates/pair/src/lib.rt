@@ -1,6 +1,6 @@
 // Operation 4, pair, over the pass.
 ghost use mathlib.Core.Path.{_≡_};
-ghost use Rattle.temporal.specs.Plan.{turning};
+ghost use Rattle.temporal.specs.Plan.{units};
 ghost use Rattle.temporal.specs.Bytes.{planOf};
 ghost use Rattle.temporal.specs.Cause.{planFault};
 ghost use Rattle.temporal.specs.OutcomePair.{paired, pair};
@@ -13,6 +13,7 @@ ghost use Rattle.pair.specs.Throughs.{
   PairReady,
   BlockReady,
   BlockDone,
+  BlocksReady,
   ThroughsReady,
   Throughs,
 };
@@ -64,22 +65,70 @@ fn block_throughs(
     n: usize,
     t: usize,
     g: usize,
+    h: usize,
+    depth: usize,
     s: usize,
     z: usize,
     low: usize,
     block: usize,
     until: usize,
 ) -> usize
-    requires { ⌜ BlockReady (now plan) n t (turning g) s z until low block (now through) (now work) ⌝ }
-    ensures { λ r. ⌜ BlockDone (now (plan .entry)) n t (turning g) s z until low block
+    requires { ⌜ BlockReady (now plan) n t (units g h) depth s z until low block (now through) (now work) ⌝ }
+    ensures { λ r. ⌜ BlockDone (now (plan .entry)) n t (units g h) depth s z until low block
         (now (through .entry)) (now (work .entry)) (now (through .exit)) (now (work .exit)) r ⌝ }
 {
-    let ended = pass::pass_until(work, plan, n, t, g, s, low, block, until);
-    let slot = pass::settled_slot(ended);
+    let ended = forward::pass_until(work, plan, n, t, g, h, depth, s, low, block, until);
+    let slot = forward::settled_slot(ended);
     if slot == 0 {
         return 0;
     }
     store(through, work, n, z, low, block);
+    slot
+}
+
+// The through counts of a pair, in blocks of at most so many columns.
+fn through_blocks(
+    through: &mut [u64],
+    work: &mut [u64],
+    plan: &[u8],
+    n: usize,
+    t: usize,
+    g: usize,
+    h: usize,
+    depth: usize,
+    most: usize,
+    s: usize,
+    z: usize,
+    until: usize,
+) -> usize
+    requires { ⌜ BlocksReady (now plan) n t (units g h) depth most s z until (now through) (now work) ⌝ }
+    ensures { λ r. ⌜ Throughs (now (plan .entry)) n t (units g h) s z until
+        (now (through .entry)) (now (work .entry)) (now (through .exit)) (now (work .exit)) r ⌝ }
+{
+    let mut low = 0;
+    let mut slot = 0;
+    while low < n {
+        let block = pass::smaller(most, n - low);
+        slot = block_throughs(
+            through,
+            work,
+            plan,
+            n,
+            t,
+            g,
+            h,
+            depth,
+            s,
+            z,
+            low,
+            block,
+            until,
+        );
+        if slot == 0 {
+            return 0;
+        }
+        low += block;
+    }
     slot
 }
 
@@ -92,30 +141,21 @@ pub fn throughs(
     n: usize,
     t: usize,
     g: usize,
+    h: usize,
     s: usize,
     z: usize,
     until: usize,
 ) -> usize
-    requires { ⌜ ThroughsReady (now plan) n t (turning g) s z until (now through) (now work) ⌝ }
-    ensures { λ r. ⌜ Throughs (now (plan .entry)) n t (turning g) s z until
+    requires { ⌜ ThroughsReady (now plan) n t (units g h) s z until (now through) (now work) ⌝ }
+    ensures { λ r. ⌜ Throughs (now (plan .entry)) n t (units g h) s z until
         (now (through .entry)) (now (work .entry)) (now (through .exit)) (now (work .exit)) r ⌝ }
 {
-    let q = pass::smaller(g, t);
-    let most = pass::most_columns(n, 4 * (t + 1), q);
-    let mut low = 0;
-    let mut slot = 0;
-    while low < n {
-        let block = pass::smaller(most, n - low);
-        slot = block_throughs(through, work, plan, n, t, g, s, z, low, block, until);
-        if slot == 0 {
-            return 0;
-        }
-        low += block;
-    }
-    slot
+    let depth = forward::depth(work, plan, n, t, h);
+    let most = forward::most_columns(n, t, g, h, depth, 4 * (t + 1));
+    through_blocks(through, work, plan, n, t, g, h, depth, most, s, z, until)
 }
 
-// Pair once 1 to 8 and 12 are excluded.
+// Pair once 1 to 8, 12 and 14 are excluded.
 fn pair_work(
     through: &mut [u64],
     work: &mut [u64],
@@ -123,13 +163,15 @@ fn pair_work(
     n: usize,
     t: usize,
     g: usize,
+    h: usize,
     s: usize,
     z: usize,
 ) -> PairAnswer
-    requires { ⌜ PairReady (now plan) n t (turning g) s z (now through) (now work) ⌝ }
-    ensures { λ r. ⌜ pairOutcome r (pairBuffers (now (through .exit)) (now (work .exit))) ≡ paired (planOf (now (plan .entry)) n t (turning g)) s z (pairBuffers (now (through .entry)) (now (work .entry))) ⌝ }
+    requires { ⌜ PairReady (now plan) n t (units g h) s z (now through) (now work) ⌝ }
+    ensures { λ r. ⌜ pairOutcome r (pairBuffers (now (through .exit)) (now (work .exit))) ≡
+        paired (planOf (now (plan .entry)) n t (units g h)) s z (pairBuffers (now (through .entry)) (now (work .entry))) ⌝ }
 {
-    if throughs(through, work, plan, n, t, g, s, z, n) == 0 {
+    if throughs(through, work, plan, n, t, g, h, s, z, n) == 0 {
         memory::clear(through, n);
         memory::clear(work, 4 * (n * (t + 1)));
         return PairAnswer::Refused(Fault::Call(CallFault::TooMany));
@@ -140,7 +182,7 @@ fn pair_work(
     PairAnswer::Counted(hops, count)
 }
 
-// Pair on an accepted plan: 12, 6, 7 and 8, then the work.
+// Pair on an accepted plan: 12, 14, 6, 7 and 8, then the work.
 fn pair_accepted(
     through: &mut [u64],
     work: &mut [u64],
@@ -148,35 +190,39 @@ fn pair_accepted(
     n: usize,
     t: usize,
     g: usize,
+    h: usize,
     s: usize,
     z: usize,
 ) -> PairAnswer
     requires { ⌜ planFault (now plan) n t ≡ 0 ⌝ }
-    ensures { λ r. ⌜ pairOutcome r (pairBuffers (now (through .exit)) (now (work .exit))) ≡ pair (now (plan .entry)) n t (turning g) s z (pairBuffers (now (through .entry)) (now (work .entry))) ⌝ }
+    ensures { λ r. ⌜ pairOutcome r (pairBuffers (now (through .exit)) (now (work .exit))) ≡
+        pair (now (plan .entry)) n t (units g h) s z (pairBuffers (now (through .entry)) (now (work .entry))) ⌝ }
 {
-    let CallCheck::Refused(fault) = calls::pair_call(n, t, g, s, z, through.len(), n, work.len())
+    let CallCheck::Refused(fault) = calls::pair_call(n, t, g, h, s, z, through.len(), n, work.len())
     else {
-        return pair_work(through, work, plan, n, t, g, s, z);
+        return pair_work(through, work, plan, n, t, g, h, s, z);
     };
     PairAnswer::Refused(Fault::Call(fault))
 }
 
-// Operation 4, pair: the hops and the count of the shortest paths from s to z, and in the table how many of them have each
-// station inside. 65535, 0 and all 0 where there is no path.
+// Operation 4, pair: the hops and the count of the shortest walks from s to z, and in the table how many of them have each
+// station inside. 65535, 0 and all 0 where there is no walk.
 pub fn pair(
     plan: &[u8],
     n: usize,
     t: usize,
     g: usize,
+    h: usize,
     s: usize,
     z: usize,
     through: &mut [u64],
     work: &mut [u64],
 ) -> PairAnswer
-    ensures { λ r. ⌜ pairOutcome r (pairBuffers (now (through .exit)) (now (work .exit))) ≡ pair (now (plan .entry)) n t (turning g) s z (pairBuffers (now (through .entry)) (now (work .entry))) ⌝ }
+    ensures { λ r. ⌜ pairOutcome r (pairBuffers (now (through .exit)) (now (work .exit))) ≡
+        pair (now (plan .entry)) n t (units g h) s z (pairBuffers (now (through .entry)) (now (work .entry))) ⌝ }
 {
     let CheckAnswer::Refused(fault) = plan::check(plan, n, t) else {
-        return pair_accepted(through, work, plan, n, t, g, s, z);
+        return pair_accepted(through, work, plan, n, t, g, h, s, z);
     };
     PairAnswer::Refused(Fault::Plan(fault))
 }

@@ -213,6 +213,6 @@ module _ (bs : List ℕ) (n t : ℕ) (terms : Terms) (ok : planFault bs n t ≡ 
     pub at-hops : (z : ℕ) → z < n → getD w z 0 ≡ hops (walksBy (planOf bs n t terms) s z e)
     at-hops = entries-hops col block w e (λ z h. entry z h .entry) (λ z c h i few free. entry z h .row c i few)
 
-    -- (kept) The settled entries are hops and counts, and a row says how many walks have no station of a column inside.
+    -- The settled entries are hops and counts, and a row says how many walks have no station of a column inside.
     pub counted : CountedBy bs n t terms s e col block w
     counted = entries-counted col block w e (λ z h. entry z h .entry) (λ z c h i few free. entry z h .row c i few)

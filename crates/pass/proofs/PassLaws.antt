@@ -32,8 +32,7 @@ use Rattle.pass.specs.declared.Ended.the-variants as ended
 use Rattle.pass.specs.Entry.{areaOverflows, reachedEntry}
 use Rattle.pass.specs.Row.{partAt}
 use Rattle.pass.specs.Sweep.{foldedArea, sweepOf, settledFrom, begunArea, PartFits, Area, FoldableArea}
-use Rattle.pass.specs.Passed.{waiting, areaSize}
-use Rattle.pass.specs.PassedColumns.{ColumnsReady, SettledAt, EndedAs, ColumnsPassed, lastEnded}
+use Rattle.pass.specs.PassedColumns.{waiting, areaSize, ColumnsReady, SettledAt, EndedAs, ColumnsPassed, lastEnded}
 use Rattle.pass.proofs.PlaceLaws.{area-kept, part-fits, part-again}
 use Rattle.pass.proofs.ColumnLaws.{mayLeave, source-free}
 use Rattle.pass.proofs.StateLaws.{AreaState}
@@ -277,7 +276,7 @@ module _ (bs : List ℕ) (n t : ℕ) (terms : Terms) (s until : ℕ) (col : ℕ 
           next-beyond = drop-same (areaSize n q block) w′ old (state-next .same) (state-next .beyond)
 
           -- a large sequence is a cause of refusal, and nothing past the area is touched
-          pub passed-over : r ≡ true → ColumnsPassed bs n t terms s until col block old w′ ended.AppearanceTooMany
+          pub passed-over : r ≡ true → ColumnsPassed bs n t terms s until col block (areaSize n (waiting t terms) block) old w′ ended.AppearanceTooMany
           unfolding walksAt EndedAs
           passed-over over =
               record {
@@ -319,7 +318,7 @@ module _ (bs : List ℕ) (n t : ℕ) (terms : Terms) (s until : ℕ) (col : ℕ 
 
             -- it has one, and the pass ends
             pub passed-reached : reachedEntry n w′ until ≡ true
-                → ColumnsPassed bs n t terms s until col block old w′ (ended.Settled (u + 1 - q))
+                → ColumnsPassed bs n t terms s until col block (areaSize n (waiting t terms) block) old w′ (ended.Settled (u + 1 - q))
             unfolding EndedAs
             passed-reached in-reach =
                 record {
@@ -338,7 +337,7 @@ module _ (bs : List ℕ) (n t : ℕ) (terms : Terms) (s until : ℕ) (col : ℕ 
   -- past the last slot the stations' counts are looked at, where the pass waits for none
   pub passed-end : (base u j : ℕ) (w : List ℕ) (r : Ended) → Passing bs n t terms s until col block q old base u j w → t + q ≤ u
       → r ≡ lastEnded n t until (any (areaOverflows n w) (below n))
-      → ColumnsPassed bs n t terms s until col block old w r
+      → ColumnsPassed bs n t terms s until col block (areaSize n (waiting t terms) block) old w r
   unfolding lastEnded EndedAs
   passed-end base u j w r x past e =
       record {
@@ -441,8 +440,8 @@ module _ (bs : List ℕ) (n t : ℕ) (terms : Terms) (s until : ℕ) (col : ℕ 
       }
 
   -- what is promised from there on is promised from the entry on
-  pub passed-entry : (new : List ℕ) (r : Ended) → ColumnsPassed bs n t terms s until col block begins new r
-      → ColumnsPassed bs n t terms s until col block old new r
+  pub passed-entry : (new : List ℕ) (r : Ended) → ColumnsPassed bs n t terms s until col block (areaSize n (waiting t terms) block) begins new r
+      → ColumnsPassed bs n t terms s until col block (areaSize n (waiting t terms) block) old new r
   passed-entry new r x =
       record {
         ends = x .ends;

@@ -108,7 +108,7 @@ module _ (bs : List ℕ) (n t : ℕ) (terms : Terms) (ok : planFault bs n t ≡ 
         go false r f = absurd (let z : _≡_ {A = ℕ} 0 1 = cc in omega arith)
 
 module _ (bs : List ℕ) (n t : ℕ) (terms : Terms) (ok : planFault bs n t ≡ 0) (s : ℕ) where
-  -- (kept) settled entries past the last slot that are over 2^64 - 1 are those of stations that have too many
+  -- settled entries past the last slot that are over 2^64 - 1 are those of stations that have too many
   pub stations-over : (f : ℕ → Bool)
       → ((v : ℕ) → v < n → f v ≡ ltb 18446744073709551615 (count (walksBy (planOf bs n t terms) s v t)))
       → any f (below n) ≡ stationTooMany (planOf bs n t terms) s

@@ -12,7 +12,8 @@ use Rattle.pass.specs.declared.Columns.the-variants as columns
 abbrev pub blockColumn : ℕ → ℕ → ℕ → ℕ
 blockColumn low none v = cond (ltb v low) none (v - low)
 
--- The column that stands for station v, and the number none where no column does. From low: that of a block. Members z: column 0 stands for each station whose byte in the set is 1 but z; one past the end is no member.
+-- The column that stands for station v, and the number none where no column does. From low: that of a block. Members z: column 0 stands
+-- for each station whose byte in the set is 1 but z; one past the end is no member.
 unfoldable pub columnOf : Columns → List ℕ → ℕ → ℕ → ℕ
 columnOf (columns.From low) set none v = blockColumn low none v
 columnOf (columns.Members z) set none v = cond (eqb v z) none (cond (eqb (getD set v 0) 1) 0 none)

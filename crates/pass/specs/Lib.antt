@@ -3,6 +3,4 @@ pub mod Row
 pub mod Entry
 pub mod Sweep
 pub mod Column
-pub mod Passed
 pub mod PassedColumns
-pub mod Window

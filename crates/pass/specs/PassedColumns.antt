@@ -16,7 +16,15 @@ use Rattle.temporal.specs.Set.{touchedIn}
 use Rattle.temporal.specs.Foremost.{arrival, walksBy}
 use Rattle.pass.specs.declared.Ended.{Ended}
 use Rattle.pass.specs.declared.Ended.the-variants as ended
-use Rattle.pass.specs.Passed.{waiting, areaSize}
+use Rattle.pass.specs.Row.{partSize}
+
+-- in how many parts of the work area the pass has what waits: as many as the turnaround has slots, but no more than there are
+abbrev pub waiting : ℕ → Terms → ℕ
+waiting t terms = min (terms .turnaround) t
+
+-- how many entries of the work area the pass uses, with q parts of what waits
+abbrev pub areaSize : ℕ → ℕ → ℕ → ℕ
+areaSize n q block = (1 + q) * partSize n block
 
 -- an accepted plan, a turnaround, a source in it that the pass does not wait for, and a work area that is long enough
 pub record ColumnsReady (bs : List ℕ) (n t : ℕ) (terms : Terms) (s until block : ℕ) (work : List ℕ) : Type 0 where
@@ -58,10 +66,11 @@ EndedAs bs n t terms s until col block work (ended.Settled e) = SettledAt bs n t
 EndedAs bs n t terms s until col block work ended.StationTooMany = StationMet bs n t terms s until
 EndedAs bs n t terms s until col block work ended.AppearanceTooMany = appearanceTooMany (planOf bs n t terms) s ≡ true
 
--- What the pass promises: how it ends, and that nothing past its part of the work area is touched.
-pub record ColumnsPassed (bs : List ℕ) (n t : ℕ) (terms : Terms) (s until : ℕ) (col : ℕ → ℕ) (block : ℕ) (old new : List ℕ) (r : Ended) : Type 0 where
+-- What a pass promises: how it ends, and that nothing past its part of the work area, of so many entries, is touched.
+pub record ColumnsPassed (bs : List ℕ) (n t : ℕ) (terms : Terms) (s until : ℕ) (col : ℕ → ℕ) (block size : ℕ) (old new : List ℕ) (r : Ended)
+    : Type 0 where
   pub ends : EndedAs bs n t terms s until col block new r
-  pub beyond : drop (areaSize n (waiting t terms) block) new ≡ drop (areaSize n (waiting t terms) block) old
+  pub beyond : drop size new ≡ drop size old
   pub same-length : length new ≡ length old
 
 -- whether a pass met a count over 2^64 - 1

@@ -28,6 +28,7 @@ pub enum CallFault {
     SetByte,
     Turnaround,
     Sources,
+    Keeping,
 }
 
 // Why an operation refuses.
@@ -68,6 +69,7 @@ pub fn call_number(fault: CallFault) -> usize
         CallFault::SetByte => 11,
         CallFault::Turnaround => 12,
         CallFault::Sources => 13,
+        CallFault::Keeping => 14,
     }
 }
 

@@ -1,4 +1,5 @@
--- How reach begins: the first cause of refusal, from comparisons of numbers. Assumes nothing.
+-- How reach begins: the first cause of refusal, from the answers about the plan and the terms and from comparisons of numbers. Assumes
+-- nothing.
 use Prim.Native.Nat.{ℕ, _+_, _*_, _<_, _≤_}
 use native.Mathlib.Omega.{arith}
 use mathlib.Core.Path.{_≡_, sym, ap, _∙_}
@@ -8,21 +9,27 @@ use borrow.Author.Tests.{lt-ltb, le-ltb, le-leb, lt-leb}
 use lib.ListN.{length}
 use Rattle.temporal.specs.Plan.{Terms}
 use Rattle.temporal.specs.Bytes.{planOf}
-use Rattle.temporal.specs.Cause.{planFault, wrongTurnaround, stationCauses}
-use Rattle.temporal.specs.Outcome.{Outcome, short, places, ReachTables, reached, reach}
+use Rattle.temporal.specs.Cause.{planFault, first, termsCauses, stationCauses}
+use Rattle.temporal.specs.Outcome.{Outcome, entered, short, places, ReachTables, reached, reach}
 use Rattle.temporal.proofs.EnteredLaws.{
   refusedWith,
   entered-plan,
   entered-call,
+  entered-none,
   entered-cause,
   entered-pass,
   entered-work,
 }
-use Rattle.plan.specs.Fault.{planNumber, checkNumber}
+use Rattle.plan.specs.Fault.{planNumber, callNumber, checkNumber}
 use Rattle.plan.specs.declared.PlanFault.{PlanFault}
 use Rattle.plan.specs.declared.CheckAnswer.{CheckAnswer}
 use Rattle.plan.specs.declared.CheckAnswer.the-variants.{Accepted, Refused}
+use Rattle.plan.specs.declared.CallFault.{CallFault}
 use Rattle.plan.proofs.Answers.{number-positive}
+use Rattle.calls.specs.Call.{callCheckNumber}
+use Rattle.calls.specs.declared.CallCheck.{CallCheck}
+use Rattle.calls.specs.declared.CallCheck.the-variants as call
+use Rattle.calls.proofs.CallLaws.{terms-refused}
 
 -- a plan that check accepts
 pub accepted-plan :
@@ -30,6 +37,12 @@ pub accepted-plan :
 accepted-plan bs n t r answer e = sym answer ∙ ap checkNumber e
 
 module _ (bs : List ℕ) (n t : ℕ) (terms : Terms) (s : ℕ) (old : ReachTables) where
+  -- whether one of the four tables is too short
+  abbrev lacking : Bool
+  lacking =
+      short (places n t) (old .hopsTable) || short (places n t) (old .countTable) ||
+      (short n (old .stationHops) || short n (old .stationCounts))
+
   -- a plan that check refuses
   pub reach-plan :
       (r : CheckAnswer) (f : PlanFault) → checkNumber r ≡ planFault bs n t → r ≡ Refused f →
@@ -42,29 +55,26 @@ module _ (bs : List ℕ) (n t : ℕ) (terms : Terms) (s : ℕ) (old : ReachTable
       sym (entered-plan tt old (reached (planOf bs n t terms) s old) bs n t _ (omega arith))
 
   module _ (ok : planFault bs n t ≡ 0) where
+    -- terms that are refused
     pub reach-terms :
-        wrongTurnaround terms ≡ true → reach bs n t terms s old ≡ refusedWith tt old (reached (planOf bs n t terms) s old) 12
+        (r : CallCheck) (f : CallFault) → callCheckNumber r ≡ first (termsCauses terms) → r ≡ call.Refused f →
+        refusedWith tt old (reached (planOf bs n t terms) s old) (callNumber f) ≡ reach bs n t terms s old
     unfolding reach
-    reach-terms e = entered-call tt old _ bs n t _ ok ∙ entered-cause tt old _ 11 _ _ e
+    reach-terms r f found e = terms-refused tt old _ bs n t terms _ ok r found f e
 
-    module _ (right : wrongTurnaround terms ≡ false) where
+    module _ (right : first (termsCauses terms) ≡ 0) where
+      -- the station and the tables decide
+      reach-call : reach bs n t terms s old ≡ entered (stationCauses n s lacking) tt old (reached (planOf bs n t terms) s old)
+      unfolding reach
+      reach-call = entered-call tt old _ bs n t _ ok ∙ entered-none tt old _ (termsCauses terms) _ right
+
       pub reach-station : n ≤ s → reach bs n t terms s old ≡ refusedWith tt old (reached (planOf bs n t terms) s old) 6
-      unfolding reach stationCauses
-      reach-station h =
-          entered-call tt old _ bs n t _ ok ∙ entered-pass tt old _ 12 _ _ right ∙
-          entered-cause tt old _ 5 _ _ (le-leb n s h)
-
-      -- whether one of the four tables is too short
-      abbrev lacking : Bool
-      lacking =
-          short (places n t) (old .hopsTable) || short (places n t) (old .countTable) ||
-          (short n (old .stationHops) || short n (old .stationCounts))
+      unfolding stationCauses
+      reach-station h = reach-call ∙ entered-cause tt old _ 5 _ _ (le-leb n s h)
 
       lacks : s < n → lacking ≡ true → reach bs n t terms s old ≡ refusedWith tt old (reached (planOf bs n t terms) s old) 8
-      unfolding reach stationCauses
-      lacks h e =
-          entered-call tt old _ bs n t _ ok ∙ entered-pass tt old _ 12 _ _ right ∙
-          entered-pass tt old _ 6 _ _ (lt-leb n s h) ∙ entered-cause tt old _ 7 _ [] e
+      unfolding stationCauses
+      lacks h e = reach-call ∙ entered-pass tt old _ 6 _ _ (lt-leb n s h) ∙ entered-cause tt old _ 7 _ [] e
 
       module _ (inside : s < n) where
         pub reach-short-hops :
@@ -101,12 +111,11 @@ module _ (bs : List ℕ) (n t : ℕ) (terms : Terms) (s : ℕ) (old : ReachTable
                     lt-ltb (length (old .stationCounts)) n h,
                   ))
 
-              -- with 1 to 8 and 12 excluded the work is done
+              -- with 1 to 8, 12 and 14 excluded the work is done
               pub reach-works : n ≤ length (old .stationCounts) → reach bs n t terms s old ≡ reached (planOf bs n t terms) s old
-              unfolding reach stationCauses
+              unfolding stationCauses
               reach-works d =
-                  entered-call tt old _ bs n t _ ok ∙ entered-pass tt old _ 12 _ _ right ∙
-                  entered-pass tt old _ 6 _ _ (lt-leb n s inside) ∙ entered-pass tt old _ 8 _ [] none ∙
+                  reach-call ∙ entered-pass tt old _ 6 _ _ (lt-leb n s inside) ∙ entered-pass tt old _ 8 _ [] none ∙
                   entered-work tt old _
                 where
                   none : lacking ≡ false

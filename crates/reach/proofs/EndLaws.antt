@@ -225,7 +225,7 @@ module _ (bs : List ℕ) (n t : ℕ) (terms : Terms) (s : ℕ) (ok : planFault b
             sym (count-shortest (planOf bs n t terms) (start s) (isAt v) b));
       }
 
-  -- (kept) once the last slot is settled the tables are filled
+  -- once the last slot is settled the tables are filled
   pub end-state :
       (q : ℕ) → 0 < q → (old x : Tables) (j : ℕ) → TablesState bs n t terms s q old (t + q) j x → FilledTables bs n t terms s old x
   end-state q some old x j st =

@@ -6,7 +6,7 @@ use mathlib.Core.Path.{_≡_, refl, subst}
 use mathlib.Core.Bool.{true, false}
 use mathlib.Core.Logic.{by-cases}
 use mathlib.Core.List.{List}
-use Rattle.temporal.specs.Plan.{Terms, Lasting}
+use Rattle.temporal.specs.Plan.{Terms, Keeps, Allowed}
 use Rattle.temporal.proofs.PlanLaws.{kept-plan}
 use Rattle.temporal.specs.Bytes.{records, planOf}
 use Rattle.temporal.specs.Cause.{planFault}
@@ -33,11 +33,11 @@ pub record Running (bs : List ℕ) (n t : ℕ) (terms : Terms) (s width q end : 
 
 -- (kept) what is heard waits as many slots as the turnaround says, but no more than there are
 waits-min :
-    (bs : List ℕ) (n t : ℕ) (terms : Terms) → planFault bs n t ≡ 0 → Lasting t terms →
+    (bs : List ℕ) (n t : ℕ) (terms : Terms) → planFault bs n t ≡ 0 → Allowed terms → Keeps t terms →
     Waits (planOf bs n t terms) (min (terms .turnaround) t)
 unfolding planOf
-waits-min bs n t terms ok units =
-    waits-turnaround (planOf bs n t terms) (kept-plan bs n t terms (units .keeps)) (accepted bs n t ok .some-slot) (units .turns)
+waits-min bs n t terms ok units keeps =
+    waits-turnaround (planOf bs n t terms) (kept-plan bs n t terms keeps) (accepted bs n t ok .some-slot) (units .turns)
 
 -- the slots of waiting lie within the plan's
 waits-most : (bs : List ℕ) (n t : ℕ) (terms : Terms) (q : ℕ) → Waits (planOf bs n t terms) q → q ≤ t
@@ -46,10 +46,10 @@ waits-most bs n t terms q w = w .most
 
 -- (kept) the tables begun run, seen from themselves
 pub running-begin :
-    (bs : List ℕ) (n t : ℕ) (terms : Terms) (s width q end : ℕ) (old x : Tables) → ReachReady bs n t terms s old → width ≡ t + 1 →
-    q ≡ min (terms .turnaround) t → end ≡ t + q → x ≡ begunTables n width s old → Running bs n t terms s width q end x 1 0 x
-running-begin bs n t terms s width q end old x r e m l b =
-    let w : Waits (planOf bs n t terms) q = rw m (waits-min bs n t terms (r .accepted) (r .units)) in
+    (bs : List ℕ) (n t : ℕ) (terms : Terms) (s width q end : ℕ) (old x : Tables) → ReachReady bs n t terms s old → Keeps t terms →
+    width ≡ t + 1 → q ≡ min (terms .turnaround) t → end ≡ t + q → x ≡ begunTables n width s old → Running bs n t terms s width q end x 1 0 x
+running-begin bs n t terms s width q end old x r keeps e m l b =
+    let w : Waits (planOf bs n t terms) q = rw m (waits-min bs n t terms (r .accepted) (r .units) keeps) in
     let st : TablesState bs n t terms s q old 1 0 x =
     rw (b, e) (begin-state bs n t terms s (r .accepted) (r .source) old (r .fits) q (w .some)) in
     record {

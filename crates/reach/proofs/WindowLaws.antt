@@ -25,8 +25,8 @@ use Rattle.entries.proofs.EntryLaws.{Entry, entry-none, entry-ext}
 use Rattle.entries.proofs.HopLaws.{walks-few}
 use Rattle.reach.proofs.EndLaws.{begin-state, holds-appearance, holds-station}
 use Rattle.reach.specs.Table.{Table, tableOf, mergedTable, foldedTable, settledTable, Fits, FoldableTables}
-use Rattle.reach.specs.Pass.{Tables, begunTables, Beyond, FilledTables}
-use Rattle.reach.specs.Window.{gathered, emptiedEntry, windowTable, windowFolded, emptiedStations, settledSlots, WindowReady}
+use Rattle.reach.specs.Pass.{Tables, begunTables, Beyond, FilledTables, ReachReady}
+use Rattle.reach.specs.Window.{gathered, emptiedEntry, windowTable, windowFolded, emptiedStations, settledSlots}
 use Rattle.reach.proofs.MergeLaws.{merged-hops-length, merged-counts-length}
 use Rattle.reach.proofs.PlaceLaws.{place-below}
 use Rattle.reach.proofs.EntryLaws.{EntryAt, entry-merged}
@@ -546,7 +546,7 @@ pub record Windowing (bs : List ℕ) (n t : ℕ) (terms : Terms) (s width m : �
   pub all : m ≡ records bs
   pub state : WindowState bs n t terms s begun j x
 
-module _ (bs : List ℕ) (n t : ℕ) (terms : Terms) (s width m : ℕ) (old : Tables) (ready : WindowReady bs n t terms s old) where
+module _ (bs : List ℕ) (n t : ℕ) (terms : Terms) (s width m : ℕ) (old : Tables) (ready : ReachReady bs n t terms s old) where
   pub windowing-begun :
       (x : Tables) → width ≡ t + 1 → m ≡ length bs / 6 → x ≡ begunTables n width s old → Windowing bs n t terms s width m x 0 x
   unfolding records
@@ -578,7 +578,7 @@ module _ (bs : List ℕ) (n t : ℕ) (terms : Terms) (s width m : ℕ) (old : Ta
           wide = w .wide;
           all = w .all;
           state = rw (e, w .wide)
-              (window-fold bs n t terms s (ready .accepted) (ready .turns) begun j x (w .state) (let q = w .all in omega arith));
+              (window-fold bs n t terms s (ready .accepted) (ready .units .turns) begun j x (w .state) (let q = w .all in omega arith));
         }
 
     -- in the end the tables are filled, also seen from before they were begun

@@ -6,7 +6,7 @@ use mathlib.Core.Bool.{Bool, cond, _||_}
 use mathlib.Core.List.{List}
 use lib.Dec.{ltb}
 use lib.ListN.{length, getD, set, drop, replicate}
-use Rattle.temporal.specs.Plan.{Terms, Lasting}
+use Rattle.temporal.specs.Plan.{Terms, Allowed}
 use Rattle.temporal.specs.Lists.{any, below}
 use Rattle.temporal.specs.Bytes.{contactAt, planOf}
 use Rattle.temporal.specs.Cause.{planFault}
@@ -78,10 +78,10 @@ pub record FilledTables (bs : List ℕ) (n t : ℕ) (terms : Terms) (s : ℕ) (o
   pub appearances-beyond : Beyond (n * (t + 1)) (old .appearances) (new .appearances)
   pub stations-beyond : Beyond n (old .stations) (new .stations)
 
--- what the pass asks: an accepted plan, a turnaround other than 0, a source in the plan, and tables that fit
+-- what filling the tables asks: an accepted plan, allowed terms, a source in the plan, and tables that fit
 pub record ReachReady (bs : List ℕ) (n t : ℕ) (terms : Terms) (s : ℕ) (x : Tables) : Type 0 where
   pub accepted : planFault bs n t ≡ 0
-  pub units : Lasting t terms
+  pub units : Allowed terms
   pub source : s < n
   pub fits : Fits n (t + 1) (x .appearances) (x .stations)
 

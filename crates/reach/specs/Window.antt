@@ -1,14 +1,11 @@
 -- The pass where readings go stale: before a record is folded in, what its sender may send on in its slot is gathered in the sender's
 -- entry of the stations' table; at the end that table is made of all slots. Definitions only.
 -- Assumes nothing.
-use Prim.Native.Nat.{ℕ, zero, suc, _+_, _-_, _*_, _<_}
-use mathlib.Core.Path.{_≡_}
-use mathlib.Core.List.{List}
+use Prim.Native.Nat.{ℕ, zero, suc, _+_, _-_, _*_}
 use lib.ListN.{getD, set, replicate}
-use Rattle.temporal.specs.Plan.{Contact, Terms, windowFirst, windowEnd}
-use Rattle.temporal.specs.Cause.{planFault}
+use Rattle.temporal.specs.Plan.{Contact, windowFirst, windowEnd}
 use Rattle.temporal.specs.Outcome.{over}
-use Rattle.reach.specs.Table.{Table, tableOf, mergedTable, foldedTable, settledTable, Fits}
+use Rattle.reach.specs.Table.{Table, tableOf, mergedTable, foldedTable, settledTable}
 use Rattle.reach.specs.Pass.{Tables}
 
 -- k appearances of station v, from slot t on, are taken into its entry
@@ -40,10 +37,3 @@ emptiedStations n y = tableOf (over (replicate n 65535) (y .hops)) (over (replic
 unfoldable pub settledSlots : ℕ → ℕ → Table → Table → ℕ → ℕ → Table
 settledSlots n width x y u zero = y
 settledSlots n width x y u (suc k) = settledSlots n width x (settledTable width u x y 0 n) (u + 1) k
-
--- what the pass asks: an accepted plan, a turnaround other than 0, a source in the plan, and tables that fit
-pub record WindowReady (bs : List ℕ) (n t : ℕ) (terms : Terms) (s : ℕ) (x : Tables) : Type 0 where
-  pub accepted : planFault bs n t ≡ 0
-  pub turns : 0 < terms .turnaround
-  pub source : s < n
-  pub fits : Fits n (t + 1) (x .appearances) (x .stations)

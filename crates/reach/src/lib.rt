@@ -1,13 +1,14 @@
 // Operation 2, reach: fills the tables of hops and counts from a source.
 // The tables are the state: the stations' tables hold what may be sent on, the appearances' tables what each slot brings. A
-// slot is taken into the stations' tables, settled, when it has waited as long as the turnaround asks.
+// slot is taken into the stations' tables, settled, when it has waited as long as the turnaround asks. Where readings go stale a
+// station's entry is gathered anew for each record that it sends.
 ghost use mathlib.Core.Path.{_≡_};
 ghost use Prim.Native.Nat.{_+_, _*_, _-_, _<_, _≤_, min};
 ghost use lib.ListN.{length, getD};
 ghost use Rattle.temporal.specs.Lists.{any, below};
-ghost use Rattle.temporal.specs.Plan.{units, turning};
+ghost use Rattle.temporal.specs.Plan.{units, Keeps};
 ghost use Rattle.temporal.specs.Bytes.{contactAt, planOf};
-ghost use Rattle.temporal.specs.Cause.{planFault};
+ghost use Rattle.temporal.specs.Cause.{planFault, first, termsCauses};
 ghost use Rattle.temporal.specs.Outcome.{reached, reach};
 ghost use Rattle.plan.specs.Record.{inSlot};
 ghost use Rattle.reach.specs.Table.{
@@ -32,8 +33,9 @@ ghost use Rattle.reach.specs.Pass.{
   ReachReady,
   FilledTables,
 };
-ghost use Rattle.reach.specs.Window.{gathered, emptiedEntry, windowTable, windowFolded, emptiedStations, settledSlots, WindowReady};
+ghost use Rattle.reach.specs.Window.{gathered, emptiedEntry, windowTable, windowFolded, emptiedStations, settledSlots};
 ghost use Rattle.reach.specs.Answer.{reachOutcome};
+use calls::CallCheck;
 use plan::CallFault;
 use plan::CheckAnswer;
 use plan::Fault;
@@ -47,7 +49,8 @@ pub enum ReachAnswer {
 // Takes c walks of h hops into the entry at a place.
 fn merge(hops: &mut [u16], counts: &mut [u64], at: usize, h: u16, c: u64)
     requires { ⌜ (at < length (now hops)) × (at < length (now counts)) ⌝ }
-    ensures { λ _. ⌜ tableOf (now (hops .exit)) (now (counts .exit)) ≡ mergedTable (tableOf (now (hops .entry)) (now (counts .entry))) at h c ⌝ }
+    ensures { λ _. ⌜ tableOf (now (hops .exit)) (now (counts .exit)) ≡
+        mergedTable (tableOf (now (hops .entry)) (now (counts .entry))) at h c ⌝ }
 {
     let old = hops[at];
     if h < old {
@@ -70,7 +73,9 @@ fn send(
     at: usize,
 )
     requires { ⌜ PlacesWithin (tableOf (now hops) (now counts)) (tableOf (now «station_hops») (now «station_counts»)) at v ⌝ }
-    ensures { λ _. ⌜ tableOf (now (hops .exit)) (now (counts .exit)) ≡ sentTable (tableOf (now (hops .entry)) (now (counts .entry))) (tableOf (now («station_hops» .entry)) (now («station_counts» .entry))) v at ⌝ }
+    ensures { λ _. ⌜ tableOf (now (hops .exit)) (now (counts .exit)) ≡
+        sentTable (tableOf (now (hops .entry)) (now (counts .entry)))
+        (tableOf (now («station_hops» .entry)) (now («station_counts» .entry))) v at ⌝ }
 {
     let h = station_hops[v];
     if h < 65535 {
@@ -88,7 +93,9 @@ fn settle_one(
     at: usize,
 )
     requires { ⌜ PlacesWithin (tableOf (now «station_hops») (now «station_counts»)) (tableOf (now hops) (now counts)) v at ⌝ }
-    ensures { λ _. ⌜ tableOf (now («station_hops» .exit)) (now («station_counts» .exit)) ≡ mergedTable (tableOf (now («station_hops» .entry)) (now («station_counts» .entry))) v (getD (now (hops .entry)) at 0) (getD (now (counts .entry)) at 0) ⌝ }
+    ensures { λ _. ⌜ tableOf (now («station_hops» .exit)) (now («station_counts» .exit)) ≡
+        mergedTable (tableOf (now («station_hops» .entry)) (now («station_counts» .entry))) v (getD (now (hops .entry)) at 0)
+        (getD (now (counts .entry)) at 0) ⌝ }
 {
     merge(station_hops, station_counts, v, hops[at], counts[at]);
 }
@@ -104,7 +111,9 @@ fn settle(
     u: usize,
 )
     requires { ⌜ Fits n width (tableOf (now hops) (now counts)) (tableOf (now «station_hops») (now «station_counts»)) × (u < width) ⌝ }
-    ensures { λ _. ⌜ tableOf (now («station_hops» .exit)) (now («station_counts» .exit)) ≡ settledTable width u (tableOf (now (hops .entry)) (now (counts .entry))) (tableOf (now («station_hops» .entry)) (now («station_counts» .entry))) 0 n ⌝ }
+    ensures { λ _. ⌜ tableOf (now («station_hops» .exit)) (now («station_counts» .exit)) ≡
+        settledTable width u (tableOf (now (hops .entry)) (now (counts .entry)))
+        (tableOf (now («station_hops» .entry)) (now («station_counts» .entry))) 0 n ⌝ }
 {
     let mut v = 0;
     while v < n {
@@ -154,8 +163,11 @@ fn fold_record(
     width: usize,
     j: usize,
 )
-    requires { ⌜ FoldableTables (now plan) n width j (tableOf (now hops) (now counts)) (tableOf (now «station_hops») (now «station_counts»)) ⌝ }
-    ensures { λ _. ⌜ tableOf (now (hops .exit)) (now (counts .exit)) ≡ foldedTable width (tableOf (now (hops .entry)) (now (counts .entry))) (tableOf (now («station_hops» .entry)) (now («station_counts» .entry))) (contactAt (now (plan .entry)) j) ⌝ }
+    requires { ⌜ FoldableTables (now plan) n width j (tableOf (now hops) (now counts))
+        (tableOf (now «station_hops») (now «station_counts»)) ⌝ }
+    ensures { λ _. ⌜ tableOf (now (hops .exit)) (now (counts .exit)) ≡
+        foldedTable width (tableOf (now (hops .entry)) (now (counts .entry)))
+        (tableOf (now («station_hops» .entry)) (now («station_counts» .entry))) (contactAt (now (plan .entry)) j) ⌝ }
 {
     let c = plan::contact_at(plan, j);
     send(
@@ -183,7 +195,10 @@ fn turn(
     j: usize,
 ) -> bool
     requires { ⌜ Turnable (now plan) n width wait u (tablesOf (now hops) (now counts) (now «station_hops») (now «station_counts»)) ⌝ }
-    ensures { λ r. ⌜ (r ≡ inSlot (now (plan .entry)) j u) × (tablesOf (now (hops .exit)) (now (counts .exit)) (now («station_hops» .exit)) (now («station_counts» .exit)) ≡ turnedTables (now (plan .entry)) n width wait u j (tablesOf (now (hops .entry)) (now (counts .entry)) (now («station_hops» .entry)) (now («station_counts» .entry)))) ⌝ }
+    ensures { λ r. ⌜ (r ≡ inSlot (now (plan .entry)) j u) ×
+        (tablesOf (now (hops .exit)) (now (counts .exit)) (now («station_hops» .exit)) (now («station_counts» .exit)) ≡
+        turnedTables (now (plan .entry)) n width wait u j
+        (tablesOf (now (hops .entry)) (now (counts .entry)) (now («station_hops» .entry)) (now («station_counts» .entry)))) ⌝ }
 {
     if plan::in_slot(plan, j, u) {
         fold_record(
@@ -223,8 +238,11 @@ fn begin(
     width: usize,
     source: usize,
 )
-    requires { ⌜ Fits n width (tableOf (now hops) (now counts)) (tableOf (now «station_hops») (now «station_counts»)) × (source < n) × (0 < width) ⌝ }
-    ensures { λ _. ⌜ tablesOf (now (hops .exit)) (now (counts .exit)) (now («station_hops» .exit)) (now («station_counts» .exit)) ≡ begunTables n width source (tablesOf (now (hops .entry)) (now (counts .entry)) (now («station_hops» .entry)) (now («station_counts» .entry))) ⌝ }
+    requires { ⌜ Fits n width (tableOf (now hops) (now counts)) (tableOf (now «station_hops») (now «station_counts»)) × (source < n) ×
+        (0 < width) ⌝ }
+    ensures { λ _. ⌜ tablesOf (now (hops .exit)) (now (counts .exit)) (now («station_hops» .exit)) (now («station_counts» .exit)) ≡
+        begunTables n width source
+        (tablesOf (now (hops .entry)) (now (counts .entry)) (now («station_hops» .entry)) (now («station_counts» .entry))) ⌝ }
 {
     let places = n * width;
     memory::fill16(hops, places, 65535);
@@ -248,7 +266,9 @@ fn clear(
     width: usize,
 )
     requires { ⌜ Fits n width (tableOf (now hops) (now counts)) (tableOf (now «station_hops») (now «station_counts»)) ⌝ }
-    ensures { λ _. ⌜ tablesOf (now (hops .exit)) (now (counts .exit)) (now («station_hops» .exit)) (now («station_counts» .exit)) ≡ emptiedTables n width (tablesOf (now (hops .entry)) (now (counts .entry)) (now («station_hops» .entry)) (now («station_counts» .entry))) ⌝ }
+    ensures { λ _. ⌜ tablesOf (now (hops .exit)) (now (counts .exit)) (now («station_hops» .exit)) (now («station_counts» .exit)) ≡
+        emptiedTables n width (tablesOf (now (hops .entry)) (now (counts .entry)) (now («station_hops» .entry))
+        (now («station_counts» .entry))) ⌝ }
 {
     let places = n * width;
     memory::fill16(hops, places, 0);
@@ -267,7 +287,8 @@ fn overflowed(
     width: usize,
 ) -> bool
     requires { ⌜ Fits n width (tableOf (now hops) (now counts)) (tableOf (now «station_hops») (now «station_counts»)) ⌝ }
-    ensures { λ r. ⌜ r ≡ tablesOverflow n width (tablesOf (now (hops .entry)) (now (counts .entry)) (now («station_hops» .entry)) (now («station_counts» .entry))) ⌝ }
+    ensures { λ r. ⌜ r ≡ tablesOverflow n width
+        (tablesOf (now (hops .entry)) (now (counts .entry)) (now («station_hops» .entry)) (now («station_counts» .entry))) ⌝ }
 {
     if any_overflows(hops, counts, n * width) {
         return true;
@@ -285,8 +306,8 @@ fn waiting(g: usize, t: usize) -> usize
     t
 }
 
-// Fills the four tables from a source, slot by slot, and goes on until the last slot is settled.
-fn fill(
+// Fills the four tables from a source where nothing goes stale, slot by slot, and goes on until the last slot is settled.
+fn fill_lasting(
     hops: &mut [u16],
     counts: &mut [u64],
     station_hops: &mut [u16],
@@ -295,10 +316,14 @@ fn fill(
     n: usize,
     t: usize,
     g: usize,
+    h: usize,
     source: usize,
 )
-    requires { ⌜ ReachReady (now plan) n t (turning g) source (tablesOf (now hops) (now counts) (now «station_hops») (now «station_counts»)) ⌝ }
-    ensures { λ _. ⌜ FilledTables (now (plan .entry)) n t (turning g) source (tablesOf (now (hops .entry)) (now (counts .entry)) (now («station_hops» .entry)) (now («station_counts» .entry))) (tablesOf (now (hops .exit)) (now (counts .exit)) (now («station_hops» .exit)) (now («station_counts» .exit))) ⌝ }
+    requires { ⌜ ReachReady (now plan) n t (units g h) source
+        (tablesOf (now hops) (now counts) (now «station_hops») (now «station_counts»)) × Keeps t (units g h) ⌝ }
+    ensures { λ _. ⌜ FilledTables (now (plan .entry)) n t (units g h) source
+        (tablesOf (now (hops .entry)) (now (counts .entry)) (now («station_hops» .entry)) (now («station_counts» .entry)))
+        (tablesOf (now (hops .exit)) (now (counts .exit)) (now («station_hops» .exit)) (now («station_counts» .exit))) ⌝ }
 {
     let width = t + 1;
     let wait = waiting(g, t);
@@ -338,8 +363,11 @@ fn gather(
     from: usize,
     end: usize,
 )
-    requires { ⌜ Fits n width (tableOf (now hops) (now counts)) (tableOf (now «station_hops») (now «station_counts»)) × (v < n) × (end ≤ width) ⌝ }
-    ensures { λ _. ⌜ tableOf (now («station_hops» .exit)) (now («station_counts» .exit)) ≡ gathered width (tableOf (now (hops .entry)) (now (counts .entry))) v (tableOf (now («station_hops» .entry)) (now («station_counts» .entry))) from (end - from) ⌝ }
+    requires { ⌜ Fits n width (tableOf (now hops) (now counts)) (tableOf (now «station_hops») (now «station_counts»)) × (v < n) ×
+        (end ≤ width) ⌝ }
+    ensures { λ _. ⌜ tableOf (now («station_hops» .exit)) (now («station_counts» .exit)) ≡
+        gathered width (tableOf (now (hops .entry)) (now (counts .entry))) v
+        (tableOf (now («station_hops» .entry)) (now («station_counts» .entry))) from (end - from) ⌝ }
 {
     let mut t = from;
     while t < end {
@@ -351,7 +379,8 @@ fn gather(
 // Leaves no walks in the entry of station v.
 fn empty_entry(station_hops: &mut [u16], station_counts: &mut [u64], v: usize)
     requires { ⌜ (v < length (now «station_hops»)) × (v < length (now «station_counts»)) ⌝ }
-    ensures { λ _. ⌜ tableOf (now («station_hops» .exit)) (now («station_counts» .exit)) ≡ emptiedEntry (tableOf (now («station_hops» .entry)) (now («station_counts» .entry))) v ⌝ }
+    ensures { λ _. ⌜ tableOf (now («station_hops» .exit)) (now («station_counts» .exit)) ≡
+        emptiedEntry (tableOf (now («station_hops» .entry)) (now («station_counts» .entry))) v ⌝ }
 {
     station_hops[v] = 65535;
     station_counts[v] = 0;
@@ -370,8 +399,11 @@ fn gather_window(
     v: usize,
     u: usize,
 )
-    requires { ⌜ Fits n width (tableOf (now hops) (now counts)) (tableOf (now «station_hops») (now «station_counts»)) × (v < n) × (u < width) × (0 < g) ⌝ }
-    ensures { λ _. ⌜ tableOf (now («station_hops» .exit)) (now («station_counts» .exit)) ≡ windowTable width g h (tableOf (now (hops .entry)) (now (counts .entry))) v u (tableOf (now («station_hops» .entry)) (now («station_counts» .entry))) ⌝ }
+    requires { ⌜ Fits n width (tableOf (now hops) (now counts)) (tableOf (now «station_hops») (now «station_counts»)) × (v < n) ×
+        (u < width) × (0 < g) ⌝ }
+    ensures { λ _. ⌜ tableOf (now («station_hops» .exit)) (now («station_counts» .exit)) ≡
+        windowTable width g h (tableOf (now (hops .entry)) (now (counts .entry))) v u
+        (tableOf (now («station_hops» .entry)) (now («station_counts» .entry))) ⌝ }
 {
     empty_entry(station_hops, station_counts, v);
     gather(
@@ -413,8 +445,12 @@ fn fold_window(
     h: usize,
     j: usize,
 )
-    requires { ⌜ FoldableTables (now plan) n width j (tableOf (now hops) (now counts)) (tableOf (now «station_hops») (now «station_counts»)) × (0 < g) ⌝ }
-    ensures { λ _. ⌜ tablesOf (now (hops .exit)) (now (counts .exit)) (now («station_hops» .exit)) (now («station_counts» .exit)) ≡ windowFolded width g h (tablesOf (now (hops .entry)) (now (counts .entry)) (now («station_hops» .entry)) (now («station_counts» .entry))) (contactAt (now (plan .entry)) j) ⌝ }
+    requires { ⌜ FoldableTables (now plan) n width j (tableOf (now hops) (now counts))
+        (tableOf (now «station_hops») (now «station_counts»)) × (0 < g) ⌝ }
+    ensures { λ _. ⌜ tablesOf (now (hops .exit)) (now (counts .exit)) (now («station_hops» .exit)) (now («station_counts» .exit)) ≡
+        windowFolded width g h
+        (tablesOf (now (hops .entry)) (now (counts .entry)) (now («station_hops» .entry)) (now («station_counts» .entry)))
+        (contactAt (now (plan .entry)) j) ⌝ }
 {
     let c = plan::contact_at(plan, j);
     gather_window(
@@ -451,7 +487,9 @@ fn settle_all(
     width: usize,
 )
     requires { ⌜ Fits n width (tableOf (now hops) (now counts)) (tableOf (now «station_hops») (now «station_counts»)) ⌝ }
-    ensures { λ _. ⌜ tableOf (now («station_hops» .exit)) (now («station_counts» .exit)) ≡ settledSlots n width (tableOf (now (hops .entry)) (now (counts .entry))) (emptiedStations n (tableOf (now («station_hops» .entry)) (now («station_counts» .entry)))) 0 width ⌝ }
+    ensures { λ _. ⌜ tableOf (now («station_hops» .exit)) (now («station_counts» .exit)) ≡
+        settledSlots n width (tableOf (now (hops .entry)) (now (counts .entry)))
+        (emptiedStations n (tableOf (now («station_hops» .entry)) (now («station_counts» .entry)))) 0 width ⌝ }
 {
     memory::fill16(station_hops, n, 65535);
     memory::fill64(station_counts, n, 0);
@@ -475,8 +513,11 @@ fn fill_window(
     h: usize,
     source: usize,
 )
-    requires { ⌜ WindowReady (now plan) n t (units g h) source (tablesOf (now hops) (now counts) (now «station_hops») (now «station_counts»)) ⌝ }
-    ensures { λ _. ⌜ FilledTables (now (plan .entry)) n t (units g h) source (tablesOf (now (hops .entry)) (now (counts .entry)) (now («station_hops» .entry)) (now («station_counts» .entry))) (tablesOf (now (hops .exit)) (now (counts .exit)) (now («station_hops» .exit)) (now («station_counts» .exit))) ⌝ }
+    requires { ⌜ ReachReady (now plan) n t (units g h) source
+        (tablesOf (now hops) (now counts) (now «station_hops») (now «station_counts»)) ⌝ }
+    ensures { λ _. ⌜ FilledTables (now (plan .entry)) n t (units g h) source
+        (tablesOf (now (hops .entry)) (now (counts .entry)) (now («station_hops» .entry)) (now («station_counts» .entry)))
+        (tablesOf (now (hops .exit)) (now (counts .exit)) (now («station_hops» .exit)) (now («station_counts» .exit))) ⌝ }
 {
     let width = t + 1;
     begin(hops, counts, station_hops, station_counts, n, width, source);
@@ -500,6 +541,54 @@ fn fill_window(
     settle_all(station_hops, station_counts, hops, counts, n, width);
 }
 
+// Fills the four tables from a source.
+fn fill(
+    hops: &mut [u16],
+    counts: &mut [u64],
+    station_hops: &mut [u16],
+    station_counts: &mut [u64],
+    plan: &[u8],
+    n: usize,
+    t: usize,
+    g: usize,
+    h: usize,
+    source: usize,
+)
+    requires { ⌜ ReachReady (now plan) n t (units g h) source
+        (tablesOf (now hops) (now counts) (now «station_hops») (now «station_counts»)) ⌝ }
+    ensures { λ _. ⌜ FilledTables (now (plan .entry)) n t (units g h) source
+        (tablesOf (now (hops .entry)) (now (counts .entry)) (now («station_hops» .entry)) (now («station_counts» .entry)))
+        (tablesOf (now (hops .exit)) (now (counts .exit)) (now («station_hops» .exit)) (now («station_counts» .exit))) ⌝ }
+{
+    if t <= h + 1 {
+        fill_lasting(
+            hops,
+            counts,
+            station_hops,
+            station_counts,
+            plan,
+            n,
+            t,
+            g,
+            h,
+            source,
+        );
+        return;
+    }
+    fill_window(
+        hops,
+        counts,
+        station_hops,
+        station_counts,
+        plan,
+        n,
+        t,
+        g,
+        h,
+        source,
+    );
+}
+
 // Fills the tables, and clears them where a count is over 2^64 - 1.
 fn work(
     hops: &mut [u16],
@@ -510,10 +599,15 @@ fn work(
     n: usize,
     t: usize,
     g: usize,
+    h: usize,
     source: usize,
 ) -> ReachAnswer
-    requires { ⌜ ReachReady (now plan) n t (turning g) source (tablesOf (now hops) (now counts) (now «station_hops») (now «station_counts»)) ⌝ }
-    ensures { λ r. ⌜ reachOutcome r (lentTables (now (hops .exit)) (now (counts .exit)) (now («station_hops» .exit)) (now («station_counts» .exit))) ≡ reached (planOf (now (plan .entry)) n t (turning g)) source (lentTables (now (hops .entry)) (now (counts .entry)) (now («station_hops» .entry)) (now («station_counts» .entry))) ⌝ }
+    requires { ⌜ ReachReady (now plan) n t (units g h) source
+        (tablesOf (now hops) (now counts) (now «station_hops») (now «station_counts»)) ⌝ }
+    ensures { λ r. ⌜ reachOutcome r (lentTables (now (hops .exit)) (now (counts .exit)) (now («station_hops» .exit))
+        (now («station_counts» .exit))) ≡
+        reached (planOf (now (plan .entry)) n t (units g h)) source
+        (lentTables (now (hops .entry)) (now (counts .entry)) (now («station_hops» .entry)) (now («station_counts» .entry))) ⌝ }
 {
     fill(
         hops,
@@ -524,6 +618,7 @@ fn work(
         n,
         t,
         g,
+        h,
         source,
     );
     if overflowed(hops, counts, station_hops, station_counts, n, t + 1) {
@@ -533,8 +628,8 @@ fn work(
     ReachAnswer::Reached
 }
 
-// Reach on an accepted plan: 12, 6 and 8, then the work.
-fn reach_accepted(
+// Reach on an accepted plan with allowed terms: 6 and 8, then the work.
+fn reach_allowed(
     hops: &mut [u16],
     counts: &mut [u64],
     station_hops: &mut [u16],
@@ -543,14 +638,15 @@ fn reach_accepted(
     n: usize,
     t: usize,
     g: usize,
+    h: usize,
     source: usize,
 ) -> ReachAnswer
-    requires { ⌜ planFault (now plan) n t ≡ 0 ⌝ }
-    ensures { λ r. ⌜ reachOutcome r (lentTables (now (hops .exit)) (now (counts .exit)) (now («station_hops» .exit)) (now («station_counts» .exit))) ≡ reach (now (plan .entry)) n t (turning g) source (lentTables (now (hops .entry)) (now (counts .entry)) (now («station_hops» .entry)) (now («station_counts» .entry))) ⌝ }
+    requires { ⌜ (planFault (now plan) n t ≡ 0) × (first (termsCauses (units g h)) ≡ 0) ⌝ }
+    ensures { λ r. ⌜ reachOutcome r (lentTables (now (hops .exit)) (now (counts .exit)) (now («station_hops» .exit))
+        (now («station_counts» .exit))) ≡
+        reach (now (plan .entry)) n t (units g h) source
+        (lentTables (now (hops .entry)) (now (counts .entry)) (now («station_hops» .entry)) (now («station_counts» .entry))) ⌝ }
 {
-    if calls::wrong_turnaround(g) {
-        return ReachAnswer::Refused(Fault::Call(CallFault::Turnaround));
-    }
     if n <= source {
         return ReachAnswer::Refused(Fault::Call(CallFault::Station));
     }
@@ -576,24 +672,65 @@ fn reach_accepted(
         n,
         t,
         g,
+        h,
         source,
     )
 }
 
-// Operation 2, reach: fills, from a source and with the turnaround g, the hops and counts of the appearances, place
-// v (t + 1) + u, and of the stations. 65535 hops and count 0 where there is no walk.
+// Reach on an accepted plan: 12, 14, 6 and 8, then the work.
+fn reach_accepted(
+    hops: &mut [u16],
+    counts: &mut [u64],
+    station_hops: &mut [u16],
+    station_counts: &mut [u64],
+    plan: &[u8],
+    n: usize,
+    t: usize,
+    g: usize,
+    h: usize,
+    source: usize,
+) -> ReachAnswer
+    requires { ⌜ planFault (now plan) n t ≡ 0 ⌝ }
+    ensures { λ r. ⌜ reachOutcome r (lentTables (now (hops .exit)) (now (counts .exit)) (now («station_hops» .exit))
+        (now («station_counts» .exit))) ≡
+        reach (now (plan .entry)) n t (units g h) source
+        (lentTables (now (hops .entry)) (now (counts .entry)) (now («station_hops» .entry)) (now («station_counts» .entry))) ⌝ }
+{
+    let CallCheck::Refused(fault) = calls::terms_call(g, h) else {
+        return reach_allowed(
+            hops,
+            counts,
+            station_hops,
+            station_counts,
+            plan,
+            n,
+            t,
+            g,
+            h,
+            source,
+        );
+    };
+    ReachAnswer::Refused(Fault::Call(fault))
+}
+
+// Operation 2, reach: fills, from a source, with the turnaround g and readings kept for h slots, the hops and counts of the
+// appearances, place v (t + 1) + u, and of the stations. 65535 hops and count 0 where there is no walk.
 pub fn reach(
     plan: &[u8],
     n: usize,
     t: usize,
     g: usize,
+    h: usize,
     source: usize,
     hops: &mut [u16],
     counts: &mut [u64],
     station_hops: &mut [u16],
     station_counts: &mut [u64],
 ) -> ReachAnswer
-    ensures { λ r. ⌜ reachOutcome r (lentTables (now (hops .exit)) (now (counts .exit)) (now («station_hops» .exit)) (now («station_counts» .exit))) ≡ reach (now (plan .entry)) n t (turning g) source (lentTables (now (hops .entry)) (now (counts .entry)) (now («station_hops» .entry)) (now («station_counts» .entry))) ⌝ }
+    ensures { λ r. ⌜ reachOutcome r (lentTables (now (hops .exit)) (now (counts .exit)) (now («station_hops» .exit))
+        (now («station_counts» .exit))) ≡
+        reach (now (plan .entry)) n t (units g h) source
+        (lentTables (now (hops .entry)) (now (counts .entry)) (now («station_hops» .entry)) (now («station_counts» .entry))) ⌝ }
 {
     let CheckAnswer::Refused(fault) = plan::check(plan, n, t) else {
         return reach_accepted(
@@ -605,6 +742,7 @@ pub fn reach(
             n,
             t,
             g,
+            h,
             source,
         );
     };

@@ -12,7 +12,7 @@ use Rattle.temporal.specs.Lists.{from, below}
 use Rattle.temporal.specs.Plan.{Plan, Terms}
 use Rattle.temporal.specs.Load.{pairs, load}
 use Rattle.temporal.specs.Bytes.{planOf, records}
-use Rattle.temporal.specs.Cause.{cause, first, unless, planCauses, planFault, tooManyAnywhere, wrongTurnaround}
+use Rattle.temporal.specs.Cause.{cause, first, unless, planCauses, planFault, termsCauses, tooManyAnywhere}
 use Rattle.temporal.specs.Outcome.{Outcome, over, workSize}
 use Rattle.temporal.specs.OutcomePair.{LoadBuffers, partlyLoaded, partialLoads, loads}
 use Rattle.temporal.proofs.BufferLaws.{written, length-made}
@@ -24,11 +24,10 @@ use Rattle.temporal.proofs.CauseLaws.{
   first-append-left,
   first-append-right,
   first-head,
-  first-tail,
   or-false-left,
   or-false-right,
 }
-use Rattle.temporal.proofs.EnteredLaws.{unless-some, unless-none, entered-plan, entered-call, entered-cause}
+use Rattle.temporal.proofs.EnteredLaws.{unless-some, unless-none, entered-plan, entered-call, entered-some}
 use Rattle.temporal.proofs.PlanLaws.{contacts-length}
 use Rattle.plan.specs.Fault.{planNumber, callNumber, faultNumber}
 use Rattle.plan.specs.declared.Fault.{Fault}
@@ -164,9 +163,9 @@ module _ (bs : List ℕ) (n t : ℕ) (terms : Terms) (out ps ls area : List ℕ)
   passes : first (inputCauses bs) ≡ 0
   passes = no-input-cause bs (w .right-input) (rw (← w .stations, ← w .slots) (w .limits))
 
-  -- the numbers of the plan's causes, 12 and 9 are what loads answers
+  -- the numbers of the plan's causes, 12, 14 and 9 are what loads answers
   unfoldable causes : List ℕ
-  causes = planCauses bs n t ++ cause 12 (wrongTurnaround terms) ∷ cause 9 (tooManyAnywhere plan) ∷ []
+  causes = planCauses bs n t ++ (termsCauses terms ++ cause 9 (tooManyAnywhere plan) ∷ [])
 
   work-room : workSize n t ≤ length area
   work-room = omega (arith, w .work-size, mul-le-mul few-stations (slots-more few-slots))
@@ -182,26 +181,26 @@ module _ (bs : List ℕ) (n t : ℕ) (terms : Terms) (out ps ls area : List ℕ)
       decide true e = rw e
       decide false e = rw e
 
-  works : planFault bs n t ≡ 0 → wrongTurnaround terms ≡ false → loads bs n t terms old ≡ partlyLoaded plan n old
+  works : planFault bs n t ≡ 0 → first (termsCauses terms) ≡ 0 → loads bs n t terms old ≡ partlyLoaded plan n old
   works ok right =
       loads-works bs n t terms n ps ls area ok right (omega arith) (omega (arith, few-stations, w .pairs-size))
       (omega (arith, few-stations, w .loads-size)) work-room
 
   loads-number : loads bs n t terms old .number ≡ first causes
   unfolding causes planFault partialLoads
-  loads-number = decide (planFault bs n t) (wrongTurnaround terms) refl refl
+  loads-number = decide (planFault bs n t) (first (termsCauses terms)) refl refl
     where
       decide :
-          (k : ℕ) (b : Bool) → planFault bs n t ≡ k → wrongTurnaround terms ≡ b → loads bs n t terms old .number ≡ first causes
-      decide (suc k) b e _ =
+          (k j : ℕ) → planFault bs n t ≡ k → first (termsCauses terms) ≡ j → loads bs n t terms old .number ≡ first causes
+      decide (suc k) j e _ =
           ap (λ o. o .number) (entered-plan tt old _ bs n t _ (omega arith)) ∙
           sym (first-append-some (planCauses bs n t) _ (omega arith))
-      decide zero true e q =
-          ap (λ o. o .number) (entered-call tt old _ bs n t _ e ∙ entered-cause tt old _ 11 _ _ q) ∙
-          sym (first-append-none (planCauses bs n t) _ e ∙ first-true 11 (wrongTurnaround terms) _ q)
-      decide zero false e q =
+      decide zero (suc j) e q =
+          ap (λ o. o .number) (entered-call tt old _ bs n t _ e ∙ entered-some tt old _ (termsCauses terms) _ (omega arith)) ∙
+          sym (first-append-none (planCauses bs n t) _ e ∙ first-append-some (termsCauses terms) _ (omega arith))
+      decide zero zero e q =
           ap (λ o. o .number) (works e q) ∙ loaded-number ∙
-          sym (first-append-none (planCauses bs n t) _ e ∙ first-false 12 (wrongTurnaround terms) _ q)
+          sym (first-append-none (planCauses bs n t) _ e ∙ first-append-none (termsCauses terms) _ q)
 
   refusal-number : refusalOf bs terms ≡ loads bs n t terms old .number
   unfolding refusalOf causes
@@ -241,15 +240,15 @@ module _ (bs : List ℕ) (n t : ℕ) (terms : Terms) (out ps ls area : List ℕ)
     unfolding causes planFault
     no-fault = first-append-left (planCauses bs n t) _ none
 
-    right : wrongTurnaround terms ≡ false
+    rest : first (termsCauses terms ++ cause 9 (tooManyAnywhere plan) ∷ []) ≡ 0
     unfolding causes
-    right = first-head 11 (wrongTurnaround terms) _ (first-append-right (planCauses bs n t) _ none)
+    rest = first-append-right (planCauses bs n t) _ none
+
+    right : first (termsCauses terms) ≡ 0
+    right = first-append-left (termsCauses terms) _ rest
 
     not-many : tooManyAnywhere plan ≡ false
-    unfolding causes
-    not-many =
-        first-head 8 (tooManyAnywhere plan) []
-        (first-tail 11 (wrongTurnaround terms) _ (first-append-right (planCauses bs n t) _ none))
+    not-many = first-head 8 (tooManyAnywhere plan) [] (first-append-right (termsCauses terms) _ rest)
 
     tables :
         loadBuffers ps′ ls′ area′ ≡ partlyLoaded plan n old .buffers

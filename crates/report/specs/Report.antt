@@ -11,7 +11,7 @@ use Rattle.temporal.specs.Lists.{below}
 use Rattle.temporal.specs.Plan.{Plan, Terms}
 use Rattle.temporal.specs.Load.{pairs, load}
 use Rattle.temporal.specs.Bytes.{planOf}
-use Rattle.temporal.specs.Cause.{cause, first, unless, planCauses, wrongTurnaround, tooManyAnywhere}
+use Rattle.temporal.specs.Cause.{cause, first, unless, planCauses, termsCauses, tooManyAnywhere}
 use Rattle.temporal.specs.Outcome.{over}
 use Rattle.temporal.specs.OutcomePair.{LoadBuffers, loads}
 use Rattle.text.specs.Decimal.{decimal}
@@ -59,13 +59,14 @@ inputCauses bs = cause 2 (wrongInput bs) ∷ cause 1 (overLimits (inputStations 
 abbrev pub inputPlan : List ℕ → Terms → Plan
 inputPlan bs terms = planOf bs (inputStations bs) (inputSlots bs) terms
 
--- the number of the refusal, 0 where the loads are printed: the input's causes, the plan's, 12, then 9
+-- the number of the refusal, 0 where the loads are printed: the input's causes, the plan's, 12 and 14, then 9. (14 never holds of units
+-- with a turnaround of 1 to 16 that keep a reading until the plan ends.)
 unfoldable pub refusalOf : List ℕ → Terms → ℕ
 refusalOf bs terms =
     first
     (inputCauses bs ++
     (planCauses bs (inputStations bs) (inputSlots bs) ++
-    cause 12 (wrongTurnaround terms) ∷ cause 9 (tooManyAnywhere (inputPlan bs terms)) ∷ []))
+    (termsCauses terms ++ cause 9 (tooManyAnywhere (inputPlan bs terms)) ∷ [])))
 
 -- The whole text that a load program prints for an input, for units with these terms.
 unfoldable pub printed : List ℕ → Terms → List ℕ

@@ -137,7 +137,7 @@ fn put_table(out: &mut [u8], n: usize, t: usize, m: usize, pairs: &[u64], sums: 
     put_lines(out, at, n, pairs, sums)
 }
 
-// The text of an input within the program's limits.
+// The text of an input within the program's limits. With h = 255 a reading is kept until the plan ends.
 fn report_within(
     input: &[u8],
     n: usize,
@@ -149,9 +149,11 @@ fn report_within(
     work: &mut [u64],
 ) -> usize
     requires { ⌜ Within (now input) n t (now out) (now pairs) (now sums) (now work) ⌝ }
-    ensures { λ r. ⌜ Reported (now (input .entry)) (turning g) (now (out .entry)) (loadBuffers (now (pairs .entry)) (now (sums .entry)) (now (work .entry))) r (now (out .exit)) (loadBuffers (now (pairs .exit)) (now (sums .exit)) (now (work .exit))) ⌝ }
+    ensures { λ r. ⌜ Reported (now (input .entry)) (turning g) (now (out .entry))
+        (loadBuffers (now (pairs .entry)) (now (sums .entry)) (now (work .entry))) r (now (out .exit))
+        (loadBuffers (now (pairs .exit)) (now (sums .exit)) (now (work .exit))) ⌝ }
 {
-    let LoadsAnswer::Refused(fault) = loads::loads(input, n, t, g, pairs, sums, work) else {
+    let LoadsAnswer::Refused(fault) = loads::loads(input, n, t, g, 255, pairs, sums, work) else {
         return put_table(out, n, t, input.len() / 6, pairs, sums);
     };
     put_refusal(out, 0, plan::fault_number(fault) as u64)
@@ -167,7 +169,9 @@ pub fn report(
     sums: &mut [u64; 32],
     work: &mut [u64; 8192],
 ) -> usize
-    ensures { λ r. ⌜ Reported (now (input .entry)) (turning g) (now (out .entry)) (loadBuffers (now (pairs .entry)) (now (sums .entry)) (now (work .entry))) r (now (out .exit)) (loadBuffers (now (pairs .exit)) (now (sums .exit)) (now (work .exit))) ⌝ }
+    ensures { λ r. ⌜ Reported (now (input .entry)) (turning g) (now (out .entry))
+        (loadBuffers (now (pairs .entry)) (now (sums .entry)) (now (work .entry))) r (now (out .exit))
+        (loadBuffers (now (pairs .exit)) (now (sums .exit)) (now (work .exit))) ⌝ }
 {
     if wrong_input(input) {
         return put_refusal(out, 0, 2);

@@ -10,7 +10,7 @@ use mathlib.Core.Logic.{_≢_, by-cases, ⊎-elim}
 use borrow.Author.Tests.{lt-ltb, le-ltb, eq-eqb, ne-eqb}
 use lib.Dec.{ltb}
 use lib.ListN.{length, getD, replicate}
-use Rattle.temporal.specs.Plan.{Terms, Keeps}
+use Rattle.temporal.specs.Plan.{Terms, Allowed}
 use Rattle.temporal.specs.Lists.{any, from, below}
 use Rattle.temporal.specs.Shortest.{shortestWalksTo, hops}
 use Rattle.temporal.specs.Set.{touched}
@@ -34,10 +34,10 @@ use Rattle.plan.proofs.Answers.{number-positive, call-number-within}
 use Rattle.calls.specs.Call.{pairCallFault, callCheckNumber}
 use Rattle.calls.specs.declared.CallCheck.{CallCheck}
 use Rattle.calls.specs.declared.CallCheck.the-variants as call-check
-use Rattle.calls.proofs.CallLaws.{call-free, free-call}
+use Rattle.calls.proofs.CallLaws.{free-call}
 use Rattle.entries.proofs.SearchLaws.{any-found, any-pass, any-end, any-start}
-use Rattle.pass.specs.Passed.{waiting, areaSize, Counted, SetReady, SetPassed}
-use Rattle.pass.proofs.SizeLaws.{small-fits, first-part}
+use Rattle.forward.specs.Passed.{passSize, Counted, SetReady, SetPassed}
+use Rattle.forward.proofs.SizeLaws.{small-fits, first-part}
 use Rattle.sets.specs.Work.{SetAsked, touchedEntry, Readable}
 
 -- ---- reading the entry
@@ -74,16 +74,19 @@ module _ (set : List ℕ) (n v : ℕ) (rest : wrongSet n set ≡ any (wrongByte 
 -- ---- the work
 
 -- the pass's part lies within the work area
-few-rows : (bs : List ℕ) (n t : ℕ) (terms : Terms) → planFault bs n t ≡ 0 → areaSize n (waiting t terms) 1 ≤ workSize n t
-few-rows bs n t terms ok = small-fits n t terms 1 (accepted bs n t ok .some-station) (omega arith)
+few-rows : (bs : List ℕ) (n t : ℕ) (terms : Terms) → planFault bs n t ≡ 0 → Allowed terms
+    → passSize n t terms (terms .keeping) 1 ≤ workSize n t
+few-rows bs n t terms ok units =
+    let a = accepted bs n t ok in
+    small-fits n t terms 1 units (a .some-station) (a .some-slot) (a .slots) (omega arith)
 
 module _ (bs : List ℕ) (n t : ℕ) (terms : Terms) (s z : ℕ) (set area : List ℕ) (asked : SetAsked bs n t terms s z set area) (area′ : List ℕ) (r : Bool)
     (f : SetPassed bs n t terms s z set area area′ r) where
   cleared-area : (area″ : List ℕ) → area″ ≡ over (replicate (workSize n t) 0) area′ → area″ ≡ cleared (workSize n t) area
   unfolding cleared
   cleared-area area″ e =
-      e ∙ fill-beyond (workSize n t) 0 area′ area (later-drop (areaSize n (waiting t terms) 1) (workSize n t) area′ area
-      (few-rows bs n t terms (asked .accepted)) (f .beyond))
+      e ∙ fill-beyond (workSize n t) 0 area′ area (later-drop (passSize n t terms (terms .keeping) 1) (workSize n t) area′ area
+      (few-rows bs n t terms (asked .accepted) (asked .units)) (f .beyond))
 
   module _ (none : r ≡ false) where
     c : Counted bs n t terms s 0 0 area′
@@ -104,15 +107,15 @@ module _ (bs : List ℕ) (n t : ℕ) (terms : Terms) (s z : ℕ) (set area : Lis
         record {
           station = asked .destination;
           few = a .stations;
-          fits = let room = asked .area in let rows = few-rows bs n t terms (asked .accepted) in
-              let first = first-part n (waiting t terms) 1 in let same = f .same-length in omega arith;
+          fits = let room = asked .area in let rows = few-rows bs n t terms (asked .accepted) (asked .units) in
+              let first = first-part n t terms (terms .keeping) 1 in let same = f .same-length in omega arith;
           at-most = λ some.
               let number = c .station-counts z (asked .destination) in
               let parts = f .members none (with-path some) in
               omega arith;
         }
 
-    -- the entry is the number of paths that a member touches
+    -- the entry is the number of walks that a member touches
     entry-touched : touchedEntry area′ n z ≡ touched (planOf bs n t terms) s z (isMember set)
     entry-touched =
         by-cases (ℕ-discrete (getD area′ z 0) 65535)
@@ -158,7 +161,7 @@ pass-ready bs n t terms s z set area asked =
       units = asked .units;
       source = asked .source;
       destination = asked .destination;
-      fits = let room = asked .area in omega (arith, few-rows bs n t terms (asked .accepted));
+      fits = let room = asked .area in omega (arith, few-rows bs n t terms (asked .accepted) (asked .units));
     }
 
 -- ---- how the operation begins
@@ -184,7 +187,7 @@ module _ (bs : List ℕ) (n t : ℕ) (terms : Terms) (s z : ℕ) (set area : Lis
 
   module _ (ok : planFault bs n t ≡ 0) where
     module _ (r : CallCheck) (answer : callCheckNumber r ≡ pairCallFault n t terms s z (length set) n (length area)) where
-      -- 12, 6, 7 or 8
+      -- 12, 14, 6, 7 or 8
       pub set-call :
           (f : CallFault) → r ≡ call-check.Refused f →
           _≡_ {A = Outcome ℕ (List ℕ)} (record { number = callNumber f; values = 0; buffers = area })
@@ -198,12 +201,12 @@ module _ (bs : List ℕ) (n t : ℕ) (terms : Terms) (s z : ℕ) (set area : Lis
           sym (entered-call 0 area work bs n t _ ok ∙ unless-some _ _ _ (omega arith))
 
       -- none of them
-      pub set-asked : Keeps t terms → r ≡ call-check.Free → SetAsked bs n t terms s z set area
-      set-asked keeps e =
-          let f = free-call n t terms s z (length set) n (length area) (sym answer ∙ ap callCheckNumber e) keeps in
+      pub set-asked : r ≡ call-check.Free → SetAsked bs n t terms s z set area
+      set-asked e =
+          let f = free-call n t terms s z (length set) n (length area) (sym answer ∙ ap callCheckNumber e) in
           record {
             accepted = ok;
-            right = f .right;
+            free = sym answer ∙ ap callCheckNumber e;
             units = f .units;
             source = f .source;
             destination = f .destination;
@@ -213,18 +216,13 @@ module _ (bs : List ℕ) (n t : ℕ) (terms : Terms) (s z : ℕ) (set area : Lis
           }
 
   module _ (asked : SetAsked bs n t terms s z set area) where
-    free : pairCallFault n t terms s z (length set) n (length area) ≡ 0
-    free =
-        call-free n t terms s z (length set) n (length area) (asked .right) (asked .source) (asked .destination) (asked .different)
-        (asked .set-room) (asked .area)
-
     -- 11
     pub set-byte :
         wrongSet n set ≡ true →
         _≡_ {A = Outcome ℕ (List ℕ)} (record { number = 11; values = 0; buffers = area }) (throughSet bs n t terms s z set area)
     unfolding throughSet entered setCauses pairCallFault work
     set-byte e =
-        let number : first (setCauses n t terms s z set area) ≡ 11 = first-append-none _ _ free ∙ first-true 10 _ [] e in
+        let number : first (setCauses n t terms s z set area) ≡ 11 = first-append-none _ _ (asked .free) ∙ first-true 10 _ [] e in
         ap (refusedWith 0 area work) (sym number) ∙
         sym (entered-call 0 area work bs n t _ (asked .accepted) ∙ unless-some _ _ _ (omega arith))
 
@@ -232,5 +230,5 @@ module _ (bs : List ℕ) (n t : ℕ) (terms : Terms) (s z : ℕ) (set area : Lis
     unfolding throughSet entered setCauses pairCallFault work
     set-works e =
         let number : first (setCauses n t terms s z set area) ≡ 0 =
-        first-append-none _ _ free ∙ first-false 11 (wrongSet n set) [] e ∙ none-first in
+        first-append-none _ _ (asked .free) ∙ first-false 11 (wrongSet n set) [] e ∙ none-first in
         entered-call 0 area work bs n t _ (asked .accepted) ∙ unless-none _ _ _ number

@@ -15,8 +15,8 @@ use Rattle.temporal.specs.Bytes.{planOf}
 use Rattle.temporal.specs.Cause.{tooMany}
 use Rattle.temporal.proofs.Accepted.{accepted}
 use Rattle.temporal.proofs.BufferLaws.{later-drop}
-use Rattle.pass.specs.Passed.{waiting, areaSize, PassReady, Passed}
-use Rattle.pass.proofs.SizeLaws.{area-less}
+use Rattle.forward.specs.Passed.{passSize, PassReady, Passed}
+use Rattle.forward.proofs.SizeLaws.{size-less}
 use Rattle.tallies.specs.Progress.{pairTerm, loadTerm, TallyEntry, State, Kept, Working, Workable, DestinationsAdded}
 use Rattle.tallies.specs.Sources.{BlockReady, BlockDone, SourceReady, SourceDone}
 use Rattle.tallies.proofs.TermLaws.{partly-source}
@@ -58,29 +58,31 @@ module _ (p : Plan) (n base s low : ℕ) where
         later = λ v g l. f .later v (omega arith) l;
       }
 
-module _ (bs : List ℕ) (n t : ℕ) (terms : Terms) (base s low block : ℕ) (old : List ℕ) (pre : BlockReady bs n t terms base s low block old) where
+module _ (bs : List ℕ) (n t : ℕ) (terms : Terms) (d base s low block : ℕ) (old : List ℕ)
+    (pre : BlockReady bs n t terms d base s low block old) where
   -- the pass can run
-  pub block-ready : PassReady bs n t terms s low block old
+  pub block-ready : PassReady bs n t terms d s low block old
   block-ready =
       record {
         accepted = pre .accepted;
         units = pre .units;
+        deep = pre .deep;
         source = pre .source;
         stations = pre .inside;
         fits = let r = pre .room in let a = pre .area in omega arith;
       }
 
   module _ (mid : List ℕ) where
-    passed-kept : (r : Bool) → Passed bs n t terms s low block old mid r → Kept n base old mid
+    passed-kept : (r : Bool) → Passed bs n t terms d s low block old mid r → Kept n base old mid
     passed-kept r q =
         record {
           beyond =
-              later-drop (areaSize n (waiting t terms) block) (base + 2 * n) mid old (let m = pre .area in omega arith) (q .beyond);
+              later-drop (passSize n t terms d block) (base + 2 * n) mid old (let m = pre .area in omega arith) (q .beyond);
           same-length = q .same-length;
         }
 
     -- where a count is over 2^64 - 1
-    pub block-over : Passed bs n t terms s low block old mid true → BlockDone bs n t terms base s low block old mid true
+    pub block-over : Passed bs n t terms d s low block old mid true → BlockDone bs n t terms base s low block old mid true
     block-over q =
         record {
           too-many = q .too-many;
@@ -88,7 +90,7 @@ module _ (bs : List ℕ) (n t : ℕ) (terms : Terms) (base s low block : ℕ) (o
           kept = passed-kept true q;
         }
 
-    module _ (q : Passed bs n t terms s low block old mid false) where
+    module _ (q : Passed bs n t terms d s low block old mid false) where
       block-working : Working bs n t terms base s low block 0 0 old mid
       block-working =
           record {
@@ -103,7 +105,7 @@ module _ (bs : List ℕ) (n t : ℕ) (terms : Terms) (base s low block : ℕ) (o
                 };
             counted = q .counted refl;
             state =
-                state-later (planOf bs n t terms) n base s low (areaSize n (waiting t terms) block) block old mid (pre .area) (pre .inside)
+                state-later (planOf bs n t terms) n base s low (passSize n t terms d block) block old mid (pre .area) (pre .inside)
                 (q .beyond)
                 (pre .state);
             kept = passed-kept false q;
@@ -134,7 +136,7 @@ pub record Blocking (bs : List ℕ) (n t : ℕ) (terms : Terms) (base s : ℕ) (
   pub state : State (planOf bs n t terms) n base s low 0 0 0 w
   pub kept : Kept n base old w
 
-module _ (bs : List ℕ) (n t : ℕ) (terms : Terms) (base block s : ℕ) (old : List ℕ) (pre : SourceReady bs n t terms base block s old) where
+module _ (bs : List ℕ) (n t : ℕ) (terms : Terms) (d base block s : ℕ) (old : List ℕ) (pre : SourceReady bs n t terms d base block s old) where
   pub blocking-none : Blocking bs n t terms base s old 0 old
   blocking-none =
       record {
@@ -152,15 +154,16 @@ module _ (bs : List ℕ) (n t : ℕ) (terms : Terms) (base block s : ℕ) (old :
 
   module _ (low : ℕ) (w : List ℕ) (f : Blocking bs n t terms base s old low w) where
     module _ (size : ℕ) (least : size ≡ min block (n - low)) (h : low < n) where
-      pub blocking-ready : BlockReady bs n t terms base s low size w
+      pub blocking-ready : BlockReady bs n t terms d base s low size w
       blocking-ready =
           let r = pre .room in
           record {
             accepted = pre .accepted;
             source = pre .source;
             units = pre .units;
+            deep = pre .deep;
             inside = omega arith;
-            area = let a = pre .area in omega (arith, area-less n (waiting t terms) size block (omega arith));
+            area = let a = pre .area in omega (arith, size-less n t terms d size block (omega arith));
             room =
                 record {
                   stations = r .stations;
@@ -171,21 +174,21 @@ module _ (bs : List ℕ) (n t : ℕ) (terms : Terms) (base block s : ℕ) (old :
           }
 
       pub blocking-over : (x : List ℕ) → BlockDone bs n t terms base s low size w x true → SourceDone bs n t terms base s old x true
-      blocking-over x d =
+      blocking-over x done =
           record {
-            too-many = d .too-many;
+            too-many = done .too-many;
             summed = λ e. absurd (let z : _≡_ {A = ℕ} 0 1 = cc in omega arith);
-            kept = kept-over n base (f .kept) (d .kept);
+            kept = kept-over n base (f .kept) (done .kept);
           }
 
       pub blocking-more : (x : List ℕ) → BlockDone bs n t terms base s low size w x false
           → Blocking bs n t terms base s old (low + size) x
-      blocking-more x d =
+      blocking-more x done =
           record {
             within = omega arith;
-            few = λ g. sym (d .too-many);
-            state = d .state refl;
-            kept = kept-over n base (f .kept) (d .kept);
+            few = λ g. sym (done .too-many);
+            state = done .state refl;
+            kept = kept-over n base (f .kept) (done .kept);
           }
 
     pub blocking-all : n ≤ low → SourceDone bs n t terms base s old w false

@@ -20,7 +20,7 @@ module _ (n base s low block z : ℕ) (old : List ℕ) where
   pub row-self : z ≡ s → DestinationsAdded n base s low block z (z + 1) old old
   row-self e = record { working = λ bs t terms k. working-self bs n t terms base s low block z k e }
 
-  -- a destination without a path adds nothing
+  -- a destination without a walk adds nothing
   pub row-unreached : z < n → 65535 ≤ getD old z 0 → DestinationsAdded n base s low block z (z + 1) old old
   row-unreached h far = record { working = λ bs t terms k. working-unreached bs n t terms base s low block z k h far }
 

@@ -1,24 +1,19 @@
--- The tallies lie within the named part of the work area.
+-- The tallies lie within the named part of the work area, behind the pass's part.
 -- Assumes nothing.
 use Prim.Native.Nat.{ℕ, _+_, _-_, _*_, _<_, _≤_}
 use native.Mathlib.Omega.{arith}
 use mathlib.Core.Path.{_≡_}
-use native.Mathlib.Nat.{mul-assoc, mul-comm, add-mul}
-use Rattle.temporal.specs.Plan.{Terms}
+use native.Mathlib.Nat.{mul-assoc, mul-comm, mul-le-mul, add-mul}
+use Rattle.temporal.specs.Plan.{Terms, Allowed}
 use Rattle.temporal.specs.Outcome.{workSize}
-use Rattle.pass.specs.Passed.{waiting}
-use Rattle.pass.proofs.SizeLaws.{some-column, columns-fit}
+use Rattle.forward.specs.Passed.{passSize}
+use Rattle.forward.proofs.SizeLaws.{some-column, columns-fit, most-lent}
 use Rattle.tallies.specs.Tally.{blockOf, tallyBase}
 
--- a pass and two entries a station have room, with at least one column
-enough : (t : ℕ) (terms : Terms) → 0 < t → 3 * (1 + waiting t terms) ≤ 4 * (t + 1) - 2
-enough t terms h = omega arith
-
 -- where the tallies begin, and their 2 n entries, are within the 4 n (t + 1) entries of the work area
-pub base-fits : (n t : ℕ) (terms : Terms) → 0 < t → tallyBase n t terms + 2 * n ≤ workSize n t
-unfolding tallyBase blockOf
-base-fits n t terms h =
-    let fits = columns-fit n (4 * (t + 1) - 2) (waiting t terms) (enough t terms h) (blockOf n t terms) (omega arith) in
+pub base-fits : (n t : ℕ) → tallyBase n t + 2 * n ≤ workSize n t
+unfolding tallyBase
+base-fits n t =
     let less : 4 * (t + 1) - 2 ≡ 4 * t + 2 = omega arith in
     let parts : (4 * (t + 1) - 2) * n ≡ 4 * t * n + 2 * n = rw less (add-mul (4 * t) 2 n) in
     let four = mul-assoc 4 t n in
@@ -26,7 +21,19 @@ base-fits n t terms h =
     let one = add-mul t 1 n in
     omega arith
 
--- a block has at least one station
-pub block-some : (n t : ℕ) (terms : Terms) → 0 < n → 0 < t → 0 < blockOf n t terms
-unfolding blockOf
-block-some n t terms some slots = some-column n (4 * (t + 1) - 2) (waiting t terms) (enough t terms slots) some
+-- where they begin is a small number
+pub base-small : (n t : ℕ) → n ≤ 256 → t ≤ 255 → (4 * (t + 1) - 2) * n ≤ 262144
+base-small n t stations slots =
+    let entries : 4 * (t + 1) - 2 ≤ 1024 = omega arith in
+    omega (arith, mul-le-mul entries stations)
+
+module _ (n t : ℕ) (terms : Terms) (d : ℕ) (units : Allowed terms) (slot : 0 < t) (most : t ≤ 255) (kept : d ≤ terms .keeping) where
+  -- a block has at least one station
+  pub block-some : 0 < n → 0 < blockOf n t terms d
+  unfolding blockOf
+  block-some some = some-column n t terms d (4 * (t + 1) - 2) (most-lent n t terms d units slot most kept) some
+
+  -- and the pass with it lies before the tallies
+  pub block-fits : passSize n t terms d (blockOf n t terms d) ≤ tallyBase n t
+  unfolding blockOf tallyBase
+  block-fits = columns-fit n t terms d (4 * (t + 1) - 2) (most-lent n t terms d units slot most kept) _ (omega arith)

@@ -7,9 +7,9 @@ use mathlib.Core.List.{List}
 use mathlib.Core.Logic.{by-cases}
 use native.Mathlib.Omega.{arith}
 use native.Mathlib.Decide.{ℕ-discrete}
-use native.Mathlib.Nat.{mul-le-mul}
+use native.Mathlib.Nat.{mul-le-mul-left}
 use lib.ListN.{length, getD, drop}
-use Rattle.temporal.specs.Plan.{Terms}
+use Rattle.temporal.specs.Plan.{Terms, units}
 use Rattle.temporal.specs.Lists.{below}
 use Rattle.temporal.specs.Bytes.{planOf}
 use Rattle.temporal.specs.Cause.{tooMany, tooManyBelow}
@@ -18,42 +18,66 @@ use Rattle.temporal.proofs.Accepted.{accepted}
 use Rattle.temporal.proofs.ListLaws.{any-true, any-false, mem-below}
 use Rattle.memory.specs.Fill.{filled}
 use Rattle.memory.proofs.FillLaws.{filled-length, filled-at, filled-beyond}
-use Rattle.pass.specs.Passed.{waiting, areaSize, mostColumns}
-use Rattle.pass.proofs.SizeLaws.{first-part, columns-within}
+use Rattle.stale.specs.Depth.{DepthOf}
+use Rattle.forward.specs.Passed.{passSize, mostColumns, Lent, DepthReady}
+use Rattle.forward.proofs.SizeLaws.{first-part, most-lent}
 use Rattle.tallies.specs.Tally.{blockOf, tallyBase, Tallyable, Tallied}
 use Rattle.tallies.specs.Progress.{pairTerm, loadTerm, TallyEntry, Kept}
 use Rattle.tallies.specs.Sources.{SourceReady, SourceDone, AllReady}
 use Rattle.tallies.proofs.TermLaws.{partly-none, pairs-partly, load-partly}
 use Rattle.tallies.proofs.StateLaws.{kept-over, kept-same}
 use Rattle.temporal.proofs.BufferLaws.{later-drop}
-use Rattle.tallies.proofs.Sizes.{base-fits, block-some}
+use Rattle.tallies.proofs.Sizes.{base-fits, block-some, block-fits}
 
--- ---- the sizes
+-- ---- before the sources
 
--- the block and the base that are computed are those that are named
-pub all-ready : (bs : List ℕ) (n t : ℕ) (terms : Terms) (k base block q : ℕ) (w : List ℕ) → Tallyable bs n t terms k w
-    → q ≡ waiting t terms → block ≡ mostColumns n (4 * (t + 1) - 2) q
-    → base ≡ tallyBase n t terms
-    → AllReady bs n t terms k base block w
-unfolding blockOf
-all-ready bs n t terms k base block q w asked is e f =
-    record { asked = asked; block-there = e ∙ ap (mostColumns n (4 * (t + 1) - 2)) is; base-there = f }
+module _ (bs : List ℕ) (n t g h k : ℕ) (old : List ℕ) (asked : Tallyable bs n t (units g h) k old) where
+  -- how many appearances are kept can be found
+  pub depth-ready : DepthReady bs n t h old
+  depth-ready =
+      let turns = asked .units .turns in
+      let keeps = asked .units .keeps in
+      let room = asked .fits in
+      record {
+        accepted = asked .accepted;
+        some = omega arith;
+        most = asked .units .most;
+        fits = let one = mul-le-mul-left {m = 1} {n = t + 1} n (omega arith) in omega arith;
+      }
 
--- where the tallies begin is a small number, and so are those that it is made of
-pub base-small : (n t g q block e : ℕ) → n ≤ 256 → t ≤ 255 → q ≡ min g t → block ≡ mostColumns n e q
-    → (n * block ≤ 65536) × ((1 + q) * (2 * n + n * block) ≤ 16908288)
-base-small n t g q block e stations slots is columns =
-    let most : block ≤ 256 = omega (arith, columns-within n e q) in
-    let rows = mul-le-mul stations most in
-    let size : 2 * n + n * block ≤ 66048 = omega arith in
-    let parts : 1 + q ≤ 256 = omega arith in
-    (omega arith, omega (arith, mul-le-mul parts size))
+  module _ (mid : List ℕ) (d : ℕ) (found : DepthOf bs n h old mid d) where
+    -- and how many columns fit
+    pub columns-lent : Lent t (units g h) d (4 * (t + 1) - 2)
+    columns-lent =
+        let a = accepted bs n t (asked .accepted) in
+        most-lent n t (units g h) d (asked .units) (a .some-slot) (a .slots) (found .most)
 
--- the base is that of the block that is computed
-pub base-there : (n t : ℕ) (terms : Terms) (q block : ℕ) → q ≡ waiting t terms → block ≡ mostColumns n (4 * (t + 1) - 2) q
-    → (1 + q) * (2 * n + n * block) ≡ tallyBase n t terms
-unfolding tallyBase blockOf
-base-there n t terms q block is e = rw (e, is)
+    -- the block and the base that are computed are those that are named
+    pub all-ready : (base block : ℕ) → block ≡ mostColumns n t (units g h) d (4 * (t + 1) - 2) → base ≡ tallyBase n t
+        → AllReady bs n t (units g h) d k base block mid
+    unfolding blockOf
+    all-ready base block e f =
+        let room = asked .fits in
+        let same = found .same-length in
+        record {
+          asked = record { accepted = asked .accepted; sources = asked .sources; units = asked .units; fits = omega arith };
+          deep = found .deep;
+          kept = found .most;
+          block-there = e;
+          base-there = f;
+        }
+
+    -- what is promised then is promised from the entry on
+    pub tallied-entry : (new : List ℕ) (r : Bool) → Tallied bs n t (units g h) k mid new r → Tallied bs n t (units g h) k old new r
+    tallied-entry new r x =
+        record {
+          too-many = x .too-many;
+          station-pairs = x .station-pairs;
+          station-loads = x .station-loads;
+          beyond = x .beyond ∙
+              later-drop n (workSize n t) mid old (let one = mul-le-mul-left {m = 1} {n = t + 1} n (omega arith) in omega arith) (found .beyond);
+          same-length = x .same-length ∙ found .same-length;
+        }
 
 -- ---- the loop over sources
 
@@ -64,15 +88,15 @@ pub record Summing (bs : List ℕ) (n t : ℕ) (terms : Terms) (k base : ℕ) (o
   pub summed : (v : ℕ) → v < n → TallyEntry (planOf bs n t terms) n base s v 0 w
   pub kept : Kept n base old w
 
-module _ (bs : List ℕ) (n t : ℕ) (terms : Terms) (k base block : ℕ) (old : List ℕ) (pre : AllReady bs n t terms k base block old) where
+module _ (bs : List ℕ) (n t : ℕ) (terms : Terms) (depth k base block : ℕ) (old : List ℕ)
+    (pre : AllReady bs n t terms depth k base block old) where
   pub all-room : base + 2 * n ≤ length old
   all-room =
-      let a = accepted bs n t (pre .asked .accepted) in
       let e = pre .base-there in
       let f = pre .asked .fits in
-      omega (arith, base-fits n t terms (a .some-slot))
+      omega (arith, base-fits n t)
 
-  pub all-cleared : (w : List ℕ) → w ≡ filled old base (2 * n) 0 → AllReady bs n t terms k base block w
+  pub all-cleared : (w : List ℕ) → w ≡ filled old base (2 * n) 0 → AllReady bs n t terms depth k base block w
   all-cleared w e =
       record {
         asked =
@@ -82,6 +106,8 @@ module _ (bs : List ℕ) (n t : ℕ) (terms : Terms) (k base block : ℕ) (old :
               units = pre .asked .units;
               fits = let f = pre .asked .fits in omega (arith, ap length e, filled-length old base (2 * n) 0);
             };
+        deep = pre .deep;
+        kept = pre .kept;
         block-there = pre .block-there;
         base-there = pre .base-there;
       }
@@ -108,28 +134,28 @@ module _ (bs : List ℕ) (n t : ℕ) (terms : Terms) (k base block : ℕ) (old :
 
   kept-work : (w : List ℕ) → Kept n base old w → drop (workSize n t) w ≡ drop (workSize n t) old
   kept-work w kept =
-      let a = accepted bs n t (pre .asked .accepted) in
       let e = pre .base-there in
-      later-drop (base + 2 * n) (workSize n t) w old (omega (arith, base-fits n t terms (a .some-slot))) (kept .beyond)
+      later-drop (base + 2 * n) (workSize n t) w old (omega (arith, base-fits n t)) (kept .beyond)
 
   module _ (s : ℕ) (w : List ℕ) (f : Summing bs n t terms k base old s w) where
-    pub summing-ready : s < k → SourceReady bs n t terms base block s w
-    unfolding tallyBase blockOf
+    pub summing-ready : s < k → SourceReady bs n t terms depth base block s w
     summing-ready h =
         let a = accepted bs n t (pre .asked .accepted) in
         let e = pre .block-there in
-        let some = block-some n t terms (a .some-station) (a .some-slot) in
-        let there : areaSize n (waiting t terms) block ≤ base = rw (e, pre .base-there) (omega arith) in
+        let some = block-some n t terms depth (pre .asked .units) (a .some-slot) (a .slots) (pre .kept) (a .some-station) in
+        let there : passSize n t terms depth block ≤ base =
+        rw (e, pre .base-there) (block-fits n t terms depth (pre .asked .units) (a .some-slot) (a .slots) (pre .kept)) in
         record {
           accepted = pre .asked .accepted;
           source = let few = pre .asked .sources in omega arith;
           units = pre .asked .units;
+          deep = pre .deep;
           some-block = omega arith;
           area = there;
           room =
               record {
                 stations = a .stations;
-                area = let first = first-part n (waiting t terms) block in omega arith;
+                area = let first = first-part n t terms depth block in omega arith;
                 fits = let l = f .kept .same-length in let r = all-room in omega arith;
               };
           summed = f .summed;

@@ -13,7 +13,7 @@ use Rattle.temporal.specs.Plan.{Plan, Terms}
 use Rattle.temporal.specs.Bytes.{planOf}
 use Rattle.temporal.specs.Shortest.{shortestWalksTo, hops}
 use Rattle.pass.specs.Row.{partSize}
-use Rattle.pass.specs.Passed.{Counted}
+use Rattle.forward.specs.Passed.{Counted}
 use Rattle.tallies.specs.Progress.{pairTerm, loadTerm, TallyEntry, Kept, Working, addedAt, Addable}
 use Rattle.tallies.proofs.TermLaws.{Nothing, nothing-self, nothing-through, through-none, partly-at-most}
 use Rattle.tallies.proofs.TermLaws.{pair-at-most, load-at-most-whole}
@@ -103,7 +103,7 @@ module _ (bs : List ℕ) (n t : ℕ) (terms : Terms) (base s low block : ℕ) wh
       → Working bs n t terms base s low block (z + 1) 0 old w
   working-self z k e = working-skip z k (λ v. rw e (nothing-self (planOf bs n t terms) v s))
 
-  -- a destination without a path adds nothing
+  -- a destination without a walk adds nothing
   pub working-unreached : (z : ℕ) {old w : List ℕ} → Working bs n t terms base s low block z 0 old w → z < n
       → 65535 ≤ getD w z 0 → Working bs n t terms base s low block (z + 1) 0 old w
   working-unreached z k h far =

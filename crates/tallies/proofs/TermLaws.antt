@@ -93,14 +93,14 @@ nothing-through p v s z e =
     off true x = refl
     off false x = refl
 
--- no shortest path has its destination inside
+-- no shortest walk has its destination inside
 pub through-destination : (p : Plan) (s z : ℕ) → through p s z z ≡ 0
 unfolding through
 through-destination p s z =
     ap length (select-none (shortestWalksTo p s z) (λ w m.
     not-true-false (isInterior p s z z w) (λ e. interior-inv p s z z w e .not-destination refl)))
 
--- where there is no path, none has v inside
+-- where there is no walk, none has v inside
 pub through-none : (bs : List ℕ) (n t : ℕ) (terms : Terms) → planFault bs n t ≡ 0 → (s z v : ℕ)
     → 65535 ≤ hops (shortestWalksTo (planOf bs n t terms) s z) → through (planOf bs n t terms) s z v ≡ 0
 unfolding through shortestWalksTo select planOf
@@ -112,7 +112,7 @@ through-none bs n t terms ok s z v h =
     (hops-bound (bounded-ends (planOf bs n t terms) (slots-within bs n t terms ok) s (isAt z)))
 
 module _ (p : Plan) (v s z : ℕ) (apart : s ≢ z) (some : 0 < through p s z v) where
-  -- a pair of two stations with v inside some path adds 1 and its share
+  -- a pair of two stations with v inside some walk adds 1 and its share
   pub pair-adds : pairTerm p v s z ≡ 1
   unfolding pairTerm
   pair-adds = rw (ne-eqb s z apart, lt-ltb 0 _ some)

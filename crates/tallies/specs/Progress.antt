@@ -13,7 +13,7 @@ use Rattle.temporal.specs.Bytes.{planOf}
 use Rattle.temporal.specs.Cause.{planFault}
 use Rattle.temporal.specs.Load.{Ends, isPairOf, share}
 use Rattle.pass.specs.Row.{partSize}
-use Rattle.pass.specs.Passed.{Counted}
+use Rattle.forward.specs.Passed.{Counted}
 
 -- a source and a destination
 abbrev pub ends : ℕ → ℕ → Ends
@@ -82,7 +82,7 @@ unfoldable pub countedIn : ℕ → ℕ → List ℕ → ℕ → ℕ → List ℕ
 countedIn n base w v x =
     set (set w (base + v) (getD w (base + v) 0 + 1)) (base + n + v) (getD w (base + n + v) 0 + x)
 
--- the same where some of the count shortest paths are not among those past v, and v is not z
+-- the same where some of the count shortest walks are not among those past v, and v is not z
 unfoldable pub added : ℕ → ℕ → List ℕ → ℕ → ℕ → ℕ → ℕ → List ℕ
 added n base w v z count past =
     cond (eqb v z || eqb (count - past) 0) w (countedIn n base w v (2 ^ 32 * (count - past) / count))

@@ -1,14 +1,14 @@
-// Adds up, over the sources below k, every station's pairs and load. Everything lives in a lent work area: the pass's part first,
-// behind it the pairs of the stations, then their loads.
+// Adds up, over the sources below k, every station's pairs and load. Everything lives in a lent work area: the pass's part at its
+// beginning, the pairs of the stations and then their loads at its end.
 ghost use mathlib.Core.Path.{_≡_};
 ghost use Prim.Native.Nat.{_+_, _*_, _<_, _≤_, min};
 ghost use lib.ListN.{length};
-ghost use Rattle.temporal.specs.Plan.{turning};
+ghost use Rattle.temporal.specs.Plan.{units};
 ghost use Rattle.tallies.specs.Tally.{tallyBase, Tallyable, Tallied};
 ghost use Rattle.tallies.specs.Progress.{addedAt, Addable, Workable, DestinationsAdded};
 ghost use Rattle.tallies.specs.Sources.{BlockReady, BlockDone, SourceReady, SourceDone, AllReady};
 
-// Adds the pair of the source worked on and z to station low + j, with its share, where some of its paths have it inside.
+// Adds the pair of the source worked on and z to station low + j, with its share, where some of its walks have it inside.
 fn add_pair(work: &mut [u64], n: usize, base: usize, low: usize, block: usize, z: usize, j: usize)
     requires { ⌜ Addable n base low block z j (now work) ⌝ }
     ensures { λ _. ⌜ now (work .exit) ≡ addedAt n base low block z j (now (work .entry)) ⌝ }
@@ -74,15 +74,17 @@ fn tally_block(
     n: usize,
     t: usize,
     g: usize,
+    h: usize,
+    depth: usize,
     base: usize,
     source: usize,
     low: usize,
     block: usize,
 ) -> bool
-    requires { ⌜ BlockReady (now plan) n t (turning g) base source low block (now work) ⌝ }
-    ensures { λ r. ⌜ BlockDone (now (plan .entry)) n t (turning g) base source low block (now (work .entry)) (now (work .exit)) r ⌝ }
+    requires { ⌜ BlockReady (now plan) n t (units g h) depth base source low block (now work) ⌝ }
+    ensures { λ r. ⌜ BlockDone (now (plan .entry)) n t (units g h) base source low block (now (work .entry)) (now (work .exit)) r ⌝ }
 {
-    if pass::pass(work, plan, n, t, g, source, low, block) {
+    if forward::pass(work, plan, n, t, g, h, depth, source, low, block) {
         return true;
     }
     add_rows(work, n, base, source, low, block);
@@ -96,17 +98,19 @@ fn tally_source(
     n: usize,
     t: usize,
     g: usize,
+    h: usize,
+    depth: usize,
     base: usize,
     block: usize,
     source: usize,
 ) -> bool
-    requires { ⌜ SourceReady (now plan) n t (turning g) base block source (now work) ⌝ }
-    ensures { λ r. ⌜ SourceDone (now (plan .entry)) n t (turning g) base source (now (work .entry)) (now (work .exit)) r ⌝ }
+    requires { ⌜ SourceReady (now plan) n t (units g h) depth base block source (now work) ⌝ }
+    ensures { λ r. ⌜ SourceDone (now (plan .entry)) n t (units g h) base source (now (work .entry)) (now (work .exit)) r ⌝ }
 {
     let mut low = 0;
     while low < n {
         let size = pass::smaller(block, n - low);
-        if tally_block(work, plan, n, t, g, base, source, low, size) {
+        if tally_block(work, plan, n, t, g, h, depth, base, source, low, size) {
             return true;
         }
         low += size;
@@ -121,17 +125,19 @@ fn tally_sources(
     n: usize,
     t: usize,
     g: usize,
+    h: usize,
+    depth: usize,
     k: usize,
     base: usize,
     block: usize,
 ) -> bool
-    requires { ⌜ AllReady (now plan) n t (turning g) k base block (now work) ⌝ }
-    ensures { λ r. ⌜ Tallied (now (plan .entry)) n t (turning g) k (now (work .entry)) (now (work .exit)) r ⌝ }
+    requires { ⌜ AllReady (now plan) n t (units g h) depth k base block (now work) ⌝ }
+    ensures { λ r. ⌜ Tallied (now (plan .entry)) n t (units g h) k (now (work .entry)) (now (work .exit)) r ⌝ }
 {
     memory::fill_part(work, base, 2 * n, 0);
     let mut source = 0;
     while source < k {
-        if tally_source(work, plan, n, t, g, base, block, source) {
+        if tally_source(work, plan, n, t, g, h, depth, base, block, source) {
             return true;
         }
         source += 1;
@@ -140,22 +146,28 @@ fn tally_sources(
 }
 
 // Where the tallies begin in the work area.
-pub fn base_of(n: usize, t: usize, g: usize) -> usize
-    requires { ⌜ (n ≤ 256) × (0 < t) × (t ≤ 255) ⌝ }
-    ensures { λ r. ⌜ r ≡ tallyBase n t (turning g) ⌝ }
+pub fn base_of(n: usize, t: usize) -> usize
+    requires { ⌜ (n ≤ 256) × (t ≤ 255) ⌝ }
+    ensures { λ r. ⌜ r ≡ tallyBase n t ⌝ }
 {
-    let q = pass::smaller(g, t);
-    let block = pass::most_columns(n, 4 * (t + 1) - 2, q);
-    (1 + q) * (2 * n + n * block)
+    (4 * (t + 1) - 2) * n
 }
 
 // Adds up the pairs and the load of every station over the sources below k. True where a count is over 2^64 - 1.
-pub fn tally(work: &mut [u64], plan: &[u8], n: usize, t: usize, g: usize, k: usize) -> bool
-    requires { ⌜ Tallyable (now plan) n t (turning g) k (now work) ⌝ }
-    ensures { λ r. ⌜ Tallied (now (plan .entry)) n t (turning g) k (now (work .entry)) (now (work .exit)) r ⌝ }
+pub fn tally(
+    work: &mut [u64],
+    plan: &[u8],
+    n: usize,
+    t: usize,
+    g: usize,
+    h: usize,
+    k: usize,
+) -> bool
+    requires { ⌜ Tallyable (now plan) n t (units g h) k (now work) ⌝ }
+    ensures { λ r. ⌜ Tallied (now (plan .entry)) n t (units g h) k (now (work .entry)) (now (work .exit)) r ⌝ }
 {
-    let q = pass::smaller(g, t);
-    let block = pass::most_columns(n, 4 * (t + 1) - 2, q);
-    let base = base_of(n, t, g);
-    tally_sources(work, plan, n, t, g, k, base, block)
+    let depth = forward::depth(work, plan, n, t, h);
+    let block = forward::most_columns(n, t, g, h, depth, 4 * (t + 1) - 2);
+    let base = base_of(n, t);
+    tally_sources(work, plan, n, t, g, h, depth, k, base, block)
 }

@@ -23,21 +23,29 @@ module _ {Values Buffers : Type 0} (zeros : Values) (old : Buffers) (work : Outc
   abbrev pub refusedWith : ℕ → Outcome Values Buffers
   refusedWith k = record { number = k; values = zeros; buffers = old }
 
+  -- where the first part of the list has a cause, it is the number
+  pub entered-some : (l m : List ℕ) → 0 < first l → entered (l ++ m) zeros old work ≡ refusedWith (first l)
+  unfolding entered
+  entered-some l m h = rw (first-append-some l m h) (unless-some (first l) refusedWith work h)
+
+  -- where it has none, the second part decides
+  pub entered-none : (l m : List ℕ) → first l ≡ 0 → entered (l ++ m) zeros old work ≡ entered m zeros old work
+  unfolding entered
+  entered-none l m e = rw (first-append-none l m e)
+
   -- a plan that is refused
   pub entered-plan :
       (bs : List ℕ) (n t : ℕ) (l : List ℕ) → 0 < planFault bs n t →
       entered (planCauses bs n t ++ l) zeros old work ≡ refusedWith (planFault bs n t)
-  unfolding entered planFault
-  entered-plan bs n t l h =
-      let decides = first-append-some (planCauses bs n t) l h in
-      rw decides (unless-some (first (planCauses bs n t)) refusedWith work h)
+  unfolding planFault
+  entered-plan bs n t l h = entered-some (planCauses bs n t) l h
 
   -- a plan that is accepted leaves the call's causes
   pub entered-call :
       (bs : List ℕ) (n t : ℕ) (l : List ℕ) → planFault bs n t ≡ 0 →
       entered (planCauses bs n t ++ l) zeros old work ≡ entered l zeros old work
-  unfolding entered planFault
-  entered-call bs n t l e = rw (first-append-none (planCauses bs n t) l e)
+  unfolding planFault
+  entered-call bs n t l e = entered-none (planCauses bs n t) l e
 
   -- a cause that holds is the number
   pub entered-cause :

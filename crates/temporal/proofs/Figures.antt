@@ -1,5 +1,5 @@
 -- Figures of small plans by computation from the definitions: a single record, a load in which rounding each share and rounding
--- the sum differ, a set of two stations on one path, a set of the destination, turnarounds,
+-- the sum differ, a set of two stations on one walk, a set of the destination, turnarounds,
 -- shortest foremost paths; and which of 9 and 11 is told.
 -- Assumes nothing.
 use Prim.Native.Nat.{ℕ, _+_}
@@ -18,7 +18,7 @@ use Rattle.temporal.specs.OutcomeForemost.{foremostThrough}
 use Rattle.temporal.specs.Set.{touches, touched}
 use Rattle.temporal.specs.Load.{endsBelow, pairsBelow, partialPairs, share, partialLoad, load, restOfPairs, restOfLoad}
 use Rattle.temporal.specs.Bytes.{records, planOf}
-use Rattle.temporal.specs.Cause.{cause, first, unless, outside, wrongLength, planCauses, planFault, wrongTurnaround, pairCauses, tooMany}
+use Rattle.temporal.specs.Cause.{cause, first, unless, outside, wrongLength, planCauses, planFault, wrongTurnaround, wrongKeeping, termsCauses, endsCauses, pairCauses, tooMany}
 use Rattle.temporal.specs.Outcome.{entered, short, workSize}
 use Rattle.temporal.specs.OutcomePair.{partialLoads}
 use Rattle.temporal.specs.Cursor.{sameNumbers}
@@ -30,12 +30,12 @@ use Rattle.temporal.proofs.CauseLaws.{first-append-none}
 single : Plan
 single = record { stations = 2; slots = 1; contacts = record { slot = 1; sender = 0; hearer = 1 } ∷ []; terms = turning 1 }
 
--- It leads from its sender to its hearer, and there is no path back.
+-- It leads from its sender to its hearer, and there is no walk back.
 one-way : count (shortestWalksTo single 0 1) ∷ count (shortestWalksTo single 1 0) ∷ [] ≡ 1 ∷ 0 ∷ []
 unfolding single from below select any member distinct tuples leadsTo mayFollow along step run lastOr holds endsIn orElse firstNonempty ofHops shortest shortestWalksTo flatMap bind
 one-way = refl
 
--- plan A of document 01 with each contact in one direction alone, a sending and b hearing: its paths from 0 are plan A's
+-- plan A of document 01 with each contact in one direction alone, a sending and b hearing: its walks from 0 are plan A's
 unfoldable pub outwardA : Plan
 outwardA =
     record {
@@ -52,12 +52,12 @@ outwardA =
 foremostTold : Plan → ℕ → ℕ → List ℕ
 foremostTold p s z = arrival p s z ∷ hops (foremostPaths p s z) ∷ count (foremostPaths p s z) ∷ []
 
--- Station 2 has two pairs, 2 of 3 paths of each: twice the whole part of 2^33 / 3 (P9).
+-- Station 2 has two pairs, 2 of 3 shortest walks of each: twice the whole part of 2^33 / 3 (P9).
 load-of-two-pairs : load outwardA 2 ≡ 5726623060
 unfolding outwardA from below sum product select any member distinct tuples leadsTo mayFollow along step run lastOr holds endsIn isInterior orElse firstNonempty ofHops shortest shortestWalksTo through endsBelow pairsBelow share partialLoad flatMap bind
 load-of-two-pairs = refl
 
--- Station 3 has three pairs, with the sources 0, 1 and 2 and the destination 4, and all their paths go through it: with k sources
+-- Station 3 has three pairs, with the sources 0, 1 and 2 and the destination 4, and all their shortest walks go through it: with k sources
 -- worked on it has the pairs of those (document 02, C-18).
 partial-loads-of-one-station :
     flatMap (λ k. partialPairs outwardA k 3 ∷ partialLoad outwardA k 3 ∷ []) (0 ∷ 1 ∷ 2 ∷ 3 ∷ 5 ∷ []) ≡
@@ -90,10 +90,10 @@ thirteen-before-eight :
     map (λ k. partialLoads [] 3 1 (turning 17) k (record { pairsTable = []; loadTable = []; work = [] }) .number)
     (3 ∷ 4 ∷ []) ∷ [] ≡
     (8 ∷ 8 ∷ 8 ∷ 13 ∷ 13 ∷ []) ∷ (12 ∷ 12 ∷ []) ∷ []
-unfolding from below any records wrongLength outside planCauses wrongTurnaround cause first unless entered partialLoads flatMap
+unfolding from below any records wrongLength outside planCauses wrongTurnaround wrongKeeping termsCauses cause first unless entered partialLoads flatMap
 thirteen-before-eight = refl
 
--- Of the three shortest paths from 0 to 4 all go through station 3 and two of them through station 2 too: each counts once.
+-- Of the three shortest walks from 0 to 4 all go through station 3 and two of them through station 2 too: each counts once.
 set-of-two : touched outwardA 0 4 (λ v. eqb v 2 || eqb v 3) ≡ 3
 unfolding outwardA from below sum select any member distinct tuples leadsTo mayFollow along step run lastOr holds endsIn isInterior orElse firstNonempty ofHops shortest shortestWalksTo touches touched flatMap bind
 set-of-two = refl
@@ -126,7 +126,7 @@ first-leg-free = refl
 -- 12 is told before 6, outside 1 to 16 alone.
 twelve-before-six :
     map (λ g. first (pairCauses (turning g) 2 2 2 true)) (0 ∷ 1 ∷ 16 ∷ 17 ∷ 65535 ∷ []) ≡ 12 ∷ 6 ∷ 6 ∷ 12 ∷ 12 ∷ []
-unfolding pairCauses wrongTurnaround cause first
+unfolding pairCauses wrongTurnaround wrongKeeping termsCauses endsCauses cause first
 twelve-before-six = refl
 
 -- ---- shortest foremost paths
@@ -176,7 +176,7 @@ verdicts-on-lists :
 unfolding from below any sameNumbers joined verdictOn flatMap
 verdicts-on-lists = refl
 
--- Where 1 to 8 and 12 do not hold, and both 9 and 11 do, 11 is told (document 02, C-12).
+-- Where 1 to 8, 12 and 14 do not hold, and both 9 and 11 do, 11 is told (document 02, C-12).
 pub eleven-before-nine :
     (bs : List ℕ) (n t : ℕ) (terms : Terms) (s z : ℕ) (set old : List ℕ) → planFault bs n t ≡ 0 →
     first (pairCauses terms n s z (short n set || short (workSize n t) old)) ≡ 0 → wrongSet n set ≡ true →

@@ -1,5 +1,5 @@
--- Shortest foremost paths: what they are, and that they are paths; the shortest walks that arrive by a slot, of which the shortest
--- paths and the shortest foremost paths are two cases. A law marked (kept) rests on a reading being kept until the plan ends.
+-- Shortest foremost paths: what they are, and that they are paths; the shortest walks that arrive by a slot, of which the pair's
+-- shortest walks and the shortest foremost paths are two cases. A law marked (kept) rests on a reading being kept until the plan ends.
 -- Assumes nothing.
 use Prim.Native.Nat.{ℕ, _+_, _≤_, _<_, min}
 use native.Mathlib.Omega.{arith}

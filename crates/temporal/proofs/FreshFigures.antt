@@ -3,12 +3,17 @@
 -- Assumes nothing.
 use Prim.Native.Nat.{ℕ}
 use mathlib.Core.Path.{_≡_, refl}
+use mathlib.Core.Bool.{true}
 use mathlib.Core.List.{List, [], _∷_, map, flatMap}
 use mathlib.Core.Option.{bind}
 use Rattle.temporal.specs.Lists.{from, below, select, any, member, distinct, tuples}
 use Rattle.temporal.specs.Plan.{Contact, Plan, units, leadsTo, mayFollow}
 use Rattle.temporal.specs.Walk.{along, step, run, lastOr, holds, endsIn, isPath, isInterior}
 use Rattle.temporal.specs.Shortest.{orElse, firstNonempty, ofHops, shortest, shortestWalksTo, shortestPaths, count, through}
+use Rattle.temporal.specs.Bytes.{records}
+use Rattle.temporal.specs.Cause.{cause, first, unless, outside, wrongLength, planCauses, wrongTurnaround, wrongKeeping, termsCauses, endsCauses, pairCauses}
+use Rattle.temporal.specs.Outcome.{entered}
+use Rattle.temporal.specs.OutcomePair.{partialLoads}
 
 abbrev contact : ℕ → ℕ → ℕ → Contact
 contact t a b = record { slot = t; sender = a; hearer = b }
@@ -56,3 +61,12 @@ no-path-at-all = refl
 pub once-for-two-visits : map (through detour 0 3) (below 4) ≡ 0 ∷ 1 ∷ 1 ∷ 0 ∷ []
 unfolding detour from below select any member distinct tuples leadsTo mayFollow along step run lastOr holds endsIn isInterior orElse firstNonempty ofHops shortest shortestWalksTo through flatMap bind
 once-for-two-visits = refl
+
+-- 14 is told below the turnaround and above 255, after 12, and before 6 and 13.
+fourteen-between :
+    map (λ h. first (pairCauses (units 3 h) 2 2 2 true)) (0 ∷ 2 ∷ 3 ∷ 255 ∷ 256 ∷ 65536 ∷ []) ∷
+    map (λ h. first (pairCauses (units 17 h) 2 2 2 true)) (0 ∷ 255 ∷ []) ∷
+    map (λ h. partialLoads [] 3 1 (units 1 h) 4 (record { pairsTable = []; loadTable = []; work = [] }) .number) (0 ∷ 1 ∷ 256 ∷ []) ∷ [] ≡
+    (14 ∷ 14 ∷ 6 ∷ 6 ∷ 14 ∷ 14 ∷ []) ∷ (12 ∷ 12 ∷ []) ∷ (14 ∷ 13 ∷ 14 ∷ []) ∷ []
+unfolding from below any records wrongLength outside planCauses wrongTurnaround wrongKeeping termsCauses endsCauses pairCauses cause first unless entered partialLoads flatMap
+fourteen-between = refl

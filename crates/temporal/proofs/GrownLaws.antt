@@ -13,7 +13,7 @@ use Rattle.temporal.specs.Plan.{Plan, Appearance, start}
 use Rattle.temporal.specs.Walk.{step, holds, endsIn, isAt, isWalkTo, isAppearance, isWalk}
 use Rattle.temporal.specs.Shortest.{firstNonempty, ofHops, shortest, shortestWalks, shortestWalksTo}
 use Rattle.temporal.specs.Shortest.{count, throughIn, through}
-use Rattle.temporal.specs.Load.{Ends, endsBelow, pairsBelow, partialPairs, pairs, share, partialLoad, load}
+use Rattle.temporal.specs.Load.{Ends, endsBelow, pairsBelow, partialPairs, pairs, share, partialLoad, load, pairsBy, loadBy}
 use Rattle.temporal.proofs.ListLaws.{select-append, select-none, select-select}
 use Rattle.temporal.proofs.WalkLaws.{ends-cons, ends-inv, ends-intro, ends-nil}
 
@@ -132,22 +132,6 @@ walks-grown p = fun-ext (λ s. fun-ext (λ v. fun-ext (λ u. grown-appearance p 
 pub walks-to-grown : (p : Plan) → shortestWalksTo p ≡ grownWalksTo p
 unfolding grownWalksTo
 walks-to-grown p = fun-ext (λ s. fun-ext (λ z. grown-pair p s z))
-
--- pairs and load by lists of pairs
-unfoldable pub pairsBy : Plan → (ℕ → ℕ → List (List ℕ)) → ℕ → List Ends
-pairsBy p P v =
-    select
-    (λ e. not (eqb (e .source) (e .destination)) &&
-    ltb 0 (throughIn p (e .source) (e .destination) (P (e .source) (e .destination)) v))
-    (endsBelow (p .stations) (p .stations))
-
-unfoldable pub loadBy : Plan → (ℕ → ℕ → List (List ℕ)) → ℕ → ℕ
-loadBy p P v =
-    sum
-    (map
-    (λ e. 2 ^ 32 * throughIn p (e .source) (e .destination) (P (e .source) (e .destination)) v /
-    count (P (e .source) (e .destination)))
-    (pairsBy p P v))
 
 pub pairs-by : (p : Plan) (v : ℕ) → pairs p v ≡ length (pairsBy p (grownWalksTo p) v)
 unfolding partialPairs pairsBelow through pairsBy

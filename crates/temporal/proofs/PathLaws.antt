@@ -1,5 +1,5 @@
 -- The laws of paths: what a path is, that a walk which is none can be shortened, that document 000's definition agrees,
--- and what is inside a path.
+-- and what is inside a walk.
 -- Assumes nothing.
 use Prim.Native.Nat.{ℕ, suc, _+_, _≤_, _<_}
 use mathlib.Core.Bool.{Bool, true, false, not, cond, _&&_, _||_}
@@ -247,7 +247,7 @@ path-self p s (i ∷ w) e =
     let again = member-true s (stationsOf (r .visits)) .1 (rw (← c .whole) last) in
     absurd (false≢true (rw again at (r .apart)))
 
--- what it takes that station v is inside the path w from s to z
+-- what it takes that station v is inside the walk w from s to z
 pub record InsideBy (p : Plan) (s z v : ℕ) (w : List ℕ) : Type 0 where
   pub not-source : v ≢ s
   pub not-destination : v ≢ z

@@ -83,10 +83,10 @@ any-at-most t l =
     (λ (e : any t l ≡ false). rw e (omega arith))
     (true-or-false (any t l))
 
--- ---- a path and a set
+-- ---- a walk and a set
 
 module _ (p : Plan) (s z : ℕ) where
-  -- a member inside touches the path
+  -- a member inside touches the walk
   touches-intro :
       (m : ℕ → Bool) (v : ℕ) (w : List ℕ) → v < p .stations → m v ≡ true → isInterior p s z v w ≡ true →
       touches p s z m w ≡ true
@@ -105,7 +105,7 @@ module _ (p : Plan) (s z : ℕ) where
       any-false (λ v. m v && isInterior p s z v w) (below (p .stations)) .1
       (λ v h. rw (none v (mem-below (p .stations) .0 h)))))
 
-  -- where there is no path it is 0
+  -- where there is no walk it is 0
   pub touched-empty : (m : ℕ → Bool) → shortestWalksTo p s z ≡ [] → touched p s z m ≡ 0
   unfolding touched select
   touched-empty m e = rw e
@@ -160,7 +160,7 @@ module _ (p : Plan) (s z : ℕ) where
       column l v true = sym (length-select (isInterior p s z v) l)
       column l v false = sum-zero l (λ w m. refl)
 
-  -- For a set of one station it is the station's through count, in any list of paths.
+  -- For a set of one station it is the station's through count, in any list of walks.
   pub touched-one-in : (l : List (List ℕ)) (v : ℕ) → v < p .stations → touchedIn p s z l (eqb v) ≡ throughIn p s z l v
   unfolding touches
   touched-one-in l v h = ap length (select-ext l (λ w there. same w))
@@ -178,7 +178,7 @@ module _ (p : Plan) (s z : ℕ) where
           (λ ne. rw (ne-eqb v u ne))) ∙ sym e)
           (true-or-false (isInterior p s z v w))
 
-  -- so it is for the shortest paths
+  -- so it is for the shortest walks
   pub touched-one : (v : ℕ) → v < p .stations → touched p s z (eqb v) ≡ through p s z v
   unfolding touched through
   touched-one v h = touched-one-in (shortestWalksTo p s z) v h

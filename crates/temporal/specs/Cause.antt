@@ -1,9 +1,9 @@
--- The causes of refusal, 1 to 9, in the order of document 01, and document 02's 12 and 13. (10 is about an offered list: Cursor.)
+-- The causes of refusal, 1 to 9, in the order of document 01, and document 02's 12, 14 and 13. (10 is about an offered list: Cursor.)
 -- Definitions only.
 -- Assumes nothing.
 use Prim.Native.Nat.{ℕ, zero, suc, _+_, _-_, _%_, _^_}
 use mathlib.Core.Bool.{Bool, not, cond, _&&_, _||_}
-use mathlib.Core.List.{List, [], _∷_, flatMap}
+use mathlib.Core.List.{List, [], _∷_, _++_, flatMap}
 use lib.Dec.{leb, ltb, eqb}
 use lib.ListN.{length}
 use Rattle.temporal.specs.Lists.{below, any}
@@ -69,14 +69,25 @@ planFault bs n t = first (planCauses bs n t)
 unfoldable pub wrongTurnaround : Terms → Bool
 wrongTurnaround terms = eqb (terms .turnaround) 0 || ltb 16 (terms .turnaround)
 
+-- 14: a reading is kept for fewer slots than the turnaround, or for over 255 (document 02, C-21)
+unfoldable pub wrongKeeping : Terms → Bool
+wrongKeeping terms = ltb (terms .keeping) (terms .turnaround) || ltb 255 (terms .keeping)
+
+-- 12 and 14 of a call that says the units' terms
+unfoldable pub termsCauses : Terms → List ℕ
+termsCauses terms = cause 12 (wrongTurnaround terms) ∷ cause 14 (wrongKeeping terms) ∷ []
+
 -- 13: more sources are to be worked on than there are stations (document 02, C-18)
 abbrev pub wrongSources : ℕ → ℕ → Bool
 wrongSources n k = ltb n k
 
--- 12, 6, 7, 8 of a call that names a pair; the Boolean says that something lent is too short
+-- 6, 7 and 8 of a call that names a pair; the Boolean says that something lent is too short
+unfoldable pub endsCauses : ℕ → ℕ → ℕ → Bool → List ℕ
+endsCauses n s z short = cause 6 (leb n s || leb n z) ∷ cause 7 (eqb s z) ∷ cause 8 short ∷ []
+
+-- 12, 14, 6, 7 and 8 of it
 unfoldable pub pairCauses : Terms → ℕ → ℕ → ℕ → Bool → List ℕ
-pairCauses terms n s z short =
-    cause 12 (wrongTurnaround terms) ∷ cause 6 (leb n s || leb n z) ∷ cause 7 (eqb s z) ∷ cause 8 short ∷ []
+pairCauses terms n s z short = termsCauses terms ++ endsCauses n s z short
 
 -- 6 and 8 of a call that names one station
 unfoldable pub stationCauses : ℕ → ℕ → Bool → List ℕ

@@ -26,7 +26,7 @@ pub record Question : Type 0 where
 unfoldable pub listOf : Question → List (List ℕ)
 listOf q = shortestWalksTo (planOf (q .bytes) (q .stations) (q .slots) (q .terms)) (q .source) (q .destination)
 
--- 1 to 5, 12 and 6 to 8 of a call that is lent so many entries of the way buffer and so many of the work area
+-- 1 to 5, 12, 14 and 6 to 8 of a call that is lent so many entries of the way buffer and so many of the work area
 unfoldable pub wayCauses : Question → ℕ → ℕ → List ℕ
 wayCauses q wayLength workLength =
     planCauses (q .bytes) (q .stations) (q .slots) ++
@@ -43,13 +43,13 @@ pub record WayOutcome : Type 0 where
   pub way : List ℕ
   pub work : List ℕ
 
--- an operation once 1 to 8 and 12 are excluded: the cursor stands on the way with which the buffer begins
+-- an operation once 1 to 8, 12 and 14 are excluded: the cursor stands on the way with which the buffer begins
 unfoldable pub wayWork : Operation → Question → List ℕ → List ℕ → WayOutcome
 wayWork o q way work =
     let m = move o (overflow q) (listOf q) (indexIn (listOf q) way) way in
     record { reply = m .reply; way = m .buffer; work = cleared (workSize (q .stations) (q .slots)) work }
 
--- operations 7 and 8, for every call: 1 to 8 and 12 leave the way buffer and the work area as they were
+-- operations 7 and 8, for every call: 1 to 8, 12 and 14 leave the way buffer and the work area as they were
 unfoldable pub wayAnswer : Operation → Question → List ℕ → List ℕ → WayOutcome
 wayAnswer o q way work =
     unless (first (wayCauses q (length way) (length work))) (λ k. record { reply = refused k; way = way; work = work })

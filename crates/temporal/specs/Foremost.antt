@@ -26,7 +26,7 @@ foremostPaths p s z = shortestWalks p s z (arrival p s z)
 unfoldable pub arrivesBy : ℕ → ℕ → Appearance → Bool
 arrivesBy z e x = isAt z x && leb (x .slot) e
 
--- The shortest of the walks from s that reach z by slot e. By the last slot they are the shortest paths, by the earliest in
--- which z is reached the shortest foremost paths (ForemostLaws).
+-- The shortest of the walks from s that reach z by slot e. By the last slot they are the pair's complete list, by the
+-- earliest in which z is reached the shortest foremost paths (ForemostLaws).
 unfoldable pub walksBy : Plan → ℕ → ℕ → ℕ → List (List ℕ)
 walksBy p s z e = shortest p (endsIn p (start s) (arrivesBy z e))

@@ -8,7 +8,7 @@ use lib.Dec.{ltb, eqb}
 use lib.ListN.{length}
 use Rattle.temporal.specs.Lists.{below, sum, product, select, any, firstWhere}
 use Rattle.temporal.specs.Plan.{Plan}
-use Rattle.temporal.specs.Shortest.{shortestWalksTo, count, through}
+use Rattle.temporal.specs.Shortest.{shortestWalksTo, count, throughIn, through}
 
 -- an ordered pair: a source and a destination
 pub record Ends : Type 0 where
@@ -30,8 +30,8 @@ throughOf p v e = through p (e .source) (e .destination) v
 abbrev pub isPairOf : Plan → ℕ → Ends → Bool
 isPairOf p v e = not (eqb (e .source) (e .destination)) && ltb 0 (throughOf p v e)
 
--- Document 01's pairs of a station v, the ordered pairs s ≠ z with v inside some least way: those whose source is below k
--- (document 02, C-18). Where k is the number of stations these are all of them.
+-- Document 01's pairs of a station v, the ordered pairs s ≠ z with v inside some least chain (document 02, C-21): those
+-- whose source is below k (document 02, C-18). Where k is the number of stations these are all of them.
 unfoldable pub pairsBelow : Plan → ℕ → ℕ → List Ends
 pairsBelow p k v = select (isPairOf p v) (endsBelow k (p .stations))
 
@@ -95,3 +95,21 @@ pub record Busiest (p : Plan) (v : ℕ) : Type 0 where
   pub station : v < p .stations
   pub largest : (u : ℕ) → u < p .stations → load p u ≤ load p v
   pub lowest : (u : ℕ) → u < v → load p u < load p v
+
+-- ---- the same by other lists of ways: P gives the list of a source and a destination
+
+-- The pairs and the load of a station where P takes the place of the complete lists. With the shortest walks they are those above.
+unfoldable pub pairsBy : Plan → (ℕ → ℕ → List (List ℕ)) → ℕ → List Ends
+pairsBy p P v =
+    select
+    (λ e. not (eqb (e .source) (e .destination)) &&
+    ltb 0 (throughIn p (e .source) (e .destination) (P (e .source) (e .destination)) v))
+    (endsBelow (p .stations) (p .stations))
+
+unfoldable pub loadBy : Plan → (ℕ → ℕ → List (List ℕ)) → ℕ → ℕ
+loadBy p P v =
+    sum
+    (map
+    (λ e. 2 ^ 32 * throughIn p (e .source) (e .destination) (P (e .source) (e .destination)) v /
+    count (P (e .source) (e .destination)))
+    (pairsBy p P v))

@@ -9,7 +9,7 @@ use Rattle.temporal.specs.Lists.{below}
 use Rattle.temporal.specs.Plan.{Plan, Terms}
 use Rattle.temporal.specs.Shortest.{shortestWalks, shortestWalksTo, hops, count}
 use Rattle.temporal.specs.Bytes.{planOf}
-use Rattle.temporal.specs.Cause.{cause, first, unless, outside, planCauses, wrongTurnaround, stationCauses, tooMany}
+use Rattle.temporal.specs.Cause.{cause, first, unless, outside, planCauses, termsCauses, stationCauses, tooMany}
 
 -- the answer's number (0: accepted), the values beside it, and the lent buffers at exit
 pub record Outcome (Values Buffers : Type 0) : Type 0 where
@@ -59,7 +59,7 @@ appearanceTable p s f =
 unfoldable pub stationTable : Plan → ℕ → (List (List ℕ) → ℕ) → List ℕ
 stationTable p s f = map (λ v. f (shortestWalksTo p s v)) (below (p .stations))
 
--- reach once 1 to 8 and 12 are excluded
+-- reach once 1 to 8, 12 and 14 are excluded
 unfoldable pub reached : Plan → ℕ → ReachTables → Outcome (Unit {0}) ReachTables
 reached p s old =
     cond (tooMany p s)
@@ -87,9 +87,9 @@ reached p s old =
 unfoldable pub reach : List ℕ → ℕ → ℕ → Terms → ℕ → ReachTables → Outcome (Unit {0}) ReachTables
 reach bs n t terms s old =
     entered
-    (planCauses bs n t ++ cause 12 (wrongTurnaround terms) ∷ stationCauses n s
+    (planCauses bs n t ++ (termsCauses terms ++ stationCauses n s
     (short (places n t) (old .hopsTable) || short (places n t) (old .countTable) ||
-    (short n (old .stationHops) || short n (old .stationCounts))))
+    (short n (old .stationHops) || short n (old .stationCounts)))))
     tt old (reached (planOf bs n t terms) s old)
 
 -- ---- Operation 3, row

@@ -48,7 +48,8 @@ foremostPaired p s z old =
       };
     })
 
--- Arguments, buffers and the causes 1 to 8 and 12 are those of pair.
+-- Arguments, buffers and the causes 1 to 8 and 12 are those of pair. It is asked of units that keep a reading until the plan ends, where 14
+-- never holds.
 unfoldable pub foremost : List ℕ → ℕ → ℕ → Terms → ℕ → ℕ → PairBuffers → Outcome ForemostValues PairBuffers
 foremost bs n t terms s z old =
     entered

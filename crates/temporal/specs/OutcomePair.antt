@@ -1,4 +1,5 @@
--- What operations 4 to 6 and document 02's partial loads answer, and what every lent buffer holds afterwards, for every call. Definitions only.
+-- What operations 4 to 6 and document 02's partial loads answer, and what every lent buffer holds afterwards, for every call.
+-- Definitions only.
 -- Assumes nothing.
 use Prim.Native.Nat.{ℕ}
 use mathlib.Core.Bool.{cond, _||_}
@@ -8,7 +9,7 @@ use Rattle.temporal.specs.Plan.{Plan, Terms}
 use Rattle.temporal.specs.Shortest.{shortestWalksTo, hops, count, through}
 use Rattle.temporal.specs.Load.{partialPairs, partialLoad, busiestOf}
 use Rattle.temporal.specs.Bytes.{planOf}
-use Rattle.temporal.specs.Cause.{cause, planCauses, wrongTurnaround, wrongSources, pairCauses, tooMany, tooManyBelow, tooManyAnywhere}
+use Rattle.temporal.specs.Cause.{cause, planCauses, termsCauses, wrongSources, pairCauses, tooMany, tooManyBelow, tooManyAnywhere}
 use Rattle.temporal.specs.Outcome.{Outcome, entered, over, cleared, short, workSize}
 
 -- ---- Operation 4, pair
@@ -21,7 +22,7 @@ pub record PairBuffers : Type 0 where
   pub throughTable : List ℕ
   pub work : List ℕ
 
--- pair once 1 to 8 and 12 are excluded. Where there is no walk: 65535 hops, count 0, and all through counts 0.
+-- pair once 1 to 8, 12 and 14 are excluded. Where there is no walk: 65535 hops, count 0, and all through counts 0.
 unfoldable pub paired : Plan → ℕ → ℕ → PairBuffers → Outcome PairValues PairBuffers
 paired p s z old =
     cond (tooMany p s)
@@ -55,7 +56,7 @@ pub record LoadBuffers : Type 0 where
   pub loadTable : List ℕ
   pub work : List ℕ
 
--- partial loads once 1 to 8, 12 and 13 are excluded; the sources below k are worked on
+-- partial loads once 1 to 8, 12, 14 and 13 are excluded; the sources below k are worked on
 unfoldable pub partlyLoaded : Plan → ℕ → LoadBuffers → Outcome (Unit {0}) LoadBuffers
 partlyLoaded p k old =
     cond (tooManyBelow p k)
@@ -82,8 +83,8 @@ partlyLoaded p k old =
 unfoldable pub partialLoads : List ℕ → ℕ → ℕ → Terms → ℕ → LoadBuffers → Outcome (Unit {0}) LoadBuffers
 partialLoads bs n t terms k old =
     entered
-    (planCauses bs n t ++ cause 12 (wrongTurnaround terms) ∷ cause 13 (wrongSources n k) ∷
-    cause 8 (short n (old .pairsTable) || (short n (old .loadTable) || short (workSize n t) (old .work))) ∷ [])
+    (planCauses bs n t ++ (termsCauses terms ++ cause 13 (wrongSources n k) ∷
+    cause 8 (short n (old .pairsTable) || (short n (old .loadTable) || short (workSize n t) (old .work))) ∷ []))
     tt old (partlyLoaded (planOf bs n t terms) k old)
 
 -- Operation 5, loads: the case in which every source is worked on. 13 never holds there.
@@ -92,7 +93,7 @@ loads bs n t terms old = partialLoads bs n t terms n old
 
 -- ---- Operation 6, busiest
 
--- busiest once 1 to 8 and 12 are excluded; every source is worked on
+-- busiest once 1 to 8, 12 and 14 are excluded; every source is worked on
 unfoldable pub compared : Plan → List ℕ → Outcome ℕ (List ℕ)
 compared p old =
     cond (tooManyAnywhere p)
@@ -102,5 +103,5 @@ compared p old =
 -- its value is the station, and the work area is all that is lent
 unfoldable pub busiest : List ℕ → ℕ → ℕ → Terms → List ℕ → Outcome ℕ (List ℕ)
 busiest bs n t terms old =
-    entered (planCauses bs n t ++ cause 12 (wrongTurnaround terms) ∷ cause 8 (short (workSize n t) old) ∷ []) 0 old
+    entered (planCauses bs n t ++ (termsCauses terms ++ cause 8 (short (workSize n t) old) ∷ [])) 0 old
     (compared (planOf bs n t terms) old)

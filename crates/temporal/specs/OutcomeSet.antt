@@ -21,12 +21,12 @@ isMember set v = eqb (getD set v 0) 1
 unfoldable pub wrongSet : ℕ → List ℕ → Bool
 wrongSet n set = any (λ v. ltb 1 (getD set v 0)) (below n)
 
--- 12, 6, 7, 8 and 11 of a call that names a pair and a set; 8 is for the set and for the work area
+-- 12, 14, 6, 7, 8 and 11 of a call that names a pair and a set; 8 is for the set and for the work area
 unfoldable pub setCauses : ℕ → ℕ → Terms → ℕ → ℕ → List ℕ → List ℕ → List ℕ
 setCauses n t terms s z set old =
     pairCauses terms n s z (short n set || short (workSize n t) old) ++ cause 11 (wrongSet n set) ∷ []
 
--- the operation once 1 to 8, 11 and 12 are excluded; where there is no path it is 0
+-- the operation once 1 to 8, 11, 12 and 14 are excluded; where there is no walk it is 0
 unfoldable pub setCounted : Plan → ℕ → ℕ → List ℕ → List ℕ → Outcome ℕ (List ℕ)
 setCounted p s z set old =
     cond (tooMany p s)

@@ -12,7 +12,7 @@ use Rattle.temporal.specs.Cause.{planCauses, pairCauses, tooMany}
 use Rattle.temporal.specs.Outcome.{Outcome, entered, cleared, short, workSize}
 use Rattle.temporal.specs.Verdict.{Verdict, verdictOn}
 
--- the operation once 1 to 8 and 12 are excluded
+-- the operation once 1 to 8, 12 and 14 are excluded
 unfoldable pub judged : Plan → ℕ → ℕ → List ℕ → List ℕ → Outcome (Option Verdict) (List ℕ)
 judged p s z list old =
     cond (tooMany p s)

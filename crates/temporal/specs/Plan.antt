@@ -13,8 +13,8 @@ pub record Contact : Type 0 where
   pub sender : ℕ
   pub hearer : ℕ
 
--- The units' terms: document 02's turnaround g (C-17), the number of slots from hearing a reading to sending it on; and for how many
--- slots after hearing it a unit keeps a reading, document 002's delta (section 4.3).
+-- The units' terms: document 02's turnaround g (C-17), the number of slots from hearing a reading to sending it on; and its h (C-21), for
+-- how many slots after hearing it a unit keeps a reading, document 002's delta (section 4.3).
 pub record Terms : Type 0 where
   pub turnaround : ℕ
   pub keeping : ℕ
@@ -29,6 +29,12 @@ turning g = units g 255
 -- Nothing goes stale in t slots: what is heard in one of them is kept until the last. The start is not heard.
 abbrev pub Keeps : ℕ → Terms → Type 0
 Keeps t terms = t ≤ terms .keeping + 1
+
+-- units whose terms no cause refuses: they turn round, keep a reading until then, and no longer than 255 slots; for inner contracts
+pub record Allowed (terms : Terms) : Type 0 where
+  pub turns : 0 < terms .turnaround
+  pub keeps : terms .turnaround ≤ terms .keeping
+  pub most : terms .keeping ≤ 255
 
 -- units that turn round, and in whose t slots nothing goes stale; for inner contracts
 pub record Lasting (t : ℕ) (terms : Terms) : Type 0 where
@@ -61,7 +67,7 @@ leadsTo c v = cond (eqb v (c .sender)) (some (c .hearer)) none
 
 -- Second rule: whether, in a plan, a contact in slot u may follow an appearance in slot t. Strictly later (document 000, Def. 2,
 -- strict), so nothing is sent on in the slot of hearing; and what is heard in slot t goes out in slot t + g or later (document 02,
--- C-17), and no later than it is kept (document 002, section 4.3). After the start, which is slot 0, any slot will do.
+-- C-17), and in slot t + h or earlier (C-21; document 002, section 4.3). After the start, which is slot 0, any slot will do.
 unfoldable pub mayFollow : Plan → ℕ → ℕ → Bool
 mayFollow p t u = ltb t u && (eqb t 0 || (leb (t + p .terms .turnaround) u && leb u (t + p .terms .keeping)))
 

@@ -29,7 +29,7 @@ pub data Event : Type 0 where
   called : Call → Reply → List ℕ → Event
   wrote : List ℕ → Event
 
--- how many first entries the caller leaves alone: the pair's hops, none where there is no path
+-- how many first entries the caller leaves alone: the pair's hops, none where there is no walk
 unfoldable pub keptOf : List (List ℕ) → ℕ
 keptOf [] = 0
 keptOf (w ∷ l) = hops (w ∷ l)

@@ -67,12 +67,12 @@ isWalk p s v t = endsIn p (start s) (isAppearance v t)
 unfoldable pub isPath : Plan → ℕ → ℕ → List ℕ → Bool
 isPath p s z w = holds (run p (start s) w) (λ l. isAt z (lastOr (start s) l) && distinct (s ∷ stationsOf l))
 
--- Whether station v is inside the path w from s to z: visited, and neither s nor z. Document 01's inside, document
--- 002's Int(P) (section 2). An end is never inside.
+-- Whether station v is inside the walk w from s to z: visited, once or more often, and neither s nor z. Document 01's inside,
+-- document 002's Int(P) (section 2). An end is never inside.
 unfoldable pub isInterior : Plan → ℕ → ℕ → ℕ → List ℕ → Bool
 isInterior p s z v w = not (eqb v s) && (not (eqb v z) && holds (run p (start s) w) (λ l. member v (stationsOf l)))
 
--- The path w from s to z has exactly k stations inside, all different: those of a list.
+-- The walk w from s to z has exactly k stations inside, all different: those of a list.
 pub record HasInside (p : Plan) (s z : ℕ) (w : List ℕ) (k : ℕ) : Type 0 where
   pub stations : List ℕ
   pub exactly : (v : ℕ) → isInterior p s z v w ≡ member v stations

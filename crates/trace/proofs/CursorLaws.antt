@@ -1,6 +1,6 @@
--- The cursor over any list of paths whose members have one length and rise. Three facts carry the trace theorem: the
+-- The cursor over any list of walks whose members have one length and rise. Three facts carry the trace theorem: the
 -- index at which a buffer stands is read off its first h entries, h the length of the members, so it is the same on a
--- lent beginning of at least h entries, and after a write behind them; and it is i after path i was given.
+-- lent beginning of at least h entries, and after a write behind them; and it is i after walk i was given.
 -- Assumes nothing.
 use Prim.Native.Nat.{ℕ, zero, suc, _+_, _≤_, _<_}
 use native.Mathlib.Omega.{arith}
@@ -81,7 +81,7 @@ take-behind (suc h) (x ∷ b) behind same = ap (_∷_ x) (take-behind h b behind
 
 -- ---- the index at which a buffer stands
 
--- what the trace theorem asks of a list of paths: all have h positions, and they rise, so none stands in it twice
+-- what the trace theorem asks of a list of walks: all have h positions, and they rise, so none stands in it twice
 pub record RisingPaths (h : ℕ) (l : List (List ℕ)) : Type 0 where
   pub one-length : (w : List ℕ) → List·Memᴰ w l → length w ≡ h
   pub rises : Rising l
@@ -110,7 +110,7 @@ pub index-behind : {h : ℕ} {l : List (List ℕ)} → RisingPaths h l → (b be
     → indexIn l (take h b ++ behind) ≡ indexIn l b
 index-behind {h} p b behind same = index-by-beginning p (take h b ++ behind) b (take-behind h b behind same)
 
--- the index is i where the buffer begins with path i
+-- the index is i where the buffer begins with walk i
 pub index-at : {h : ℕ} {l : List (List ℕ)} → RisingPaths h l → (i : ℕ) (b : List ℕ) → i < length l
     → take h b ≡ getD l i []
     → indexIn l b ≡ some i
@@ -124,7 +124,7 @@ index-at {l = w ∷ l} p (suc i) b inside e =
     not-true-false (sameNumbers w u) (λ same. before-irrefl u (rw (same-equal w u same) at before)) in
     rw (p .one-length w (List·Memᴰ·head refl), e, other, index-at (rising-paths-rest p) i b (omega arith) e)
 
--- the index is i after path i was given
+-- the index is i after walk i was given
 pub index-given : {h : ℕ} {l : List (List ℕ)} → RisingPaths h l → (i : ℕ) (b : List ℕ) → i < length l
     → indexIn l (over (getD l i []) b) ≡ some i
 index-given {h} {l} p i b inside =
@@ -148,7 +148,7 @@ stay-agrees l b k r part whole e = record { reply = refl; buffer = take-append-d
 
 module _ {h : ℕ} {l : List (List ℕ)} (p : RisingPaths h l)
     (b : List ℕ) (k : ℕ) (inside : k ≤ length b) (fits : h ≤ k) where
-  -- where path i is given
+  -- where walk i is given
   give-agrees : (i : ℕ) → i < length l → Agrees l b k (give l i (take k b)) (give l i b)
   unfolding give
   give-agrees i below =

@@ -1,4 +1,4 @@
--- A move of the cursor keeps the buffer's length, where the paths of the list fit the buffer. Assumes nothing.
+-- A move of the cursor keeps the buffer's length, where the walks of the list fit the buffer. Assumes nothing.
 use Prim.Native.Nat.{ℕ, zero, suc, _+_, _≤_, _<_}
 use native.Mathlib.Omega.{arith}
 use mathlib.Core.Path.{_≡_, refl}
@@ -42,7 +42,7 @@ unfolding go
 go-length p b fits first-way at = first-length p b fits at
 go-length p b fits next-way at = next-length p b fits at
 
--- a move at cause n; where n is 0 it is on such a list, and its paths fit the buffer
+-- a move at cause n; where n is 0 it is on such a list, and its walks fit the buffer
 pub move-length : {h : ℕ} {l : List (List ℕ)} → RisingPaths h l
     → (o : Operation) (n : ℕ) (other : List (List ℕ)) (at : Option ℕ) (b : List ℕ)
     → (n ≡ 0 → (other ≡ l) × (h ≤ length b))

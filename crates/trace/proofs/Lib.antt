@@ -2,7 +2,7 @@
 -- on are the first ones of that list.
 pub mod TraceFollows
 pub mod TraceGives
--- the cursor over any list of paths, the lengths of buffers, and parts of traces
+-- the cursor over any list of walks, the lengths of buffers, and parts of traces
 pub mod CursorLaws
 pub mod LengthLaws
 pub mod TraceParts

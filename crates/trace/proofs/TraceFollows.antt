@@ -1,8 +1,8 @@
 -- The answers and the buffers of every trace are those of the cursor, from any first buffer. An operation
 -- puts its cursor where the lent part of the buffer shows it, so the theorem says that to read the buffer anew at each
--- call is to remember the cursor. It holds since the index of the path with which the buffer begins is always the
+-- call is to remember the cursor. It holds since the index of the walk with which the buffer begins is always the
 -- cursor: a refusal, "none" and "last" leave the buffer; a call without cause 8 is lent at least the plan's slots,
--- which are at least the hops, and what it gives is the path that the cursor is on; the caller writes behind the hops.
+-- which are at least the hops, and what it gives is the walk that the cursor is on; the caller writes behind the hops.
 -- Assumes nothing.
 use Prim.Native.Nat.{ℕ, zero, suc, _≤_}
 use native.Mathlib.Omega.{arith}
@@ -16,7 +16,7 @@ use lib.Seq.{length-take-le}
 use Rattle.temporal.specs.Walk.{isAt}
 use Rattle.temporal.specs.Shortest.{shortestWalksTo, hops}
 use Rattle.temporal.specs.Bytes.{planOf}
-use Rattle.temporal.specs.Cause.{first, unless, planCauses, pairCauses}
+use Rattle.temporal.specs.Cause.{first, unless, planCauses, termsCauses, endsCauses, pairCauses}
 use Rattle.temporal.specs.Cursor.{Reply, refused, Moved, stay, Operation, indexIn, move}
 use Rattle.temporal.specs.FirstNext.{Question, listOf, wayCauses, overflow, WayOutcome, wayWork, wayAnswer}
 use Rattle.temporal.specs.Trace.{
@@ -60,7 +60,7 @@ kept-within [] t (inr h) = omega arith
 kept-within (w ∷ l) t (inr h) = h
 
 module _ (q : Question) (asked : Asked q) where
-  -- the paths of a complete list have the kept number of positions each, and they rise
+  -- the walks of a complete list have the kept number of positions each, and they rise
   pub listOf-paths : RisingPaths (keptOf (listOf q)) (listOf q)
   unfolding listOf
   listOf-paths =
@@ -84,12 +84,13 @@ module _ (q : Question) (asked : Asked q) where
 
 -- a call without a cause is lent at least the plan's slots
 pub slots-lent : (c : Call) → causeOf c ≡ 0 → c .question .slots ≤ c .lent
-unfolding causeOf wayCauses pairCauses
+unfolding causeOf wayCauses pairCauses endsCauses
 slots-lent c e =
     let q = c .question in
     let call = first-append-left (wayCauses q (c .lent) (c .work)) (overflow q ∷ []) e in
     let pair = first-append-right (planCauses (q .bytes) (q .stations) (q .slots)) _ call in
-    let short = first-head 7 _ [] (first-tail 6 _ _ (first-tail 5 _ _ (first-tail 11 _ _ pair))) in
+    let ends = first-append-right (termsCauses (q .terms)) _ pair in
+    let short = first-head 7 _ [] (first-tail 6 _ _ (first-tail 5 _ _ ends)) in
     ltb-false (c .lent) (q .slots) (or-false-left (ltb (c .lent) (q .slots)) _ short)
 
 -- the first cause of a list with one more behind it
@@ -156,7 +157,7 @@ call-follows q asked c b r after met names =
 
 -- ---- a trace
 
--- Every trace, from any buffer, follows the cursor that starts on the path with which the buffer begins.
+-- Every trace, from any buffer, follows the cursor that starts on the walk with which the buffer begins.
 pub every-trace-follows : EveryTraceFollows
 unfolding Trace FollowsCursor overwritten
 every-trace-follows q asked b [] t = tt

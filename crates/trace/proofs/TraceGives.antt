@@ -1,6 +1,6 @@
--- From an accepted first way on, with no other after it, a trace gives the first paths of the complete list, none twice, and
--- says "none" or "last" exactly where all are out. It follows from every-trace-follows: with k paths out the cursor is on path
--- k - 1, so a next way gives path k while there is one, and then says "last"; where the list is empty the cursor is on none,
+-- From an accepted first way on, with no other after it, a trace gives the first walks of the complete list, none twice, and
+-- says "none" or "last" exactly where all are out. It follows from every-trace-follows: with k walks out the cursor is on walk
+-- k - 1, so a next way gives walk k while there is one, and then says "last"; where the list is empty the cursor is on none,
 -- and every next way is refused. A refusal and a write leave the cursor.
 -- Assumes nothing.
 use Prim.Native.Nat.{ℕ, zero, suc, _+_, _<_}
@@ -49,19 +49,19 @@ unfolding Rising
 rising-beginning [] b r = tt
 rising-beginning (w ∷ a) b r = (λ u m. r .0 u (Memᴰ·append-left b m), rising-beginning a b (r .1))
 
--- ---- what is given with k paths out
+-- ---- what is given with k walks out
 
--- k paths of l being out, events give the paths from k on, and "none" or "last" comes exactly where all are out
+-- k walks of l being out, events give the walks from k on, and "none" or "last" comes exactly where all are out
 record Gives (l : List (List ℕ)) (k : ℕ) (es : List Event) : Type 0 where
   ways : given es ≡ take (length (given es)) (drop k l)
   ends : EndsWhenAllOut l k es
 
--- with k paths out the cursor is on path k - 1, or on none
+-- with k walks out the cursor is on walk k - 1, or on none
 unfoldable Stands : List (List ℕ) → ℕ → Option ℕ → Type 0
 Stands l k none = Unit {0}
 Stands l k (some i) = (k ≡ i + 1) × (i < length l)
 
--- a move with k paths out: a refusal, "last" or "none" where all are out, or path k is given
+-- a move with k walks out: a refusal, "last" or "none" where all are out, or walk k is given
 data Goes (l : List (List ℕ)) (k : ℕ) (b : List ℕ) : Moved → Type 0 where
   refuses : (n : ℕ) (at : Option ℕ) → Stands l k at → Goes l k b (stay (refused n) at b)
   says-last : (at : Option ℕ) → Stands l k at → k ≡ length l → Goes l k b (stay last-path at b)
@@ -82,7 +82,7 @@ move-goes l k (some i) b s next-way zero e = rw (← s .0) (pick (ltb k (length 
     pick true t = gives (ltb-true k (length l) t)
     pick false t = says-last (some i) s (omega (arith, ltb-false k (length l) t))
 
--- an accepted first way makes such a move with no path out
+-- an accepted first way makes such a move with no walk out
 first-goes : (l : List (List ℕ)) (b : List ℕ) (o : Operation) (n : ℕ) → (isFirstWay o && eqb n 0) ≡ true
     → Goes l 0 b (move o n l (indexIn l b) b)
 unfolding move unless go goFirst Stands isFirstWay indexIn
@@ -158,7 +158,7 @@ gives-first q asked b (called c r after) es starts once t =
     }
 gives-first q asked b (wrote behind) es starts once t = absurd (not-both starts refl)
 
--- From an accepted first way on, with no other after it, the paths given are the first ones of the complete list, none twice,
+-- From an accepted first way on, with no other after it, the walks given are the first ones of the complete list, none twice,
 -- and "none" or "last" comes exactly where all are out.
 pub every-trace-gives : EveryTraceGives
 every-trace-gives q asked e es s =

@@ -1,4 +1,4 @@
--- How the operation begins: the plan's causes, then 12, 6, 7 and 8 of the call, then the work. Assumes nothing.
+-- How the operation begins: the plan's causes, then 12, 14, 6, 7 and 8 of the call, then the work. Assumes nothing.
 use Prim.Native.Nat.{ℕ}
 use native.Mathlib.Omega.{arith}
 use mathlib.Core.Path.{_≡_, sym, ap, _∙_}
@@ -6,7 +6,6 @@ use mathlib.Core.List.{List}
 use mathlib.Core.Option.{Option, none}
 use lib.ListN.{length}
 use Rattle.temporal.specs.Plan.{Terms}
-use Rattle.temporal.proofs.PlanLaws.{kept-always}
 use Rattle.temporal.specs.Bytes.{planOf}
 use Rattle.temporal.specs.Cause.{planFault}
 use Rattle.temporal.specs.Outcome.{Outcome, entered}
@@ -43,7 +42,7 @@ module _ (bs : List ℕ) (n t s z : ℕ) (terms : Terms) (list area : List ℕ) 
 
   module _ (ok : planFault bs n t ≡ 0) (r : CallCheck)
       (answer : callCheckNumber r ≡ pairCallFault n t terms s z 0 0 (length area)) where
-    -- 12, 6, 7 or 8
+    -- 12, 14, 6, 7 or 8
     pub verdict-call :
         (f : CallFault) → r ≡ call-check.Refused f →
         _≡_ {A = Outcome (Option Verdict) (List ℕ)} (record { number = callNumber f; values = none; buffers = area })
@@ -61,11 +60,11 @@ module _ (bs : List ℕ) (n t s z : ℕ) (terms : Terms) (list area : List ℕ) 
 
 -- an accepted plan and a free call are what the work asks
 pub verdict-ready :
-    (bs : List ℕ) (n t g s z : ℕ) (area : List ℕ) → planFault bs n t ≡ 0 → (r : CallCheck) →
-    callCheckNumber r ≡ pairCallFault n t (question bs n t g s z .terms) s z 0 0 (length area) → r ≡ call-check.Free →
-    VerdictReady (question bs n t g s z) area
-verdict-ready bs n t g s z area ok r answer e =
-    let f = free-call n t (question bs n t g s z .terms) s z 0 0 (length area) (sym answer ∙ ap callCheckNumber e) (kept-always bs n t ok) in
+    (bs : List ℕ) (n t g h s z : ℕ) (area : List ℕ) → planFault bs n t ≡ 0 → (r : CallCheck) →
+    callCheckNumber r ≡ pairCallFault n t (question bs n t g h s z .terms) s z 0 0 (length area) → r ≡ call-check.Free →
+    VerdictReady (question bs n t g h s z) area
+verdict-ready bs n t g h s z area ok r answer e =
+    let f = free-call n t (question bs n t g h s z .terms) s z 0 0 (length area) (sym answer ∙ ap callCheckNumber e) in
     record {
       asked = record { accepted = ok; source = f .source; destination = f .destination; different = f .different };
       units = f .units;

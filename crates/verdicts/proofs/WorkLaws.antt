@@ -1,4 +1,4 @@
--- What the work of the operation does: 9, no path, and the list judged by the completion table. Assumes nothing.
+-- What the work of the operation does: 9, no walk, and the list judged by the completion table. Assumes nothing.
 use Prim.Native.Nat.{ℕ, _+_, _<_, _≤_}
 use native.Mathlib.Omega.{arith}
 use mathlib.Core.Path.{_≡_, refl, sym, ap, _∙_, subst}
@@ -22,7 +22,7 @@ use Rattle.temporal.proofs.Adequacy.{in-complete-list}
 use Rattle.temporal.proofs.BufferLaws.{fill-beyond}
 use Rattle.plan.specs.declared.CallFault.the-variants as call-fault
 use Rattle.plan.specs.declared.Fault.the-variants as fault
-use Rattle.pass.specs.Passed.{PassReady, Passed}
+use Rattle.forward.specs.Passed.{PassReady, Passed}
 use Rattle.ways.specs.Home.{Completed}
 use Rattle.ways.specs.Found.{listIn}
 use Rattle.listing.specs.Work.{WayReady}
@@ -65,10 +65,11 @@ module _ (q : Question) (list work : List ℕ) (ready : VerdictReady q work) whe
         area = ready .area;
       }
 
-  pub pass-asks : PassReady (q .bytes) (q .stations) (q .slots) (q .terms) (q .source) 0 0 work
+  pub pass-asks : PassReady (q .bytes) (q .stations) (q .slots) (q .terms) (q .terms .keeping) (q .source) 0 0 work
   pass-asks = pass-ready q some-way work way-ready
 
-  module _ (mid : List ℕ) (r : Bool) (passed : Passed (q .bytes) (q .stations) (q .slots) (q .terms) (q .source) 0 0 work mid r) where
+  module _ (mid : List ℕ) (r : Bool)
+      (passed : Passed (q .bytes) (q .stations) (q .slots) (q .terms) (q .terms .keeping) (q .source) 0 0 work mid r) where
     -- a count over 2^64 - 1
     pub judged-too-many : r ≡ true → VerdictWorked q list work (Refused (fault.Call call-fault.TooMany)) mid
     unfolding judged
@@ -81,7 +82,7 @@ module _ (q : Question) (list work : List ℕ) (ready : VerdictReady q work) whe
         }
 
     module _ (fits : r ≡ false) (h : ℕ) (read : h ≡ getD mid (q .destination) 0) where
-      -- no path
+      -- no walk
       pub judged-none : h ≡ 65535 → (j : Judgement) → verdictOf j ≡ verdictOn [] list → VerdictWorked q list work (Judged j) mid
       unfolding judged listOf
       judged-none e j is =

@@ -1,7 +1,7 @@
 // The operation that judges a list of positions which somebody else wrote (document 02, C-19): whether it is the complete list of a
 // pair, a proper beginning of it, or wrong. One pass, one completion table, then the list is gone through once.
 ghost use mathlib.Core.Path.{_≡_};
-ghost use Rattle.temporal.specs.Plan.{turning};
+ghost use Rattle.temporal.specs.Plan.{units};
 ghost use Rattle.temporal.specs.Bytes.{planOf};
 ghost use Rattle.temporal.specs.Cause.{planFault};
 ghost use Rattle.temporal.specs.OutcomeVerdict.{judged, verdict};
@@ -21,36 +21,38 @@ pub enum VerdictAnswer {
     Refused(Fault),
 }
 
-// The operation once 1 to 5, 12 and 6 to 8 are excluded.
+// The operation once 1 to 5, 12, 14 and 6 to 8 are excluded.
 fn verdict_work(
     plan: &[u8],
     n: usize,
     t: usize,
     g: usize,
+    h: usize,
     source: usize,
     destination: usize,
     list: &[u16],
     work: &mut [u64],
 ) -> VerdictAnswer
-    requires { ⌜ VerdictReady (question (now plan) n t g source destination) (now work) ⌝ }
-    ensures { λ r. ⌜ VerdictWorked (question (now (plan .entry)) n t g source destination) (now (list .entry)) (now (work .entry)) r (now (work .exit)) ⌝ }
+    requires { ⌜ VerdictReady (question (now plan) n t g h source destination) (now work) ⌝ }
+    ensures { λ r. ⌜ VerdictWorked (question (now (plan .entry)) n t g h source destination) (now (list .entry)) (now (work .entry)) r
+        (now (work .exit)) ⌝ }
 {
-    if pass::pass(work, plan, n, t, g, source, 0, 0) {
+    if forward::pass(work, plan, n, t, g, h, h, source, 0, 0) {
         return VerdictAnswer::Refused(Fault::Call(CallFault::TooMany));
     }
-    let h = work[destination] as usize;
-    if h == 65535 {
+    let hops = work[destination] as usize;
+    if hops == 65535 {
         return VerdictAnswer::Judged(judging::judge_none(list));
     }
-    ways::complete(work, plan, n, t, g, destination);
+    ways::complete(work, plan, n, t, g, h, destination);
     let pair = Pair {
         stations: n,
         slots: t,
         turnaround: g,
-        keeping: 255,
+        keeping: h,
         source,
         destination,
-        hops: h,
+        hops,
     };
     VerdictAnswer::Judged(judging::judge(list, work, plan, pair))
 }
@@ -61,36 +63,49 @@ fn verdict_cleared(
     n: usize,
     t: usize,
     g: usize,
+    h: usize,
     source: usize,
     destination: usize,
     list: &[u16],
     work: &mut [u64],
 ) -> VerdictAnswer
-    requires { ⌜ VerdictReady (question (now plan) n t g source destination) (now work) ⌝ }
-    ensures { λ r. ⌜ verdictOutcome r (now (work .exit)) ≡ judged (planOf (now (plan .entry)) n t (turning g)) source destination (now (list .entry)) (now (work .entry)) ⌝ }
+    requires { ⌜ VerdictReady (question (now plan) n t g h source destination) (now work) ⌝ }
+    ensures { λ r. ⌜ verdictOutcome r (now (work .exit)) ≡
+        judged (planOf (now (plan .entry)) n t (units g h)) source destination (now (list .entry)) (now (work .entry)) ⌝ }
 {
-    let answer = verdict_work(plan, n, t, g, source, destination, list, work);
+    let answer = verdict_work(plan, n, t, g, h, source, destination, list, work);
     memory::clear(work, 4 * (n * (t + 1)));
     answer
 }
 
-// The operation on an accepted plan: 12, 6, 7 and 8, then the work.
+// The operation on an accepted plan: 12, 14, 6, 7 and 8, then the work.
 fn verdict_accepted(
     plan: &[u8],
     n: usize,
     t: usize,
     g: usize,
+    h: usize,
     source: usize,
     destination: usize,
     list: &[u16],
     work: &mut [u64],
 ) -> VerdictAnswer
     requires { ⌜ planFault (now plan) n t ≡ 0 ⌝ }
-    ensures { λ r. ⌜ verdictOutcome r (now (work .exit)) ≡ verdict (now (plan .entry)) n t (turning g) source destination (now (list .entry)) (now (work .entry)) ⌝ }
+    ensures { λ r. ⌜ verdictOutcome r (now (work .exit)) ≡
+        verdict (now (plan .entry)) n t (units g h) source destination (now (list .entry)) (now (work .entry)) ⌝ }
 {
-    let CallCheck::Refused(fault) = calls::pair_call(n, t, g, source, destination, 0, 0, work.len())
-    else {
-        return verdict_cleared(plan, n, t, g, source, destination, list, work);
+    let CallCheck::Refused(fault) = calls::pair_call(
+        n,
+        t,
+        g,
+        h,
+        source,
+        destination,
+        0,
+        0,
+        work.len(),
+    ) else {
+        return verdict_cleared(plan, n, t, g, h, source, destination, list, work);
     };
     VerdictAnswer::Refused(Fault::Call(fault))
 }
@@ -101,15 +116,17 @@ pub fn verdict(
     n: usize,
     t: usize,
     g: usize,
+    h: usize,
     source: usize,
     destination: usize,
     list: &[u16],
     work: &mut [u64],
 ) -> VerdictAnswer
-    ensures { λ r. ⌜ verdictOutcome r (now (work .exit)) ≡ verdict (now (plan .entry)) n t (turning g) source destination (now (list .entry)) (now (work .entry)) ⌝ }
+    ensures { λ r. ⌜ verdictOutcome r (now (work .exit)) ≡
+        verdict (now (plan .entry)) n t (units g h) source destination (now (list .entry)) (now (work .entry)) ⌝ }
 {
     let CheckAnswer::Refused(fault) = plan::check(plan, n, t) else {
-        return verdict_accepted(plan, n, t, g, source, destination, list, work);
+        return verdict_accepted(plan, n, t, g, h, source, destination, list, work);
     };
     VerdictAnswer::Refused(Fault::Plan(fault))
 }

@@ -1,5 +1,4 @@
--- Placing a position and advancing a leg, from what the functions that they call leave. The laws of a pair with a path
--- are (kept). Assumes nothing.
+-- Placing a position and advancing a leg, from what the functions that they call leave. Assumes nothing.
 use Prim.Native.Nat.{ℕ, suc, _+_, _-_, _≤_, _<_}
 use mathlib.Core.Path.{_≡_, sym, ap, _∙_, subst}
 use mathlib.Core.Bool.{Bool, true, false}
@@ -90,9 +89,9 @@ module _ (bs : List ℕ) (q : Pair) (b : List ℕ) (g : Listable bs q b) where
     offered-there x e =
         ap (λ o. holds o (isAt (q .destination))) (sym (ap endOf e) ∙ ends) ∙ offered-walk bs q b g b hops-room
 
--- ---- the first path
+-- ---- the first walk
 
--- a leg of a pair with a path can be placed
+-- a leg of a pair with a walk can be placed
 pub leg-ready : (bs : List ℕ) (q : Pair) (l b : List ℕ) (g : Startable bs q l b) (k : ℕ) (now : List ℕ) → k < q .hops
     → length now ≡ length b
     → Placeable bs q l k now

@@ -1,4 +1,4 @@
--- What follows of the beginnings of shortest paths.
+-- What follows of the beginnings of shortest walks.
 pub mod PrefixLaws
 -- the completion table: fewest hops, walks from a position on, the table's columns, the pass, the pass by windows
 mod FewestLaws

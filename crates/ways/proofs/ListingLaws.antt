@@ -1,4 +1,4 @@
--- A buffer of positions: what finding a position behind its first entries leaves, the first path, the next prefix, and
+-- A buffer of positions: what finding a position behind its first entries leaves, the first walk, the next prefix, and
 -- the member of the complete list with which it begins.
 -- Assumes nothing.
 use Prim.Native.Nat.{ℕ, suc, _+_, _-_, _*_, _≤_, _<_}
@@ -90,7 +90,7 @@ unfolding Before
 advanced-zero t leg b e =
     rw e (record { moved = λ h. absurd (not-both h refl); stayed = λ h. (λ u size c before. before, refl) })
 
--- ---- the first path
+-- ---- the first walk
 
 -- the first k entries are the least that complete; the others are as they were
 pub record Beginning (bs : List ℕ) (q : Pair) (old : List ℕ) (k : ℕ) (now : List ℕ) : Type 0 where
@@ -99,7 +99,7 @@ pub record Beginning (bs : List ℕ) (q : Pair) (old : List ℕ) (k : ℕ) (now 
   pub rest : drop k now ≡ drop k old
   pub least : LeastOf (begins bs q) k (take k now)
 
--- ---- a pair with a path: these laws are all (kept)
+-- ---- a pair with a walk
 
 module _ (bs : List ℕ) (q : Pair) (b₀ : List ℕ) (g : Listable bs q b₀) where
   abbrev p : Plan
@@ -165,7 +165,7 @@ module _ (bs : List ℕ) (q : Pair) (b₀ : List ℕ) (g : Listable bs q b₀) w
       mem-complete bs (q .stations) (q .slots) (termsIn q) (g .accepted) (q .source) (q .destination)
       (q .hops) (g .source) (g .fewest) (g .path)
 
-  -- with all hops the buffer begins with the first path
+  -- with all hops the buffer begins with the first walk
   pub beginning-all : (old : List ℕ) (k : ℕ) (now : List ℕ) → q .hops ≤ k → Beginning bs q old k now
       → now ≡ over (getD (listIn bs q) 0 []) old
   unfolding over
@@ -189,7 +189,7 @@ module _ (bs : List ℕ) (q : Pair) (b₀ : List ℕ) (g : Listable bs q b₀) w
       let long = mem-list .0 (mem-getD (listIn bs q) i [] inside) .0 in
       (inside, at ∙ ap (λ k. take k b) long)
 
-  -- what is offered begins a path, as long as the pair's
+  -- what is offered begins a walk, as long as the pair's
   pub offered-standing : (b : List ℕ) → isOffered bs q b ≡ true → begins bs q (take (q .hops) b) ≡ true
   offered-standing b e =
       let (i, there, top) = holds-inv (indexIn (listIn bs q) b) _ e in
@@ -321,7 +321,7 @@ module _ (bs : List ℕ) (q : Pair) (b₀ : List ℕ) (g : Listable bs q b₀) w
 
     -- ---- the next prefix
 
-    -- leg k + 1 of a buffer whose first k + 1 entries begin a path
+    -- leg k + 1 of a buffer whose first k + 1 entries begin a walk
     module _ (b : List ℕ) (k : ℕ) (fewer : k < q .hops) (inside : k < length b)
         (standing : begins bs q (take (suc k) b) ≡ true) where
       -- so do the first k

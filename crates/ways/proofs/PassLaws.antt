@@ -14,7 +14,7 @@ use lib.Dec.{ltb, leb, eqb}
 use lib.ListN.{length, getD, set, drop, replicate, getElem?, length-set, length-append, length-drop, length-replicate}
 use lib.ListN.{getD-replicate, List·getD-append}
 use lib.Seq.{getD-set-same, getD-set-other, drop-set-lt, drop-at}
-use Rattle.temporal.specs.Plan.{Contact, Plan, Terms, mayFollow}
+use Rattle.temporal.specs.Plan.{Contact, Plan, Terms, Keeps, mayFollow}
 use Rattle.temporal.specs.Walk.{endsIn, isAt}
 use Rattle.temporal.specs.Bytes.{contactAt, records, planOf}
 use Rattle.temporal.specs.Outcome.{over}
@@ -81,6 +81,7 @@ pub record Passing (bs : List ℕ) (n t : ℕ) (terms : Terms) (z : ℕ) (old : 
 -- Before the turn of slot k: no record that is left lies in a later slot, and the column is the last that slot k may follow.
 pub record Running (bs : List ℕ) (n t : ℕ) (terms : Terms) (z : ℕ) (old : List ℕ) (k j : ℕ) (l : List ℕ) : Type 0 where
   pub ready : Completable bs n t terms z old
+  pub keeps : Keeps t terms
   pub most : k ≤ t + waiting t terms
   pub left : (i : ℕ) → i < j → contactAt bs i .slot ≤ k
   pub passing : Passing bs n t terms z old (k - waiting t terms) j l
@@ -144,12 +145,12 @@ module _ (bs : List ℕ) (n t : ℕ) (terms : Terms) (z : ℕ) (old : List ℕ) 
         same = refl;
       }
 
-  -- the loop begins
-  pub running-begun : (l : List ℕ) (q k j : ℕ) → l ≡ begunBack n (t + 1) t z old → q ≡ waiting t terms → k ≡ t + q
+  -- (kept) the loop begins
+  pub running-begun : Keeps t terms → (l : List ℕ) (q k j : ℕ) → l ≡ begunBack n (t + 1) t z old → q ≡ waiting t terms → k ≡ t + q
       → j ≡ length bs / 6
       → Running bs n t terms z l k j l
   unfolding records
-  running-begun l q k j e wait last count =
+  running-begun keeps l q k j e wait last count =
       let column : t ≡ k - waiting t terms = omega arith in
       record {
         ready = record {
@@ -158,6 +159,7 @@ module _ (bs : List ℕ) (n t : ℕ) (terms : Terms) (z : ℕ) (old : List ℕ) 
           destination = g .destination;
           fits = let same = ap length e ∙ begun-length in let room = g .fits in omega arith;
         };
+        keeps = keeps;
         most = omega arith;
         left = λ i h. let end = accepted bs n t (g .accepted) .contact i (omega arith) .to-last in omega arith;
         passing = subst (λ x. Passing bs n t terms z l x j l) column (rw (e, count) begun-state);
@@ -249,9 +251,9 @@ module _ (bs : List ℕ) (n t : ℕ) (terms : Terms) (z : ℕ) (old : List ℕ) 
                 (before (c i .sender) sender) ahead)
 
     -- (kept) column u is finished, and the one before it begins as its copy
-    passing-copy : (x : ℕ) → u ≡ suc x → ((i : ℕ) → i < j → mayFollow p u (c i .slot) ≡ false)
+    passing-copy : Keeps t terms → (x : ℕ) → u ≡ suc x → ((i : ℕ) → i < j → mayFollow p u (c i .slot) ≡ false)
         → Passing bs n t terms z old x j (copiedFrom (t + 1) x l 0 n)
-    passing-copy x e none =
+    passing-copy keeps x e none =
         record {
           slot = let h = s .slot in omega arith;
           position = s .position;
@@ -270,7 +272,7 @@ module _ (bs : List ℕ) (n t : ℕ) (terms : Terms) (z : ℕ) (old : List ℕ) 
         }
       where
         kept : Kept p
-        kept = kept-plan bs n t terms (g .units .keeps)
+        kept = kept-plan bs n t terms keeps
 
         fits : SlotsWithin p
         fits = slots-within bs n t terms (g .accepted)
@@ -290,22 +292,22 @@ module _ (bs : List ℕ) (n t : ℕ) (terms : Terms) (z : ℕ) (old : List ℕ) 
             (subst (λ k. Fewest (Ahead p z j (appearance v k)) (getD l (v * (t + 1) + u) 0)) e (s .column v h))
 
   -- (kept) a record may follow the start, and the slots that lie at least as many before its own as what is heard waits
-  waits : (x i : ℕ) → i < records bs → mayFollow p x (c i .slot) ≡ leb x (c i .slot - waiting t terms)
+  waits : Keeps t terms → (x i : ℕ) → i < records bs → mayFollow p x (c i .slot) ≡ leb x (c i .slot - waiting t terms)
   unfolding planOf
-  waits x i inside =
+  waits keeps x i inside =
       let a = accepted bs n t (g .accepted) in
       let k = a .contact i inside in
-      waits-turnaround p (kept-plan bs n t terms (g .units .keeps)) (a .some-slot) (g .units .turns) .follows x (c i .slot) (k .from-one) (k .to-last)
+      waits-turnaround p (kept-plan bs n t terms keeps) (a .some-slot) (g .units .turns) .follows x (c i .slot) (k .from-one) (k .to-last)
 
   -- (kept) the records of slot k are folded in
-  passing-column : (u k : ℕ) → u ≤ k - waiting t terms → (j : ℕ) (l : List ℕ) → Passing bs n t terms z old u j l
+  passing-column : Keeps t terms → (u k : ℕ) → u ≤ k - waiting t terms → (j : ℕ) (l : List ℕ) → Passing bs n t terms z old u j l
       → Passing bs n t terms z old u (leftBefore bs k j) (foldedColumn bs (t + 1) u k j l)
   unfolding leftBefore foldedColumn
-  passing-column u k near zero l s = s
-  passing-column u k near (suc i) l s =
+  passing-column keeps u k near zero l s = s
+  passing-column keeps u k near (suc i) l s =
       go (eqb (c i .slot) k) refl (λ there.
-      passing-column u k near i (foldedBack (t + 1) u (c i) l) (passing-fold u (suc i) l s i refl
-      (waits u i (let h = s .position in omega arith) ∙ le-leb u (c i .slot - waiting t terms) (omega arith))))
+      passing-column keeps u k near i (foldedBack (t + 1) u (c i) l) (passing-fold u (suc i) l s i refl
+      (waits keeps u i (let h = s .position in omega arith) ∙ le-leb u (c i .slot - waiting t terms) (omega arith))))
     where
       go : (b : Bool) → eqb (c i .slot) k ≡ b
           → (c i .slot ≡ k
@@ -382,6 +384,7 @@ module _ (bs : List ℕ) (n t : ℕ) (terms : Terms) (z : ℕ) (old : List ℕ) 
   running-turned q r l′ wait more (left, turned) =
       rw left (record {
         ready = s .ready;
+        keeps = s .keeps;
         most = let h = s .most in omega arith;
         left = λ i h. let less = earlier i h in omega arith;
         passing = go (ltb 0 (k - waiting t terms)) refl (turned ∙ ap (λ x. turnedBack bs n t x k j l) wait);
@@ -394,13 +397,13 @@ module _ (bs : List ℕ) (n t : ℕ) (terms : Terms) (z : ℕ) (old : List ℕ) 
       earlier = left-earlier bs n t terms z old (s .ready) k j (s .passing .position) (s .left)
 
       column : Passing bs n t terms z old u (leftBefore bs k j) (foldedColumn bs (t + 1) u k j l)
-      column = passing-column bs n t terms z old (s .ready) u k (omega arith) j l (s .passing)
+      column = passing-column bs n t terms z old (s .ready) (s .keeps) u k (omega arith) j l (s .passing)
 
       none : 0 < u → (i : ℕ) → i < leftBefore bs k j → mayFollow (planOf bs n t terms) u (contactAt bs i .slot) ≡ false
       none after i h =
           let less = earlier i h in
           let inside = column .position in
-          waits bs n t terms z old (s .ready) u i (omega arith)
+          waits bs n t terms z old (s .ready) (s .keeps) u i (omega arith)
           ∙ lt-leb u (contactAt bs i .slot - waiting t terms) (omega arith)
 
       go : (b : Bool) → ltb 0 u ≡ b → l′ ≡ turnedBack bs n t (waiting t terms) k j l
@@ -411,7 +414,7 @@ module _ (bs : List ℕ) (n t : ℕ) (terms : Terms) (z : ℕ) (old : List ℕ) 
           let new = rw test at e in
           subst (λ x. Passing bs n t terms z old x (leftBefore bs k j) l′) before
           (rw new
-          (passing-copy bs n t terms z old (s .ready) u (leftBefore bs k j) (foldedColumn bs (t + 1) u k j l) column (u - 1)
+          (passing-copy bs n t terms z old (s .ready) u (leftBefore bs k j) (foldedColumn bs (t + 1) u k j l) column (s .keeps) (u - 1)
           (omega arith) (none after)))
       go false test e =
           let start = ltb-false 0 u test in

@@ -1,4 +1,4 @@
--- Positions that begin a shortest path: they complete, so does each beginning of them, each can be gone on with, and of
+-- Positions that begin a shortest walk: they complete, so does each beginning of them, each can be gone on with, and of
 -- the pair's hops they are the complete list.
 -- Assumes nothing.
 use Prim.Native.Nat.{ℕ, zero, suc, _+_, _-_, _≤_, _<_}
@@ -163,7 +163,7 @@ module _ (bs : List ℕ) (n t : ℕ) (terms : Terms) (ok : planFault bs n t ≡ 
         go [] e size = sym (ends-nil p x (isAt z)) ∙ e
         go (i ∷ w) e size = absurd (omega arith)
 
-  -- a pair with a path of k hops at least
+  -- a pair with a walk of k hops at least
   module _ (s z k : ℕ) (inside : s < n) (fewest : k ≡ hops (shortestWalksTo p s z)) (near : k < 65535) where
     -- the pair's hops are what the start has to go
     start-home : homeFrom p z (start s) ≡ k

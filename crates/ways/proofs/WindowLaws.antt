@@ -27,10 +27,9 @@ use Rattle.memory.specs.Fill.{filled}
 use Rattle.memory.proofs.FillLaws.{filled-length, filled-other, filled-at, filled-beyond}
 use Rattle.plan.specs.declared.Contact as plan
 use Rattle.plan.specs.Record.{contactOf}
-use Rattle.ways.specs.Home.{appearance, homeHops, Completed}
+use Rattle.ways.specs.Home.{appearance, homeHops, Completable, Completed}
 use Rattle.ways.specs.Column.{lowered}
 use Rattle.ways.specs.Window.{loweredRun, foldedWindow, begunWindow, FoldableWindow}
-use Rattle.ways.specs.Window.{CompletableWindow}
 use Rattle.ways.proofs.FewestLaws.{Fewest, fewest-unique}
 use Rattle.ways.proofs.AheadLaws.{Ahead, fewest-home, ahead-none, ahead-all, ahead-fold, ahead-past, ahead-barred}
 use Rattle.ways.proofs.ColumnLaws.{lowered-there, lowered-other, lowered-length, lowered-beyond}
@@ -309,7 +308,7 @@ window-or-not terms u k =
 
 -- The records from j on are taken in: every entry holds what starts from j on.
 pub record Windowing (bs : List ℕ) (n t : ℕ) (terms : Terms) (z : ℕ) (old : List ℕ) (j : ℕ) (l : List ℕ) : Type 0 where
-  pub ready : CompletableWindow bs n t terms z l
+  pub ready : Completable bs n t terms z l
   pub position : j ≤ records bs
   pub entry : (v u : ℕ) → v < n → u < t + 1
       → Fewest (Ahead (planOf bs n t terms) z j (appearance v u)) (getD l (v * (t + 1) + u) 0)
@@ -338,7 +337,7 @@ module _ (bs : List ℕ) (n t : ℕ) (terms : Terms) (z : ℕ) where
 
   -- ---- the beginning
 
-  module _ (old : List ℕ) (g : CompletableWindow bs n t terms z old) where
+  module _ (old : List ℕ) (g : Completable bs n t terms z old) where
     abbrev cleared : List ℕ
     cleared = over (replicate (n * (t + 1)) 65535) old
 
@@ -388,7 +387,7 @@ module _ (bs : List ℕ) (n t : ℕ) (terms : Terms) (z : ℕ) where
         record {
           ready = record {
             accepted = g .accepted;
-            turns = g .turns;
+            units = g .units;
             destination = g .destination;
             fits = let same = ap length e ∙ begun-length in let room = g .fits in omega arith;
           };
@@ -428,7 +427,7 @@ module _ (bs : List ℕ) (n t : ℕ) (terms : Terms) (z : ℕ) where
         rw folded (record {
           ready = record {
             accepted = s .ready .accepted;
-            turns = s .ready .turns;
+            units = s .ready .units;
             destination = s .ready .destination;
             fits = let room = s .ready .fits in let same = size in omega arith;
           };
@@ -444,7 +443,7 @@ module _ (bs : List ℕ) (n t : ℕ) (terms : Terms) (z : ℕ) where
         inside = let h = s .position in omega arith
 
         turns : 0 < terms .turnaround
-        turns = s .ready .turns
+        turns = s .ready .units .turns
 
         fits : n * (t + 1) ≤ length l
         fits = s .ready .fits
@@ -525,7 +524,7 @@ module _ (bs : List ℕ) (n t : ℕ) (terms : Terms) (z : ℕ) where
         (fewest-home p z (slots-within bs n t terms (s .ready .accepted)) (omega arith) (appearance v u) (omega arith))
 
 -- it ends
-pub windowing-end : (bs : List ℕ) (n t : ℕ) (terms : Terms) (z : ℕ) (old : List ℕ) → CompletableWindow bs n t terms z old
+pub windowing-end : (bs : List ℕ) (n t : ℕ) (terms : Terms) (z : ℕ) (old : List ℕ) → Completable bs n t terms z old
     → (first : List ℕ) (j : ℕ) (l : List ℕ)
     → first ≡ begunWindow n (t + 1) z old
     → Windowing bs n t terms z first j l

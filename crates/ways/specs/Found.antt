@@ -1,4 +1,4 @@
--- What the functions that list paths answer, and what they ask. Definitions only.
+-- What the functions that list walks answer, and what they ask. Definitions only.
 -- Assumes nothing.
 use Prim.Native.Nat.{ℕ, zero, suc, _+_, _-_, _*_, _<_, _≤_}
 use mathlib.Core.Path.{_≡_}
@@ -86,7 +86,7 @@ pub record Placeable (bs : List ℕ) (q : Pair) (l : List ℕ) (k : ℕ) (b : Li
   pub leg : k < q .hops
   pub entry : k < length b
 
--- A pair with a path: an accepted plan, a source in it, the pair's hops, and room for them in a buffer. A caller has
+-- A pair with a walk: an accepted plan, a source in it, the pair's hops, and room for them in a buffer. A caller has
 -- excluded the causes 1 to 9.
 pub record Listable (bs : List ℕ) (q : Pair) (b : List ℕ) : Type 0 where
   pub accepted : planFault bs (q .stations) (q .slots) ≡ 0
@@ -95,12 +95,12 @@ pub record Listable (bs : List ℕ) (q : Pair) (b : List ℕ) : Type 0 where
   pub path : q .hops < 65535
   pub room : q .slots ≤ length b
 
--- what finding the first path asks
+-- what finding the first walk asks
 pub record Startable (bs : List ℕ) (q : Pair) (l b : List ℕ) : Type 0 where
   pub listable : Listable bs q b
   pub table : Table bs (q .stations) (q .slots) (termsIn q) (q .destination) l
 
--- what advancing the first k entries asks: they begin a shortest path
+-- what advancing the first k entries asks: they begin a shortest walk
 pub record Advancable (bs : List ℕ) (q : Pair) (l : List ℕ) (k : ℕ) (b : List ℕ) : Type 0 where
   pub listable : Listable bs q b
   pub table : Table bs (q .stations) (q .slots) (termsIn q) (q .destination) l
@@ -111,7 +111,7 @@ pub record Advancable (bs : List ℕ) (q : Pair) (l : List ℕ) (k : ℕ) (b : L
 abbrev pub isOffered : List ℕ → Pair → List ℕ → Bool
 isOffered bs q b = holds (indexIn (listIn bs q) b) (λ i. true)
 
--- what finding the next path asks: the buffer begins with a shortest path
+-- what finding the next walk asks: the buffer begins with a shortest walk
 pub record Continuable (bs : List ℕ) (q : Pair) (l b : List ℕ) : Type 0 where
   pub listable : Listable bs q b
   pub table : Table bs (q .stations) (q .slots) (termsIn q) (q .destination) l

@@ -4,7 +4,7 @@ use Prim.Native.Nat.{ℕ, _+_, _*_, _<_, _≤_}
 use mathlib.Core.Path.{_≡_}
 use mathlib.Core.List.{List}
 use lib.ListN.{length, getD, drop}
-use Rattle.temporal.specs.Plan.{Plan, Terms, Appearance, Lasting}
+use Rattle.temporal.specs.Plan.{Plan, Terms, Appearance, Allowed}
 use Rattle.temporal.specs.Walk.{endsIn, isAt}
 use Rattle.temporal.specs.Shortest.{shortest, hops}
 use Rattle.temporal.specs.Bytes.{planOf}
@@ -27,10 +27,10 @@ pub record Table (bs : List ℕ) (n t : ℕ) (terms : Terms) (z : ℕ) (l : List
   pub fits : n * (t + 1) ≤ length l
   pub entry : (v u : ℕ) → v < n → u < t + 1 → getD l (v * (t + 1) + u) 0 ≡ homeHops (planOf bs n t terms) z v u
 
--- what filling the table asks: an accepted plan, a turnaround, a destination in the plan, and room
+-- what filling the table asks: an accepted plan, allowed terms, a destination in the plan, and room
 pub record Completable (bs : List ℕ) (n t : ℕ) (terms : Terms) (z : ℕ) (l : List ℕ) : Type 0 where
   pub accepted : planFault bs n t ≡ 0
-  pub units : Lasting t terms
+  pub units : Allowed terms
   pub destination : z < n
   pub fits : n * (t + 1) ≤ length l
 

@@ -1,4 +1,4 @@
--- Beginnings of shortest paths and their order. Definitions only.
+-- Beginnings of shortest walks and their order. Definitions only.
 -- Assumes nothing.
 use Prim.Native.Nat.{ℕ, _+_}
 use mathlib.Core.Path.{_≡_}
@@ -19,7 +19,7 @@ unfoldable pub endAfter : Plan → Appearance → List ℕ → Option Appearance
 endAfter p x w = Option·map (lastOr x) (run p x w)
 
 -- Whether w is a walk from s whose hops and the fewest hops from its end to z are together k. Where k is the pair's hops
--- these are the beginnings of its shortest paths: document 01's legs of which the last contact leads home.
+-- these are the beginnings of its shortest walks: document 01's legs of which the last contact leads home.
 unfoldable pub completes : Plan → ℕ → ℕ → ℕ → List ℕ → Bool
 completes p s z k w = holds (endAfter p (start s) w) (λ x. eqb (length w + homeFrom p z x) k)
 

@@ -2,12 +2,10 @@
 -- entries a station, and what they ask. Definitions only.
 -- Assumes nothing.
 use Prim.Native.Nat.{ℕ, zero, suc, _+_, _-_, _*_, _<_, _≤_}
-use mathlib.Core.Path.{_≡_}
 use mathlib.Core.List.{List}
 use lib.ListN.{length, replicate}
 use Rattle.temporal.specs.Plan.{Contact, Terms, windowFirst, windowEnd}
 use Rattle.temporal.specs.Bytes.{contactAt}
-use Rattle.temporal.specs.Cause.{planFault}
 use Rattle.temporal.specs.Outcome.{over}
 use Rattle.memory.specs.Fill.{filled}
 use Rattle.ways.specs.Column.{lowered}
@@ -38,11 +36,3 @@ pub record FoldableWindow (bs : List ℕ) (width j : ℕ) (l : List ℕ) : Type 
   pub column : contactAt bs j .slot < width
   pub sender-row : contactAt bs j .sender * width + width ≤ length l
   pub hearer-row : contactAt bs j .hearer * width + width ≤ length l
-
--- what filling the table asks: an accepted plan, a turnaround, a destination in the plan, and room; for how long a reading is kept
--- is free
-pub record CompletableWindow (bs : List ℕ) (n t : ℕ) (terms : Terms) (z : ℕ) (l : List ℕ) : Type 0 where
-  pub accepted : planFault bs n t ≡ 0
-  pub turns : 0 < terms .turnaround
-  pub destination : z < n
-  pub fits : n * (t + 1) ≤ length l

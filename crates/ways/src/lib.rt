@@ -1,10 +1,10 @@
-// The completion table, and the shortest paths of a pair in lexicographic order: the first one, whether a buffer begins
+// The completion table, and the shortest walks of a pair in lexicographic order: the first one, whether a buffer begins
 // with one, and the one after it. None of these is an operation: a caller has excluded every cause of refusal before.
 ghost use mathlib.Core.Path.{_≡_};
 ghost use mathlib.Core.List.{[]};
 ghost use Prim.Native.Nat.{ℕ, _+_, _-_, _*_, _<_, _≤_, min};
 ghost use lib.ListN.{length, getD, set, take};
-ghost use Rattle.temporal.specs.Plan.{Plan, units, turning, start, mayFollow};
+ghost use Rattle.temporal.specs.Plan.{Plan, units, Keeps, start, mayFollow};
 ghost use Rattle.temporal.specs.Walk.{step};
 ghost use Rattle.temporal.specs.Bytes.{contactAt, records, planOf};
 ghost use Rattle.temporal.specs.Outcome.{over};
@@ -22,7 +22,7 @@ ghost use Rattle.ways.specs.Column.{
   FoldableColumn,
   TurnableBack,
 };
-ghost use Rattle.ways.specs.Window.{loweredRun, foldedWindow, begunWindow, FoldableWindow, CompletableWindow};
+ghost use Rattle.ways.specs.Window.{loweredRun, foldedWindow, begunWindow, FoldableWindow};
 ghost use Rattle.ways.specs.Prefix.{endAfter, Advanced};
 ghost use Rattle.ways.specs.Found.{
   spotOf,
@@ -144,7 +144,8 @@ fn last_in_slot(plan: &[u8], j: usize, k: usize) -> bool
 // Folds the last records before position j into column u, as long as they lie in slot k. How many are left before them.
 fn fold_column(work: &mut [u64], plan: &[u8], width: usize, u: usize, k: usize, j: usize) -> usize
     requires { ⌜ FoldableColumn (now plan) width u k j (now work) ⌝ }
-    ensures { λ r. ⌜ (r ≡ leftBefore (now (plan .entry)) k j) × (now (work .exit) ≡ foldedColumn (now (plan .entry)) width u k j (now (work .entry))) ⌝ }
+    ensures { λ r. ⌜ (r ≡ leftBefore (now (plan .entry)) k j) ×
+        (now (work .exit) ≡ foldedColumn (now (plan .entry)) width u k j (now (work .entry))) ⌝ }
 {
     let mut i = j;
     while last_in_slot(plan, i, k) {
@@ -186,7 +187,8 @@ fn turn_back(
     j: usize,
 ) -> usize
     requires { ⌜ TurnableBack (now plan) n t q k j (now work) ⌝ }
-    ensures { λ r. ⌜ (r ≡ leftBefore (now (plan .entry)) k j) × (now (work .exit) ≡ turnedBack (now (plan .entry)) n t q k j (now (work .entry))) ⌝ }
+    ensures { λ r. ⌜ (r ≡ leftBefore (now (plan .entry)) k j) ×
+        (now (work .exit) ≡ turnedBack (now (plan .entry)) n t q k j (now (work .entry))) ⌝ }
 {
     let width = t + 1;
     let u = above(k, q);
@@ -198,10 +200,11 @@ fn turn_back(
     left
 }
 
-// Fills the completion table of destination z: one pass back over the slots and the records. What is heard waits q slots.
-pub fn complete(work: &mut [u64], plan: &[u8], n: usize, t: usize, g: usize, z: usize)
-    requires { ⌜ Completable (now plan) n t (turning g) z (now work) ⌝ }
-    ensures { λ _. ⌜ Completed (now (plan .entry)) n t (turning g) z (now (work .entry)) (now (work .exit)) ⌝ }
+// Fills the completion table of destination z where nothing goes stale: one pass back over the slots and the records. What is heard
+// waits q slots.
+fn complete_lasting(work: &mut [u64], plan: &[u8], n: usize, t: usize, g: usize, h: usize, z: usize)
+    requires { ⌜ Completable (now plan) n t (units g h) z (now work) × Keeps t (units g h) ⌝ }
+    ensures { λ _. ⌜ Completed (now (plan .entry)) n t (units g h) z (now (work .entry)) (now (work .exit)) ⌝ }
 {
     begin_back(work, n, t + 1, t, z);
     let q = least(g, t);
@@ -252,16 +255,8 @@ fn begin_window(work: &mut [u64], n: usize, width: usize, z: usize)
 
 // Fills the completion table of destination z where a reading goes stale: a contact in slot k may follow what is heard in slot u only
 // where u + g <= k <= u + h. One pass back over the records.
-pub fn complete_window(
-    work: &mut [u64],
-    plan: &[u8],
-    n: usize,
-    t: usize,
-    g: usize,
-    h: usize,
-    z: usize,
-)
-    requires { ⌜ CompletableWindow (now plan) n t (units g h) z (now work) ⌝ }
+fn complete_window(work: &mut [u64], plan: &[u8], n: usize, t: usize, g: usize, h: usize, z: usize)
+    requires { ⌜ Completable (now plan) n t (units g h) z (now work) ⌝ }
     ensures { λ _. ⌜ Completed (now (plan .entry)) n t (units g h) z (now (work .entry)) (now (work .exit)) ⌝ }
 {
     let width = t + 1;
@@ -271,6 +266,18 @@ pub fn complete_window(
         j -= 1;
         fold_window(work, plan, width, g, h, j);
     }
+}
+
+// Fills the completion table of destination z.
+pub fn complete(work: &mut [u64], plan: &[u8], n: usize, t: usize, g: usize, h: usize, z: usize)
+    requires { ⌜ Completable (now plan) n t (units g h) z (now work) ⌝ }
+    ensures { λ _. ⌜ Completed (now (plan .entry)) n t (units g h) z (now (work .entry)) (now (work .exit)) ⌝ }
+{
+    if t <= h + 1 {
+        complete_lasting(work, plan, n, t, g, h, z);
+        return;
+    }
+    complete_window(work, plan, n, t, g, h, z);
 }
 
 // A 16-bit entry as a number.
@@ -354,7 +361,8 @@ fn serves(work: &[u64], plan: &[u8], q: Pair, x: Spot, need: u64, i: usize) -> b
 // The first position from a given one on that leads home with so many hops left behind it.
 fn find(work: &[u64], plan: &[u8], q: Pair, x: Spot, need: u64, from: usize) -> Found
     requires { ⌜ Searchable (now plan) q (now work) ⌝ }
-    ensures { λ r. ⌜ foundOf r ≡ firstFrom (servesAt (planIn (now (plan .entry)) q) (now (work .entry)) (q .slots + 1) (spotOf x) need) from (records (now (plan .entry)) - from) ⌝ }
+    ensures { λ r. ⌜ foundOf r ≡ firstFrom (servesAt (planIn (now (plan .entry)) q) (now (work .entry)) (q .slots + 1) (spotOf x) need)
+        from (records (now (plan .entry)) - from) ⌝ }
 {
     let m = plan.len() / 6;
     let mut i = from;
@@ -386,7 +394,8 @@ pub fn found_behind(way: &[u16], work: &[u64], plan: &[u8], q: Pair, k: usize, f
 // Puts the first position from a given one on that leads home behind the first k entries. False where there is none.
 fn place(way: &mut [u16], work: &[u64], plan: &[u8], q: Pair, k: usize, from: usize) -> bool
     requires { ⌜ Placeable (now plan) q (now work) k (now way) ⌝ }
-    ensures { λ r. ⌜ _≡_ {A = Placed} (record { answer = r; buffer = now (way .exit) }) (putAt k (now (way .entry)) (foundAt (now (plan .entry)) q (now (work .entry)) k from (now (way .entry)))) ⌝ }
+    ensures { λ r. ⌜ _≡_ {A = Placed} (record { answer = r; buffer = now (way .exit) })
+        (putAt k (now (way .entry)) (foundAt (now (plan .entry)) q (now (work .entry)) k from (now (way .entry)))) ⌝ }
 {
     let end = end_of(way, plan, q, k);
     let End::At(x) = end else {
@@ -401,7 +410,7 @@ fn place(way: &mut [u16], work: &[u64], plan: &[u8], q: Pair, k: usize, from: us
     true
 }
 
-// Writes the first shortest path of a pair that has one: leg by leg the first position that leads home.
+// Writes the first shortest walk of a pair that has one: leg by leg the first position that leads home.
 pub fn first_path(way: &mut [u16], work: &[u64], plan: &[u8], q: Pair)
     requires { ⌜ Startable (now plan) q (now work) (now way) ⌝ }
     ensures { λ _. ⌜ now (way .exit) ≡ over (getD (listIn (now (plan .entry)) q) 0 []) (now (way .entry)) ⌝ }
@@ -414,7 +423,7 @@ pub fn first_path(way: &mut [u16], work: &[u64], plan: &[u8], q: Pair)
     }
 }
 
-// Whether a buffer begins with a shortest path of a pair that has one.
+// Whether a buffer begins with a shortest walk of a pair that has one.
 pub fn offered(way: &[u16], plan: &[u8], q: Pair) -> bool
     requires { ⌜ Listable (now plan) q (now way) ⌝ }
     ensures { λ r. ⌜ r ≡ isOffered (now (plan .entry)) q (now (way .entry)) ⌝ }
@@ -426,7 +435,7 @@ pub fn offered(way: &[u16], plan: &[u8], q: Pair) -> bool
     x.station == q.destination
 }
 
-// Advances the first `leg` entries to the next ones that begin a shortest path: a later last position, or else the legs
+// Advances the first `leg` entries to the next ones that begin a shortest walk: a later last position, or else the legs
 // before it advanced, and the first position behind them. False where there are none, and the buffer stays.
 fn advance(way: &mut [u16], work: &[u64], plan: &[u8], q: Pair, leg: usize) -> bool
     requires { ⌜ Advancable (now plan) q (now work) leg (now way) ⌝ }
@@ -446,7 +455,7 @@ fn advance(way: &mut [u16], work: &[u64], plan: &[u8], q: Pair, leg: usize) -> b
     false
 }
 
-// Moves a buffer that begins with a shortest path on to the next one. False on the last, and the buffer stays.
+// Moves a buffer that begins with a shortest walk on to the next one. False on the last, and the buffer stays.
 pub fn next_path(way: &mut [u16], work: &[u64], plan: &[u8], q: Pair) -> bool
     requires { ⌜ Continuable (now plan) q (now work) (now way) ⌝ }
     ensures { λ r. ⌜ Stepped (listIn (now (plan .entry)) q) (now (way .entry)) r (now (way .exit)) ⌝ }

@@ -17,6 +17,7 @@ macro_rules! way_function {
             n: usize,
             t: usize,
             g: usize,
+            h: usize,
             s: usize,
             z: usize,
             hops: *mut usize,
@@ -37,6 +38,7 @@ extern "C" {
         n: usize,
         t: usize,
         g: usize,
+        h: usize,
         s: usize,
         hops: *mut u16,
         hops_length: usize,
@@ -69,6 +71,7 @@ extern "C" {
         n: usize,
         t: usize,
         g: usize,
+        h: usize,
         s: usize,
         z: usize,
         hops: *mut usize,
@@ -84,6 +87,7 @@ extern "C" {
         n: usize,
         t: usize,
         g: usize,
+        h: usize,
         pairs: *mut u64,
         pairs_length: usize,
         loads: *mut u64,
@@ -97,6 +101,7 @@ extern "C" {
         n: usize,
         t: usize,
         g: usize,
+        h: usize,
         k: usize,
         pairs: *mut u64,
         pairs_length: usize,
@@ -111,6 +116,7 @@ extern "C" {
         n: usize,
         t: usize,
         g: usize,
+        h: usize,
         station: *mut usize,
         work: *mut u64,
         work_length: usize,
@@ -121,6 +127,7 @@ extern "C" {
         n: usize,
         t: usize,
         g: usize,
+        h: usize,
         s: usize,
         z: usize,
         count: *mut u64,
@@ -151,6 +158,7 @@ extern "C" {
         n: usize,
         t: usize,
         g: usize,
+        h: usize,
         s: usize,
         z: usize,
         verdict: *mut u32,
@@ -168,7 +176,7 @@ fn size(slot: &mut u64) -> *mut usize {
     (slot as *mut u64).cast()
 }
 
-/// Calls a function that takes a turnaround: the plan, n, T and g come first.
+/// Calls a function that takes g: the plan, n, T and g come first.
 ///
 /// SAFETY of each call: each pointer comes with the length of its own slice, or is of a slot that the
 /// caller lends.
@@ -187,6 +195,13 @@ macro_rules! on_plan {
     };
 }
 
+/// Calls a function that takes g and h: the plan, n, T, g and h come first.
+macro_rules! on_terms {
+    ($function:expr, $input:expr $(, $argument:expr)*) => {
+        on_plan!($function, $input, $input.keeping $(, $argument)*)
+    };
+}
+
 /// Operation 1, on the plan, n and T of an input.
 pub fn check(input: PlanInput) -> u32 {
     let (plan, n, t) = (input.bytes, input.stations, input.slots);
@@ -196,7 +211,7 @@ pub fn check(input: PlanInput) -> u32 {
 
 /// Operation 2.
 pub fn reach(input: PlanInput, source: usize, tables: ReachTables) -> u32 {
-    on_plan!(
+    on_terms!(
         joftaki_reach,
         input,
         source,
@@ -241,7 +256,7 @@ pub fn pair(
     through: &mut [u64],
     work: &mut [u64],
 ) -> u32 {
-    on_plan!(
+    on_terms!(
         joftaki_pair,
         input,
         source,
@@ -257,7 +272,7 @@ pub fn pair(
 
 /// Operation 5.
 pub fn loads(input: PlanInput, pairs: &mut [u64], loads: &mut [u64], work: &mut [u64]) -> u32 {
-    on_plan!(
+    on_terms!(
         joftaki_loads,
         input,
         pairs.as_mut_ptr(),
@@ -277,7 +292,7 @@ pub fn partial_loads(
     loads: &mut [u64],
     work: &mut [u64],
 ) -> u32 {
-    on_plan!(
+    on_terms!(
         joftaki_partial_loads,
         input,
         sources,
@@ -293,7 +308,7 @@ pub fn partial_loads(
 /// Operation 6.
 pub fn busiest(input: PlanInput, station: &mut u64, work: &mut [u64]) -> u32 {
     let (area, length) = (work.as_mut_ptr(), work.len());
-    on_plan!(joftaki_busiest, input, size(station), area, length)
+    on_terms!(joftaki_busiest, input, size(station), area, length)
 }
 
 /// Document 02's operation on a pair and a set.
@@ -304,7 +319,7 @@ pub fn through_set(
     set: &[u8],
     work: &mut [u64],
 ) -> u32 {
-    on_plan!(
+    on_terms!(
         joftaki_through_set,
         input,
         source,
@@ -348,7 +363,7 @@ pub fn verdict(
     list: &[u16],
     work: &mut [u64],
 ) -> u32 {
-    on_plan!(
+    on_terms!(
         joftaki_verdict,
         input,
         source,
@@ -374,7 +389,7 @@ pub fn way(
         Way::First => joftaki_first_way,
         Way::Next => joftaki_next_way,
     };
-    on_plan!(
+    on_terms!(
         function,
         input,
         source,

@@ -4,6 +4,7 @@
 mod against;
 mod clock;
 mod instructions;
+mod keepings;
 mod library;
 mod measure;
 mod native;
@@ -19,7 +20,9 @@ use lister::program;
 const USAGE: &str = "usage:
   bench                            all tables of times
   bench quick                      fewer plans and runs
-  bench against OTHER              the archive beside that of OTHER, another built bench
+  bench against OTHER              the archive beside that of OTHER, another built bench; both keep every reading,
+                                   also where OTHER's archive takes no h
+  bench keepings SOURCES           partial loads of so many sources for several h beside h = 255
   bench serve QUESTION PLAN        times of the archive, one for each line of the input
   bench instructions               instructions of both sides, counted by valgrind
   bench once SIDE QUESTION PLAN    one run of one side, for a tool that watches it";
@@ -33,6 +36,10 @@ fn run(words: &[&str]) -> Result<(), String> {
         [] => tables::all(),
         ["quick"] => tables::quick(),
         ["against", other] => against::table(other)?,
+        ["keepings", sources] => {
+            let sources = sources.parse().map_err(|_| USAGE.to_string())?;
+            keepings::table(sources)?;
+        }
         ["serve", question, plan] => against::serve(question, plan)?,
         ["instructions"] => instructions::table()?,
         ["once", side, question, plan] => instructions::once(side, question, plan)?,

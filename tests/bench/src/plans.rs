@@ -23,6 +23,8 @@ pub struct Plan {
     pub slots: usize,
     /// g
     pub turnaround: usize,
+    /// h
+    pub keeping: usize,
     bytes: Vec<u8>,
 }
 
@@ -33,13 +35,18 @@ impl Plan {
             stations: self.stations,
             slots: self.slots,
             turnaround: self.turnaround,
-            keeping: KEPT,
+            keeping: self.keeping,
         }
     }
 
     /// The plan with another turnaround.
     pub fn turning(self, turnaround: usize) -> Plan {
         Plan { turnaround, ..self }
+    }
+
+    /// The plan of units that drop a reading so many slots after hearing it.
+    pub fn keeping_for(self, keeping: usize) -> Plan {
+        Plan { keeping, ..self }
     }
 
     pub fn records(&self) -> usize {
@@ -91,6 +98,7 @@ fn random(name: &str, stations: usize, slots: usize, records: usize) -> Plan {
         stations,
         slots,
         turnaround: LEAST_TURNAROUND,
+        keeping: KEPT,
         bytes: plan_bytes(&doubled(&contacts)),
     }
 }
@@ -104,6 +112,7 @@ fn ladder(name: &str, layers: usize) -> Plan {
         stations: stations.into(),
         slots: slots.into(),
         turnaround: LEAST_TURNAROUND,
+        keeping: KEPT,
         bytes: builder.bytes(),
     }
 }

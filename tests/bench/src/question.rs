@@ -1,7 +1,7 @@
 //! What is asked of a plan, asked of one side for its time, and of both for equal results.
 
 use lister::operation::LAST;
-use lister::plan::Ends;
+use lister::plan::{Ends, KEPT};
 use lister::ways::Way;
 
 use crate::native::plan::work_length;
@@ -162,8 +162,10 @@ impl Both<'_> {
     }
 }
 
-/// Compares all results of both sides on a question, and stops the program where they differ.
+/// Compares all results of both sides on a question, and stops the program where they differ. The Rust side keeps
+/// every reading.
 pub fn compare(plan: &Plan, question: Question) {
+    assert_eq!(plan.keeping, KEPT, "{}", plan.name);
     let mut both = Both {
         plan,
         library: Lent::marked(plan, question),

@@ -30,7 +30,7 @@ pub fn function(operation: Operation) -> &'static str {
 pub struct Call<'a> {
     pub operation: Operation,
     pub input: PlanInput<'a>,
-    /// The numbers behind g: the one station, source and destination, or k; further ones are not given.
+    /// The numbers behind g and h: the one station, source and destination, or k; further ones are not given.
     pub arguments: [usize; 2],
     pub lent: Lent,
     /// The places for the values beside the number.
@@ -52,7 +52,7 @@ fn lengths<N>(tables: &[Vec<N>]) -> Vec<usize> {
 }
 
 impl fmt::Display for Call<'_> {
-    /// The plan as lines "slot a b" (a sends, b hears), n, T, g, the arguments and the lengths.
+    /// The plan as lines "slot a b" (a sends, b hears), n, T, g, h, the arguments and the lengths.
     fn fmt(&self, to: &mut fmt::Formatter) -> fmt::Result {
         for contact in contacts(self.input.bytes) {
             let Contact {
@@ -70,9 +70,10 @@ impl fmt::Display for Call<'_> {
             stations,
             slots,
             turnaround,
+            keeping,
             ..
         } = self.input;
-        writeln!(to, "n {stations} T {slots} g {turnaround}")?;
+        writeln!(to, "n {stations} T {slots} g {turnaround} h {keeping}")?;
         let given = &self.arguments[..self.operation.arguments()];
         let name = match self.operation {
             Operation::PartialLoads => "k",

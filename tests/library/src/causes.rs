@@ -1,5 +1,5 @@
 //! Numbers against each other: every number of through set, of foremost and of the verdict against every other, 12
-//! against every other number of each operation, and 13 against every other number of partial loads.
+//! and 14 against every other number of each operation, and 13 against every other number of partial loads.
 
 use lister::cases::{plan_bytes, Record};
 use lister::means::COUNTED;
@@ -17,7 +17,7 @@ use crate::lend::{self, Lengths};
 pub fn compare(comparison: &mut Comparison, seed: u64) -> Result<(), Difference> {
     let random = &mut Random::new(seed);
     every_two_causes(comparison, random)?;
-    turnaround_and_another_cause(comparison, random)?;
+    terms_and_another_cause(comparison, random)?;
     sources_and_another_cause(comparison, random)
 }
 
@@ -133,17 +133,33 @@ fn all_changes() -> Vec<Change> {
     changes
 }
 
-/// Each operation with 12 alone, with every other of its numbers and with several of them: 1 to 5 by the plan, 6
-/// and 7 by the stations, 8 by each lent part, 9 by the ladder, 10 by what the way buffer holds, 11 by a byte of
-/// the set.
-fn turnaround_and_another_cause(
+/// g and h: 12, 14, both, and neither.
+const TERMS: [(usize, usize); 12] = [
+    (0, KEPT),
+    (17, KEPT),
+    (usize::MAX, KEPT),
+    (16, KEPT),
+    (1, 0),
+    (16, 15),
+    (1, 256),
+    (1, usize::MAX),
+    (0, 0),
+    (17, 16),
+    (17, usize::MAX),
+    (1, 1),
+];
+
+/// Each operation with 12 alone, 14 alone and both, with every other of its numbers and with several of them: 1 to 5
+/// by the plan, 6 and 7 by the stations, 8 by each lent part, 9 by the ladder, 10 by what the way buffer holds, 11
+/// by a byte of the set.
+fn terms_and_another_cause(
     comparison: &mut Comparison,
     random: &mut Random,
 ) -> Result<(), Difference> {
     let (plans, ends) = plans_with_causes();
     for owned in &plans {
-        for turnaround in [0, 17, usize::MAX, 16] {
-            let owned = owned.clone().turning(turnaround);
+        for (turnaround, keeping) in TERMS {
+            let owned = owned.clone().turning(turnaround).keeping_for(keeping);
             for operation in OPERATIONS {
                 for ends in ends {
                     short_parts(comparison, random, &owned, operation, ends)?;
@@ -154,8 +170,8 @@ fn turnaround_and_another_cause(
     Ok(())
 }
 
-/// Partial loads with 13 alone and with every other of its numbers: 1 to 5 by the plan, 12, 8 by each lent part, 9 by
-/// the ladder; and all of these with k up to n.
+/// Partial loads with 13 alone and with every other of its numbers: 1 to 5 by the plan, 12, 14, 8 by each lent part, 9
+/// by the ladder; and all of these with k up to n.
 fn sources_and_another_cause(
     comparison: &mut Comparison,
     random: &mut Random,
@@ -163,8 +179,8 @@ fn sources_and_another_cause(
     let (plans, _) = plans_with_causes();
     let stations = plans[0].stations;
     for owned in &plans {
-        for turnaround in [LEAST_TURNAROUND, 17] {
-            let owned = owned.clone().turning(turnaround);
+        for (turnaround, keeping) in [(1, KEPT), (17, KEPT), (1, 0), (16, 15), (1, 256), (17, 0)] {
+            let owned = owned.clone().turning(turnaround).keeping_for(keeping);
             for sources in [0, 1, stations, stations + 1, 300, usize::MAX] {
                 let (operation, arguments) = (Operation::PartialLoads, [sources, 0]);
                 short_parts(comparison, random, &owned, operation, arguments)?;

@@ -5,6 +5,7 @@ use std::fmt::{Debug, Write};
 
 use lister::means::Means;
 use lister::operation::{Answered, Operation, LAST, NONE, OPERATIONS};
+use lister::plan::read;
 use lister::shortest::NO_WALK;
 use lister::verdicts::VERDICTS;
 
@@ -15,21 +16,16 @@ use crate::native::{self, Seen};
 pub type Difference = String;
 
 /// The comparisons so far: how often each operation answered each number, how often its through counts were
-/// added up, how often each verdict was given, and how often partial loads were held to the loads and to those
-/// of fewer sources.
+/// added up, how often they were fewer than the hops' stations, how often each verdict was given, and how often
+/// partial loads were held to the loads and to those of fewer sources.
 #[derive(Clone, Debug, Default)]
 pub struct Comparison {
     answers: BTreeMap<(Operation, u32), u64>,
     added_up: BTreeMap<Operation, u64>,
+    /// Pairs with a walk that calls twice at a station.
+    called_twice: u64,
     verdicts: BTreeMap<u64, u64>,
     pub spans: [u64; 2],
-}
-
-/// The numbers that an operation of the C interface can answer: it takes no h, so 14 is none of them.
-fn numbers_of(operation: Operation) -> Vec<u32> {
-    let mut numbers = operation.numbers();
-    numbers.retain(|number| *number != 14);
-    numbers
 }
 
 impl Comparison {
@@ -60,7 +56,8 @@ impl Comparison {
     }
 
     /// The text of a sum of the through counts that is not count × (hops − 1), document 02's C-15: for
-    /// each pair or foremost call accepted with a path, paths of one hop too.
+    /// each pair or foremost call accepted with a walk, walks of one hop too. Where a pair's readings may be
+    /// dropped, the sum may be less: a walk counts once for a station at which it calls twice.
     fn every_hop_accounted(&mut self, call: &Call, seen: &Seen) -> String {
         let (hops, count) = match (call.operation, seen.number, &seen.values[..]) {
             (Operation::Pair, 0, [hops, count]) => (*hops, *count),
@@ -74,11 +71,16 @@ impl Comparison {
         let through = seen.lent.wide[0][..call.input.stations].iter();
         let sum: u128 = through.map(|count| u128::from(*count)).sum();
         let stated = u128::from(count) * u128::from(hops - 1);
-        match sum == stated {
-            true => String::new(),
-            false => {
-                format!("through counts add up to {sum}, and count × (hops − 1) is {stated}\n")
-            }
+        let plan = read(call.input);
+        let keeps_all = plan.is_ok_and(|plan| plan.keeps_all());
+        let may_be_less = call.operation == Operation::Pair && !keeps_all;
+        if sum == stated {
+            String::new()
+        } else if sum < stated && may_be_less {
+            self.called_twice += 1;
+            String::new()
+        } else {
+            format!("through counts add up to {sum}, and count × (hops − 1) is {stated}\n")
         }
     }
 
@@ -96,7 +98,7 @@ impl Comparison {
     pub fn never_answered(&self) -> Vec<(&'static str, u32)> {
         let mut never = Vec::new();
         for operation in OPERATIONS {
-            let numbers = numbers_of(operation).into_iter();
+            let numbers = operation.numbers().into_iter();
             let unseen = numbers.filter(|number| self.answered(operation, *number) == 0);
             never.extend(unseen.map(|number| (function(operation), number)));
         }
@@ -105,6 +107,7 @@ impl Comparison {
             .into_iter()
             .filter(|number| self.given(*number) == 0);
         never.extend(unseen.map(|number| ("verdict", number)));
+        never.extend((self.called_twice == 0).then_some(("walks twice at a station", 0)));
         never
     }
 
@@ -113,7 +116,7 @@ impl Comparison {
         let mut text = String::new();
         let mut total = 0;
         for operation in OPERATIONS {
-            let numbers = numbers_of(operation);
+            let numbers = operation.numbers();
             let answered = |number: &u32| self.answered(operation, *number);
             let calls: u64 = numbers.iter().map(answered).sum();
             total += calls;
@@ -128,6 +131,8 @@ impl Comparison {
             let name = function(*operation);
             let _ = writeln!(text, "through counts added up after {name}: {times}");
         }
+        let twice = self.called_twice;
+        let _ = writeln!(text, "pairs with walks twice at a station: {twice}");
         for verdict in VERDICTS {
             let (word, times) = (verdict.word(), self.given(verdict.number().into()));
             let _ = writeln!(text, "verdict {word}: {times}");

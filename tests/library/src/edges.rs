@@ -1,9 +1,10 @@
 //! Plans at the edges of the limits: most stations, slots and records, counts around 2^64, the smallest and the
-//! largest turnarounds, numbers of sources around n and around a source with too many walks, and long lists.
+//! largest g and h, numbers of sources around n and around a source with too many walks, and long lists.
 
 use lister::cases::{Record, PLAN_A};
 use lister::means::COUNTED;
 use lister::operation::{Operation, LAST, OPERATIONS};
+use lister::pair_cases::LabelledPlan;
 use lister::plan::{LEAST_TURNAROUND, MOST_TURNAROUND};
 use lister::plans::{pairs, Owned};
 use lister::random::Random;
@@ -11,6 +12,7 @@ use lister::reach_cases::{
     exact_plans, falling_ladder, ladder, most_turnaround, sent_ladder, spaced_ladder,
     spaced_sent_ladder, SPACED_LADDERS,
 };
+use lister::stale::{detours_around, ladders_around, stale_blocks};
 use lister::turned::spaced_row;
 
 use crate::call::Call;
@@ -35,6 +37,7 @@ pub fn compare(comparison: &mut Comparison, seed: u64) -> Result<(), Difference>
         last_positions(comparison, random, turnaround)?;
     }
     turnarounds(comparison, random)?;
+    keepings(comparison, random)?;
     sources(comparison, random)?;
     sources_with_many_walks(comparison, random)?;
     verdicts(comparison, random)?;
@@ -80,6 +83,34 @@ fn plans() -> Vec<Owned> {
     let exact = exact_plans(64, LEAST_TURNAROUND);
     plans.extend(exact.iter().map(|plan| Owned::built(&plan.builder)));
     plans.extend(turned_plans());
+    plans.extend(stale_plans());
+    plans
+}
+
+/// Plans with h: readings go from end to end with each h of some, and are dropped on the way with a smaller one of
+/// others; ladders whose hops are exactly h apart, and one slot more.
+fn stale_plans() -> Vec<Owned> {
+    let mut plans = Vec::new();
+    for keeping in [1, 2, 64, 100, 252, 253, 254] {
+        let full = Owned::new(256, 255, &packed(8192));
+        plans.extend([line(), last_heard(), full].map(|plan| plan.keeping_for(keeping)));
+    }
+    for (turnaround, layers, width, _) in SPACED_LADDERS {
+        let sent = Owned::built(&spaced_sent_ladder(turnaround, layers, width));
+        plans.push(sent.clone().keeping_for(turnaround));
+        plans.push(sent.turning(1).keeping_for((turnaround - 1).max(1)));
+        let both = Owned::built(&spaced_ladder(turnaround, layers, width));
+        plans.push(both.keeping_for(turnaround + 1));
+    }
+    let exact = [exact_plans(64, 1), exact_plans(64, 2)].concat();
+    for (index, plan) in exact.iter().enumerate() {
+        let owned = Owned::built(&plan.builder);
+        let keeping = owned.turnaround + index % 3;
+        plans.push(owned.keeping_for(keeping));
+    }
+    plans.extend(ladders_around().iter().map(|(plan, _)| plan.owned()));
+    plans.extend(detours_around().iter().map(LabelledPlan::owned));
+    plans.extend(stale_blocks().iter().map(LabelledPlan::owned));
     plans
 }
 
@@ -212,6 +243,51 @@ fn turnarounds(comparison: &mut Comparison, random: &mut Random) -> Result<(), D
                 }
             }
         }
+    }
+    Ok(())
+}
+
+/// h at its limits and outside of them with g = 3, some inside in their low bits: every operation that takes one gives
+/// 14 outside, and check, row and foremost do not look at it.
+const KEEPINGS: [(usize, bool); 15] = [
+    (0, false),
+    (1, false),
+    (2, false),
+    (3, true),
+    (4, true),
+    (32, true),
+    (254, true),
+    (255, true),
+    (256, false),
+    (256 + 3, false),
+    (65535, false),
+    (65536 + 3, false),
+    ((1 << 32) + 3, false),
+    (1 << 63, false),
+    (usize::MAX, false),
+];
+
+fn keepings(comparison: &mut Comparison, random: &mut Random) -> Result<(), Difference> {
+    let records = [(1, 0, 1), (4, 1, 2), (5, 1, 2), (33, 1, 2), (33, 2, 3)];
+    for (keeping, known) in KEEPINGS {
+        let owned = Owned::new(4, 33, &records).turning(3).keeping_for(keeping);
+        for operation in OPERATIONS {
+            for lengths in [Lengths::Named, Lengths::Any] {
+                let arguments = arguments(random, operation, owned.stations, [0, 3]);
+                let call = lend::call(random, operation, owned.input(), arguments, lengths);
+                if !known && operation.causes().contains(&14) {
+                    stated(comparison, &call, 14)?;
+                } else {
+                    comparison.compare(&call, COUNTED)?;
+                }
+            }
+        }
+    }
+    for (plan, number) in ladders_around() {
+        let owned = plan.owned();
+        let (operation, input) = (Operation::Pair, owned.input());
+        let call = lend::call(random, operation, input, [0, 1], Lengths::Named);
+        stated(comparison, &call, number.into())?;
     }
     Ok(())
 }

@@ -10,25 +10,43 @@ mod native;
 mod partial;
 mod plans;
 mod rounds;
+mod stale;
 mod tiny;
 
 use std::env;
 use std::process::ExitCode;
 
 use compare::{Comparison, Difference};
+use stale::Terms;
 
 const USAGE: &str = "usage:
-  library short              all tiny plans, the edges, and rounds with fixed seeds
-  library long ROUNDS SEED   the same with so many rounds, the first with this seed";
+  library short              tiny plans, the edges, and rounds with fixed seeds
+  library long ROUNDS SEED   all tiny plans with every small g and h, the edges, and so many rounds, the first
+                             with this seed
+  library round SEED         one round alone";
 
-/// The rounds of the short run, and the seed of the first.
-const SHORT: (u64, u64) = (1000, 1);
+/// What is compared: the tiny plans, some or all of their g and h; then the numbers against each other and the
+/// edges; then so many rounds. The first seed is of all of them.
+#[derive(Clone, Copy, Debug)]
+struct Extent {
+    /// None where only rounds are compared.
+    tiny: Option<Terms>,
+    rounds: u64,
+    seed: u64,
+}
+
+/// The short run.
+const SHORT: Extent = Extent {
+    tiny: Some(Terms::InTurn),
+    rounds: 1000,
+    seed: 1,
+};
 
 fn main() -> ExitCode {
     let words: Vec<String> = env::args().skip(1).collect();
     let words: Vec<&str> = words.iter().map(String::as_str).collect();
-    match rounds_and_seed(&words) {
-        Some((rounds, seed)) => told(&mut Comparison::default(), rounds, seed),
+    match extent(&words) {
+        Some(extent) => told(&mut Comparison::default(), extent),
         None => {
             eprintln!("{USAGE}");
             ExitCode::from(2)
@@ -36,25 +54,37 @@ fn main() -> ExitCode {
     }
 }
 
-/// The rounds and the seed that the words ask for.
-fn rounds_and_seed(words: &[&str]) -> Option<(u64, u64)> {
+/// What the words ask for.
+fn extent(words: &[&str]) -> Option<Extent> {
     match words {
         ["short"] => Some(SHORT),
-        ["long", rounds, seed] => Some((rounds.parse().ok()?, seed.parse().ok()?)),
+        ["long", rounds, seed] => Some(Extent {
+            tiny: Some(Terms::Every),
+            rounds: rounds.parse().ok()?,
+            seed: seed.parse().ok()?,
+        }),
+        ["round", seed] => Some(Extent {
+            tiny: None,
+            rounds: 1,
+            seed: seed.parse().ok()?,
+        }),
         _ => None,
     }
 }
 
 /// Runs the comparisons and prints what came of them.
-fn told(comparison: &mut Comparison, rounds: u64, seed: u64) -> ExitCode {
-    println!("library: rounds {rounds}, seeds from {seed}");
-    if let Err(difference) = run(comparison, rounds, seed) {
+fn told(comparison: &mut Comparison, extent: Extent) -> ExitCode {
+    println!(
+        "library: rounds {}, seeds from {}",
+        extent.rounds, extent.seed
+    );
+    if let Err(difference) = run(comparison, extent) {
         print!("{difference}");
         return ExitCode::FAILURE;
     }
     print!("{}", comparison.table());
     let never = comparison.never_answered();
-    if !never.is_empty() {
+    if extent.tiny.is_some() && !never.is_empty() {
         println!("never answered: {never:?}");
         return ExitCode::FAILURE;
     }
@@ -62,14 +92,18 @@ fn told(comparison: &mut Comparison, rounds: u64, seed: u64) -> ExitCode {
 }
 
 /// The tiny plans, the numbers against each other, the edges, then the rounds.
-fn run(comparison: &mut Comparison, rounds: u64, seed: u64) -> Result<(), Difference> {
+fn run(comparison: &mut Comparison, extent: Extent) -> Result<(), Difference> {
+    let Extent { tiny, rounds, seed } = extent;
     let named = |name: String| move |text: Difference| format!("difference in {name}\n{text}");
-    tiny::compare(comparison, seed).map_err(named(format!("tiny plans, seed {seed}")))?;
-    causes::compare(comparison, seed).map_err(named(format!("causes, seed {seed}")))?;
-    edges::compare(comparison, seed).map_err(named(format!("edges, seed {seed}")))?;
+    if let Some(terms) = tiny {
+        let tiny = tiny::compare(comparison, seed, terms);
+        tiny.map_err(named(format!("tiny plans, seed {seed}")))?;
+        causes::compare(comparison, seed).map_err(named(format!("causes, seed {seed}")))?;
+        edges::compare(comparison, seed).map_err(named(format!("edges, seed {seed}")))?;
+    }
     for round in 0..rounds {
         let seed = seed.wrapping_add(round);
-        let name = format!("a round, seed {seed}: library long 1 {seed}");
+        let name = format!("a round, seed {seed}: library round {seed}");
         rounds::compare(comparison, seed).map_err(named(name))?;
     }
     Ok(())

@@ -27,7 +27,7 @@ fn sources(random: &mut Random, stations: usize) -> usize {
     }
 }
 
-/// The numbers behind g of an operation on a plan of n stations: the stations given, or a number of sources drawn.
+/// The numbers behind g and h of an operation on a plan of n stations: the stations given, or a number of sources drawn.
 pub fn arguments(
     random: &mut Random,
     operation: Operation,

@@ -1,10 +1,11 @@
-//! Generated plans: small and large, valid and damaged, and turnarounds.
+//! Generated plans: small and large, valid and damaged, and g and h.
 
 use lister::cases::{damage, doubled, valid_records, Case};
-use lister::plan::{MOST_CONTACTS, MOST_SLOTS, MOST_STATIONS, MOST_TURNAROUND, RECORD_BYTES};
+use lister::plan::{KEPT, MOST_CONTACTS, MOST_SLOTS, MOST_STATIONS, MOST_TURNAROUND, RECORD_BYTES};
 use lister::plans::{random_plan, Owned};
 use lister::random::Random;
 use lister::reach_cases::Builder;
+use lister::stale::random_stale_plan;
 use lister::turned::{drawn_turnaround, random_turned_plan};
 
 /// A valid plan of so many stations and slots: one of three with so many records, each in both
@@ -20,7 +21,8 @@ fn drawn(random: &mut Random, stations: usize, slots: usize, wanted: usize) -> O
 
 /// A valid plan with few walks: dense in few slots, a few stations in more slots, or few records.
 pub fn small(random: &mut Random) -> Owned {
-    match random.below(5) {
+    match random.below(6) {
+        5 => random_stale_plan(random),
         0 => random_turned_plan(random),
         1 | 4 => random_plan(random),
         2 => {
@@ -102,6 +104,31 @@ pub fn turned(random: &mut Random, owned: Owned) -> Owned {
     owned.turning(drawn_turnaround(random))
 }
 
+/// The plan with g and h in their limits: h is mostly around T, small or 255.
+pub fn with_terms(random: &mut Random, owned: Owned) -> Owned {
+    let owned = turned(random, owned);
+    let least = owned.turnaround;
+    let keeping = match random.below(8) {
+        0..=2 => KEPT,
+        3 => owned.slots.saturating_sub(random.below(3)),
+        4 => least,
+        5 | 6 => least + random.below(5),
+        _ => random.between(least, KEPT),
+    };
+    owned.keeping_for(keeping.clamp(least, KEPT))
+}
+
+/// An h outside of its limits for a g; some are inside of them in their low bits.
+pub fn wrong_keeping(random: &mut Random, turnaround: usize) -> usize {
+    let known = random.between(turnaround.clamp(1, MOST_TURNAROUND), KEPT);
+    match random.below(4) {
+        0 => 0,
+        1 => turnaround.saturating_sub(1),
+        2 => KEPT + 1,
+        _ => far(random, known),
+    }
+}
+
 /// A turnaround outside of its limits; some are inside of them in their low bits.
 pub fn wrong_turnaround(random: &mut Random) -> usize {
     let known = random.between(1, MOST_TURNAROUND);
@@ -142,8 +169,19 @@ pub fn full(random: &mut Random) -> Owned {
     owned
 }
 
-/// A valid plan with a turnaround and too many walks to be listed; some have over 2^64−1 shortest ones.
+/// A valid plan with g and too many walks to be listed; some have over 2^64−1 shortest ones. In half of them h is one
+/// of the slots from g to 2g.
 pub fn large(random: &mut Random) -> Owned {
+    let owned = kept_large(random);
+    let least = owned.turnaround;
+    match random.below(2) {
+        0 => owned,
+        _ => owned.keeping_for(least + random.below(least + 1)),
+    }
+}
+
+/// Such a plan with h = 255.
+fn kept_large(random: &mut Random) -> Owned {
     match random.below(4) {
         0 => {
             let (stations, slots) = (random.between(8, 64), random.between(4, 63));

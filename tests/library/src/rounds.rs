@@ -17,13 +17,13 @@ use crate::lists;
 use crate::partial::{arguments, every_number};
 use crate::plans;
 
-/// One round: a plan with a turnaround, calls of every operation on it, and traces.
+/// One round: a plan with g and h, calls of every operation on it, and traces.
 pub fn compare(comparison: &mut Comparison, seed: u64) -> Result<(), Difference> {
     let random = &mut Random::new(seed);
     match random.below(64) {
         0 => {
             let owned = plans::full(random);
-            let owned = plans::turned(random, owned);
+            let owned = plans::with_terms(random, owned);
             some_calls(comparison, random, &owned, COUNTED, 1)
         }
         1..=4 => {
@@ -43,23 +43,29 @@ pub fn compare(comparison: &mut Comparison, seed: u64) -> Result<(), Difference>
     }
 }
 
-/// The plan with a turnaround drawn, some outside of its limits; some plans damaged or with other stations
-/// or sizes.
+/// The plan with g and h drawn, some outside of their limits; some plans damaged or with other stations or sizes.
 fn changed(random: &mut Random, owned: Owned) -> Owned {
-    let turned = plans::turned(random, owned);
+    let drawn = plans::with_terms(random, owned);
     let owned = match random.below(12) {
-        0..=2 => plans::damaged(random, turned),
-        3 => plans::other_stations(random, turned),
-        4 => plans::resized(random, turned),
-        _ => turned,
+        0..=2 => plans::damaged(random, drawn),
+        3 => plans::other_stations(random, drawn),
+        4 => plans::resized(random, drawn),
+        _ => drawn,
+    };
+    let owned = match random.below(12) {
+        0 => owned.turning(plans::wrong_turnaround(random)),
+        _ => owned,
     };
     match random.below(12) {
-        0 => owned.turning(plans::wrong_turnaround(random)),
+        0 => {
+            let keeping = plans::wrong_keeping(random, owned.turnaround);
+            owned.keeping_for(keeping)
+        }
         _ => owned,
     }
 }
 
-/// The operations whose calls have so many numbers behind g.
+/// The operations whose calls have so many numbers behind g and h.
 fn taking(arguments: usize) -> impl Iterator<Item = Operation> {
     let operations = OPERATIONS.into_iter();
     operations.filter(move |operation| operation.arguments() == arguments)
@@ -193,8 +199,8 @@ fn trace_text(steps: &[Step]) -> String {
         Step::Write(entry, value) => format!("write {value} to entry {entry}\n"),
         Step::Call(way, call) => {
             let input = call.input;
-            let (n, t, g) = (input.stations, input.slots, input.turnaround);
-            let sizes = format!("n {n} T {t} g {g}");
+            let (n, t, g, h) = (input.stations, input.slots, input.turnaround, input.keeping);
+            let sizes = format!("n {n} T {t} g {g} h {h}");
             let stations = call.ends();
             let lengths = [input.bytes.len(), call.buffer_length, call.scratch_length];
             format!("{way:?} {sizes}, stations {stations:?}, plan, buffer, scratch {lengths:?}\n")

@@ -1,5 +1,5 @@
-//! All plans of tiny sizes with the first turnarounds, one-way plans, plans with equal loads, plans in which
-//! the earliest slot decides and plans with turnarounds, in all calls.
+//! All plans of tiny sizes with the first turnarounds and small h, one-way plans, plans with equal loads, plans in
+//! which the earliest slot decides, plans with turnarounds and plans that drop readings, in all calls.
 
 use lister::cases::{plan_bytes, Record, PLAN_A};
 use lister::foremost_cases::ARRIVALS;
@@ -18,16 +18,21 @@ use crate::compare::{Comparison, Difference};
 use crate::lend::{self, Lengths};
 use crate::lists;
 use crate::partial::{arguments, every_number};
+use crate::stale::{self, Terms};
 
 /// Compares all of them; the seed is of what the tables hold before.
-pub fn compare(comparison: &mut Comparison, seed: u64) -> Result<(), Difference> {
+pub fn compare(comparison: &mut Comparison, seed: u64, terms: Terms) -> Result<(), Difference> {
     let random = &mut Random::new(seed);
     for (stations, slots) in [(1, 1), (1, 2), (2, 1), (2, 2), (2, 3), (3, 1)] {
-        for owned in all_plans(stations, slots) {
+        let plans = all_plans(stations, slots);
+        for owned in &plans {
             for turnaround in TURNAROUNDS {
                 let turned = owned.clone().turning(turnaround);
                 every_argument(comparison, random, &turned)?;
             }
+        }
+        for owned in terms.of(plans) {
+            every_argument(comparison, random, &owned)?;
         }
     }
     for owned in all_doubled_plans(3, 2) {
@@ -38,6 +43,7 @@ pub fn compare(comparison: &mut Comparison, seed: u64) -> Result<(), Difference>
         every_pair(comparison, random, owned)?;
     }
     turned(comparison, random)?;
+    stale::compare(comparison, random, terms)?;
     for owned in all.iter().step_by(61) {
         every_argument(comparison, random, owned)?;
     }
@@ -118,8 +124,8 @@ fn every_argument(
 }
 
 /// Every operation that reads a plan, from every station, for every pair; next way is offered the
-/// first path, and the verdict is on the complete list.
-fn every_pair(
+/// first walk, and the verdict is on the complete list.
+pub fn every_pair(
     comparison: &mut Comparison,
     random: &mut Random,
     owned: &Owned,
@@ -154,7 +160,7 @@ fn every_pair(
 }
 
 /// Every operation, with every station up to n and every number of sources up to n + 1.
-fn every_call(
+pub fn every_call(
     comparison: &mut Comparison,
     random: &mut Random,
     owned: &Owned,
@@ -181,7 +187,7 @@ fn every_call(
 }
 
 /// Next way on every buffer of T positions, one of them no record's, for every pair.
-fn every_buffer(
+pub fn every_buffer(
     comparison: &mut Comparison,
     random: &mut Random,
     owned: &Owned,
@@ -201,7 +207,7 @@ fn every_buffer(
 }
 
 /// Through set on every set, for every pair.
-fn every_set(
+pub fn every_set(
     comparison: &mut Comparison,
     random: &mut Random,
     owned: &Owned,
@@ -221,6 +227,11 @@ fn every_set(
 /// A turnaround: mostly 1, some in their limits, some outside of them.
 fn any_turnaround(random: &mut Random) -> usize {
     [1, 1, 1, 1, 2, 3, 16, 0, 17][random.below(9)]
+}
+
+/// An h: mostly 255, some small, some outside of its limits or below most turnarounds.
+fn any_keeping(random: &mut Random) -> usize {
+    [KEPT, KEPT, KEPT, KEPT, 1, 2, 3, 0, 256][random.below(9)]
 }
 
 /// The operations, from 0 to 1 and with a number of sources drawn.
@@ -249,7 +260,7 @@ fn every_size(comparison: &mut Comparison, random: &mut Random) -> Result<(), Di
                     stations,
                     slots,
                     turnaround: any_turnaround(random),
-                    keeping: KEPT,
+                    keeping: any_keeping(random),
                 };
                 each_operation(comparison, random, input)?;
             }
@@ -284,6 +295,7 @@ fn every_sequence(comparison: &mut Comparison, random: &mut Random) -> Result<()
     }
     for records in plans {
         let owned = Owned::new(3, 2, &records).turning(any_turnaround(random));
+        let owned = owned.keeping_for(any_keeping(random));
         each_operation(comparison, random, owned.input())?;
     }
     Ok(())
@@ -298,7 +310,7 @@ fn every_length(comparison: &mut Comparison, random: &mut Random) -> Result<(), 
             stations: 5,
             slots: 4,
             turnaround: any_turnaround(random),
-            keeping: KEPT,
+            keeping: any_keeping(random),
         };
         each_operation(comparison, random, input)?;
     }

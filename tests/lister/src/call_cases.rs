@@ -2,14 +2,19 @@
 
 use crate::files::case_bytes;
 use crate::means::Counting;
-use crate::plan::{PlanInput, KEPT};
+use crate::plan::PlanInput;
 
 /// What a case runs.
 pub trait Called: Copy {
     /// Its kind in a program that runs several operations; none where the program runs it alone.
     fn kind(self) -> Option<u16>;
 
-    /// The numbers behind g in the head of a case: stations, 0 for one that the operation does not name, or
+    /// Whether the head of a case has h behind g; foremost takes none.
+    fn has_keeping(self) -> bool {
+        true
+    }
+
+    /// The numbers behind g and h in the head of a case: stations, 0 for one that the operation does not name, or
     /// the four parts of 16 bits of partial loads' k, the high one first.
     fn words(self) -> Vec<u16>;
 
@@ -28,6 +33,8 @@ pub struct CallCase<O, const TABLES: usize> {
     pub slots: u16,
     /// g; row takes none.
     pub turnaround: u16,
+    /// h; row and foremost take none.
+    pub keeping: u16,
     pub bytes: Vec<u8>,
     /// What the tables hold before the call.
     pub mark: u16,
@@ -63,6 +70,11 @@ impl<O: Called, const TABLES: usize> CallCase<O, TABLES> {
         CallCase { turnaround, ..self }
     }
 
+    /// The case with another h.
+    pub fn keeping_for(self, keeping: u16) -> Self {
+        CallCase { keeping, ..self }
+    }
+
     /// The case with another mark.
     pub fn marked(self, mark: u16) -> Self {
         CallCase { mark, ..self }
@@ -82,7 +94,7 @@ impl<O: Called, const TABLES: usize> CallCase<O, TABLES> {
             stations: self.stations.into(),
             slots: self.slots.into(),
             turnaround: self.turnaround.into(),
-            keeping: KEPT,
+            keeping: self.keeping.into(),
         }
     }
 
@@ -92,13 +104,14 @@ impl<O: Called, const TABLES: usize> CallCase<O, TABLES> {
         tables.map(|table| self.lengths[table]).collect()
     }
 
-    /// The bytes on standard input: the kind, n, T, g, the numbers behind g, the length of the plan, the length
-    /// of the label and the mark; the lengths; the label; the plan. Where there is no kind, only the
+    /// The bytes on standard input: the kind, n, T, g, h, the numbers behind them, the length of the plan, the
+    /// length of the label and the mark; the lengths; the label; the plan. Where there is no kind, only the
     /// operation's tables have a length.
     pub fn stdin_bytes(&self) -> Vec<u8> {
         let kind = self.operation.kind();
         let mut words = Vec::from_iter(kind);
         words.extend([self.stations, self.slots, self.turnaround]);
+        words.extend(self.operation.has_keeping().then_some(self.keeping));
         words.extend(self.operation.words());
         words.extend([self.bytes.len(), self.label.len()].map(|length| length as u16));
         words.push(self.mark);

@@ -28,16 +28,17 @@ const USAGE: &str = "usage:
   lister foremost-cases DIR      write DIR/stdin and DIR/stdout, cases of foremost
   lister partial-cases DIR       write DIR/stdin and DIR/stdout, cases of partial loads
   lister verdict-cases DIR       write DIR/stdin and DIR/stdout, cases of the verdict
-  lister show n T g s z < plan
-      hops, count, through counts and shortest paths of s, z with turnaround g
+  lister show n T g h s z < plan
+      hops, count, through counts and shortest walks of s, z with turnaround g, where a reading is kept for h slots
   lister foremost n T g s z < plan
       slot, hops, count, through counts and shortest foremost paths of s, z
-  lister reach n T g s < plan    hops and count of each station from s, and the stations' rows
-  lister loads n T g < plan      pairs and load of each station
-  lister partial n T g k < plan  the same over the sources below k, and what the loads may be more
-  lister set n T g s z V.. < plan
-      how many shortest paths of s, z have one of the stations V interior
-  lister verdict n T g s z P.. < plan
+  lister reach n T g h s < plan  hops and count of each station from s, and the stations' rows
+  lister loads n T g h < plan    pairs and load of each station
+  lister partial n T g h k < plan
+      the same over the sources below k, and what the loads may be more
+  lister set n T g h s z V.. < plan
+      how many shortest walks of s, z have one of the stations V interior
+  lister verdict n T g h s z P.. < plan
       the verdict on the list of positions P";
 
 fn main() -> ExitCode {
@@ -60,20 +61,25 @@ fn run(words: &[&str]) -> Result<(), String> {
         ["foremost-cases", directory] => write_files(directory, &foremost_cases::all_cases()),
         ["partial-cases", directory] => write_files(directory, &partial_cases::all_cases()),
         ["verdict-cases", directory] => write_files(directory, &verdict_cases::all_cases()),
-        [word @ ("show" | "foremost"), n, t, g, source, destination] => {
+        ["show", n, t, g, h, source, destination] => {
             let ends = (decimal(source)?, decimal(destination)?);
-            let text = match *word {
-                "show" => pair_text,
-                _ => foremost_text,
-            };
-            print_for_plan([n, t, g], |input| text_of(text(input, ends)))
+            print_for_plan([n, t, g, h], |input| text_of(pair_text(input, ends)))
         }
-        ["loads", n, t, g] => print_for_plan([n, t, g], |input| text_of(loads_text(LISTED, input))),
-        ["partial", n, t, g, sources] => {
+        ["foremost", n, t, g, source, destination] => {
+            let ends = (decimal(source)?, decimal(destination)?);
+            let kept = KEPT.to_string();
+            print_for_plan([n, t, g, &kept], |input| {
+                text_of(foremost_text(input, ends))
+            })
+        }
+        ["loads", n, t, g, h] => {
+            print_for_plan([n, t, g, h], |input| text_of(loads_text(LISTED, input)))
+        }
+        ["partial", n, t, g, h, sources] => {
             let sources = decimal(sources)?;
-            print_for_plan([n, t, g], |input| text_of(partial_text(input, sources)))
+            print_for_plan([n, t, g, h], |input| text_of(partial_text(input, sources)))
         }
-        [word @ ("set" | "verdict"), n, t, g, source, destination, further @ ..] => {
+        [word @ ("set" | "verdict"), n, t, g, h, source, destination, further @ ..] => {
             let ends = (decimal(source)?, decimal(destination)?);
             let further: Vec<usize> = further
                 .iter()
@@ -83,11 +89,11 @@ fn run(words: &[&str]) -> Result<(), String> {
                 "set" => set_text,
                 _ => verdict_text,
             };
-            print_for_plan([n, t, g], |input| text_of(text(input, ends, &further)))
+            print_for_plan([n, t, g, h], |input| text_of(text(input, ends, &further)))
         }
-        ["reach", n, t, g, source] => {
+        ["reach", n, t, g, h, source] => {
             let source = decimal(source)?;
-            print_for_plan([n, t, g], |input| text_of(reach_text(input, source)))
+            print_for_plan([n, t, g, h], |input| text_of(reach_text(input, source)))
         }
         _ => Err(USAGE.to_string()),
     }
@@ -109,16 +115,20 @@ fn standard_input() -> Result<Vec<u8>, String> {
     Ok(bytes)
 }
 
-/// Prints the text of a call on the plan of standard input, with n, T and g from words.
-fn print_for_plan([n, t, g]: [&str; 3], text: impl Fn(PlanInput) -> String) -> Result<(), String> {
-    let (stations, slots, turnaround) = (decimal(n)?, decimal(t)?, decimal(g)?);
+/// Prints the text of a call on the plan of standard input, with n, T, g and h from words.
+fn print_for_plan(
+    [n, t, g, h]: [&str; 4],
+    text: impl Fn(PlanInput) -> String,
+) -> Result<(), String> {
+    let (stations, slots) = (decimal(n)?, decimal(t)?);
+    let (turnaround, keeping) = (decimal(g)?, decimal(h)?);
     let bytes = standard_input()?;
     let input = PlanInput {
         bytes: &bytes,
         stations,
         slots,
         turnaround,
-        keeping: KEPT,
+        keeping,
     };
     print!("{}", text(input));
     Ok(())

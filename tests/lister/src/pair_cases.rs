@@ -1,7 +1,7 @@
 //! Cases for a program that runs operations 4 to 6, pair, loads and busiest, on cases from standard
 //! input.
 //!
-//! A case on standard input: the kind (0 pair, 1 loads, 2 busiest), n, T, g, the source, the
+//! A case on standard input: the kind (0 pair, 1 loads, 2 busiest), n, T, g, h, the source, the
 //! destination, the length of the plan, the length of the label and a mark, each 16 bits, high byte
 //! first; three lengths of 32 bits, high byte first; then the label; then the plan. The lengths are
 //! the lent entries of the first table (through counts or pairs), of the second (loads) and of the
@@ -22,6 +22,7 @@ mod limits;
 mod refusals;
 mod shares;
 mod small;
+mod stale;
 mod ties;
 mod turnarounds;
 
@@ -39,7 +40,7 @@ use crate::plans::{pairs, Owned};
 use crate::reach_cases::{counts_text, Builder};
 
 pub use ladders::cases as ladder_cases;
-pub use limits::{cases as limit_cases, dense, BLOCKS};
+pub use limits::{cases as limit_cases, counted_where_large, dense, BLOCKS};
 pub use refusals::cases as refusal_cases;
 pub use shares::{cases as share_cases, mixed_ladders, MixedLadder};
 pub use small::{cases as small_cases, checked_plans, small_plans};
@@ -95,6 +96,10 @@ impl Called for Operation {
             Operation::Busiest => Some(2),
             Operation::Foremost(..) | Operation::PartialLoads(_) => None,
         }
+    }
+
+    fn has_keeping(self) -> bool {
+        !matches!(self, Operation::Foremost(..))
     }
 
     fn words(self) -> Vec<u16> {
@@ -206,6 +211,8 @@ pub struct LabelledPlan {
     pub sizes: (u16, u16),
     /// g
     pub turnaround: u16,
+    /// h
+    pub keeping: u16,
     pub bytes: Vec<u8>,
     pub counting: Counting,
 }
@@ -217,6 +224,7 @@ impl LabelledPlan {
             label: label.to_string(),
             sizes,
             turnaround: LEAST_TURNAROUND as u16,
+            keeping: KEPT as u16,
             bytes,
             counting: Counting::Listed,
         }
@@ -238,6 +246,11 @@ impl LabelledPlan {
         LabelledPlan { turnaround, ..self }
     }
 
+    /// The plan of units that drop a reading so many slots after hearing it.
+    pub fn keeping_for(self, keeping: u16) -> LabelledPlan {
+        LabelledPlan { keeping, ..self }
+    }
+
     /// The plan without its label.
     pub fn owned(&self) -> Owned {
         let (stations, slots) = self.sizes;
@@ -246,7 +259,7 @@ impl LabelledPlan {
             stations: stations.into(),
             slots: slots.into(),
             turnaround: self.turnaround.into(),
-            keeping: KEPT,
+            keeping: self.keeping.into(),
         }
     }
 
@@ -267,6 +280,7 @@ impl LabelledPlan {
             stations,
             slots,
             turnaround: self.turnaround,
+            keeping: self.keeping,
             bytes: self.bytes.clone(),
             mark: 999,
             lengths: operation.named(self.sizes),
@@ -318,6 +332,7 @@ pub fn all_cases() -> Vec<Case> {
         shares::cases(),
         small::cases(),
         turnarounds::cases(),
+        stale::cases(),
     ]
     .concat()
 }

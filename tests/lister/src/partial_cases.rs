@@ -1,6 +1,6 @@
 //! Cases for a program that runs partial loads on cases from standard input.
 //!
-//! A case on standard input: n, T and g, each 16 bits, high byte first; k, 64 bits, high byte first; the
+//! A case on standard input: n, T, g and h, each 16 bits, high byte first; k, 64 bits, high byte first; the
 //! length of the plan, the length of the label and a mark, each 16 bits, high byte first; three lengths of
 //! 32 bits, high byte first; then the label; then the plan. The lengths are the lent entries of the table
 //! of pairs, of the table of loads and of the scratch; all of them hold the mark before the call.
@@ -13,6 +13,7 @@ mod examples;
 mod limits;
 mod refusals;
 mod small;
+mod stale;
 mod too_many;
 
 use crate::pair_cases::{
@@ -81,6 +82,7 @@ pub fn all_cases() -> Vec<Case> {
         limits::cases(),
         calls_of_loads(),
         small::cases(),
+        stale::cases(),
     ]
     .concat()
 }

@@ -15,6 +15,8 @@ pub const LEAST_TURNAROUND: usize = 1;
 pub const MOST_TURNAROUND: usize = 16;
 /// The g of a call of check or row, which take none.
 pub const NO_TURNAROUND: usize = 0;
+/// The h of a case of row, which takes none.
+pub const NO_KEEPING: usize = 0;
 /// The h of units that keep a reading until the plan ends, since no T is larger; also the largest h.
 pub const KEPT: usize = 255;
 /// The bytes of one record.

@@ -1,9 +1,10 @@
 //! Cases for a program that runs operations 2 and 3, reach and row, on cases from standard input.
 //!
-//! A case on standard input: the kind (0 reach, 1 row), n, T, g, the source or the station, the length
-//! of the plan, the length of the label and a mark, each 16 bits, high byte first; four lengths of
+//! A case on standard input: the kind (0 reach, 1 row), n, T, g, h, the source or the station, the
+//! length of the plan, the length of the label and a mark, each 16 bits, high byte first; four lengths of
 //! 32 bits, high byte first; then the label; then the plan. The lengths are the lent entries of
-//! reach's four tables; row's table has the second. Row takes no g; its cases have 0 in that place.
+//! reach's four tables; row's table has the second. Row takes neither g nor h; its cases have 0 in
+//! these places.
 //!
 //! The expected output has one line a case: the label, a colon, a space, and the number. For reach
 //! the lent tables follow, which hold the mark before the call, each behind " |". A run of one value
@@ -17,6 +18,7 @@ mod limits;
 mod refusals;
 mod rows;
 mod small;
+mod stale;
 mod turnarounds;
 
 use crate::answer::number;
@@ -24,7 +26,7 @@ use crate::call_cases::{CallCase, Called};
 use crate::cases::{plan_bytes, Record};
 use crate::files::Filed;
 use crate::means::Counting;
-use crate::plan::{LEAST_TURNAROUND, NO_TURNAROUND};
+use crate::plan::{KEPT, LEAST_TURNAROUND, NO_KEEPING, NO_TURNAROUND};
 use crate::reach::{reach_named, Tables};
 use crate::row::{row, row_number};
 use crate::shortest::NO_WALK;
@@ -84,6 +86,7 @@ impl Case {
             stations,
             slots,
             turnaround: LEAST_TURNAROUND as u16,
+            keeping: KEPT as u16,
             bytes,
             mark: 999,
             lengths: reach_named(stations.into(), slots.into()),
@@ -102,6 +105,7 @@ impl Case {
         Case {
             operation: Operation::Row(station),
             turnaround: NO_TURNAROUND as u16,
+            keeping: NO_KEEPING as u16,
             mark: 0,
             lengths: [0, length, 0, 0],
             ..Case::on_bytes(label, sizes, Vec::new(), station)
@@ -222,6 +226,7 @@ pub fn all_cases() -> Vec<Case> {
         exact::cases(),
         small::cases(),
         turnarounds::cases(),
+        stale::cases(),
     ]
     .concat()
 }

@@ -1,6 +1,6 @@
 //! Cases for a program that runs through set on cases from standard input.
 //!
-//! A case on standard input: n, T, g, the source, the destination, the length of the plan, the length
+//! A case on standard input: n, T, g, h, the source, the destination, the length of the plan, the length
 //! of the label, a mark and the length of the set, each 16 bits, high byte first; the lent entries of
 //! the scratch, 32 bits, high byte first; then the label, the plan and the set. The scratch holds the
 //! mark before the call.
@@ -14,6 +14,7 @@ mod ladders;
 mod limits;
 mod refusals;
 mod small;
+mod stale;
 mod turnarounds;
 
 use crate::answer::{beside, number};
@@ -21,7 +22,7 @@ use crate::files::{case_bytes, Filed};
 use crate::lent::scratch_length;
 use crate::means::Counting;
 use crate::pair_cases::LabelledPlan;
-use crate::plan::{Ends, PlanInput, KEPT};
+use crate::plan::{Ends, PlanInput};
 use crate::reach_cases::counts_text;
 use crate::sets::set_of;
 
@@ -44,6 +45,8 @@ pub struct Case {
     pub slots: u16,
     /// g
     pub turnaround: u16,
+    /// h
+    pub keeping: u16,
     pub bytes: Vec<u8>,
     pub source: u16,
     pub destination: u16,
@@ -88,6 +91,7 @@ impl LabelledPlan {
             stations,
             slots,
             turnaround: self.turnaround,
+            keeping: self.keeping,
             bytes: self.bytes.clone(),
             source,
             destination,
@@ -156,7 +160,7 @@ impl Case {
             stations: self.stations.into(),
             slots: self.slots.into(),
             turnaround: self.turnaround.into(),
-            keeping: KEPT,
+            keeping: self.keeping.into(),
         }
     }
 
@@ -187,7 +191,7 @@ impl Filed for Case {
     fn stdin(&self) -> Vec<u8> {
         let [plan, label, set] =
             [self.bytes.len(), self.label.len(), self.set.len()].map(|length| length as u16);
-        let sizes = [self.stations, self.slots, self.turnaround];
+        let sizes = [self.stations, self.slots, self.turnaround, self.keeping];
         let ends = [self.source, self.destination];
         let words = [&sizes[..], &ends, &[plan, label, self.mark, set]].concat();
         let mut bytes = case_bytes(&words, &[self.scratch], &self.label, &self.bytes);
@@ -218,6 +222,7 @@ pub fn all_cases() -> Vec<Case> {
         ladders::cases(),
         small::cases(),
         turnarounds::cases(),
+        stale::cases(),
     ]
     .concat()
 }

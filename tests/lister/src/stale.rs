@@ -1,12 +1,67 @@
-//! Small plans whose units drop readings: some with their shortest walks from the first station to the last,
-//! all plans of a detour, drawn ones, and ladders with cause 9 for some h alone.
+//! Plans whose units drop readings: small ones with their shortest walks from the first station to the last, all
+//! plans of a detour, one detour with T around h, drawn plans, one with a detour for each two stations, and
+//! ladders with cause 9 for some h alone; and g and h in their limits and outside of them.
 
-use crate::cases::{valid_records, Record};
+use crate::cases::{valid_records, Record, PLAN_A};
 use crate::one_way::WalkList;
-use crate::plan::LEAST_TURNAROUND;
-use crate::plans::{subsets, Owned};
+use crate::pair_cases::{counted_where_large, LabelledPlan};
+use crate::plan::{read, LEAST_TURNAROUND, MOST_SLOTS};
+use crate::plans::{pairs, subsets, Owned};
 use crate::random::Random;
 use crate::reach_cases::Builder;
+use crate::shortest::shortest_walks;
+use crate::walk::walks_from;
+
+/// g and h in their limits.
+pub const KNOWN_TERMS: [(u16, u16); 9] = [
+    (1, 1),
+    (1, 2),
+    (1, 3),
+    (1, 4),
+    (2, 2),
+    (2, 3),
+    (16, 16),
+    (1, 254),
+    (16, 255),
+];
+/// g in its limits, and h below g or above 255; some h are in their limits in their low bits alone.
+pub const WRONG_TERMS: [(u16, u16); 10] = [
+    (1, 0),
+    (2, 0),
+    (2, 1),
+    (3, 2),
+    (16, 15),
+    (1, 256),
+    (1, 257),
+    (2, 258),
+    (16, 272),
+    (3, 65535),
+];
+/// g outside of its limits, and h inside or outside of its own.
+pub const WRONG_TURNAROUND_TERMS: [(u16, u16); 5] =
+    [(0, 0), (0, 256), (17, 16), (17, 255), (65535, 0)];
+
+/// The end of a label: g and h.
+pub fn terms_text((turnaround, keeping): (u16, u16)) -> String {
+    format!("g {turnaround}, h {keeping}")
+}
+
+/// The plan of records with g and h, which its label names.
+pub fn with_terms(
+    label: &str,
+    sizes: (u16, u16),
+    records: &[Record],
+    terms: (u16, u16),
+) -> LabelledPlan {
+    let label = format!("{label}, {}", terms_text(terms));
+    let plan = LabelledPlan::of_records(&label, sizes, records);
+    plan.turning(terms.0).keeping_for(terms.1)
+}
+
+/// Plan A with g and h, which its label names.
+pub fn plan_a(label: &str, terms: (u16, u16)) -> LabelledPlan {
+    with_terms(label, (5, 4), &PLAN_A, terms)
+}
 
 /// A plan, g and h, and the shortest walks from the first station to the last.
 #[derive(Clone, Copy, Debug)]
@@ -35,6 +90,21 @@ impl StalePlan {
         plan.turning(turnaround).keeping_for(keeping)
     }
 
+    pub fn labelled(&self) -> LabelledPlan {
+        let narrow = |(one, other): (usize, usize)| (one as u16, other as u16);
+        with_terms(
+            self.label,
+            narrow(self.sizes),
+            self.records,
+            narrow(self.terms),
+        )
+    }
+
+    /// Whether some walk calls twice at a station.
+    pub fn calls_twice(&self) -> bool {
+        self.products != self.through
+    }
+
     /// The last station.
     pub fn last(&self) -> usize {
         self.sizes.0 - 1
@@ -55,9 +125,9 @@ pub const TWO_DETOURS: [Record; 6] = [
 ];
 
 /// Plans by hand.
-pub const STALE_PLANS: [StalePlan; 19] = [
+pub const STALE_PLANS: [StalePlan; 20] = [
     StalePlan {
-        label: "one slot: the walk calls twice at 1, and there is no path",
+        label: "twice at 1, no path",
         sizes: (4, 4),
         terms: (1, 1),
         records: &DETOUR,
@@ -67,7 +137,7 @@ pub const STALE_PLANS: [StalePlan; 19] = [
         products: &[0, 2, 1, 0],
     },
     StalePlan {
-        label: "two slots, T = h + 2: the walk calls twice at 1",
+        label: "twice at 1, T = h + 2",
         sizes: (4, 4),
         terms: (1, 2),
         records: &DETOUR,
@@ -77,7 +147,7 @@ pub const STALE_PLANS: [StalePlan; 19] = [
         products: &[0, 2, 1, 0],
     },
     StalePlan {
-        label: "three slots, T = h + 1: nothing is dropped",
+        label: "nothing dropped, T = h + 1",
         sizes: (4, 4),
         terms: (1, 3),
         records: &DETOUR,
@@ -87,7 +157,7 @@ pub const STALE_PLANS: [StalePlan; 19] = [
         products: &[0, 1, 0, 0],
     },
     StalePlan {
-        label: "T = h",
+        label: "nothing dropped, T = h",
         sizes: (4, 4),
         terms: (1, 4),
         records: &DETOUR,
@@ -97,7 +167,7 @@ pub const STALE_PLANS: [StalePlan; 19] = [
         products: &[0, 1, 0, 0],
     },
     StalePlan {
-        label: "g = h = 2: the walk calls twice at 1",
+        label: "twice at 1, g = h",
         sizes: (4, 7),
         terms: (2, 2),
         records: &[(1, 0, 1), (3, 1, 2), (5, 2, 1), (7, 1, 3)],
@@ -107,7 +177,7 @@ pub const STALE_PLANS: [StalePlan; 19] = [
         products: &[0, 2, 1, 0],
     },
     StalePlan {
-        label: "one slot: the walk calls three times at 1 and twice at 2",
+        label: "three times at 1, twice at 2",
         sizes: (4, 6),
         terms: (1, 1),
         records: &TWO_DETOURS,
@@ -117,7 +187,33 @@ pub const STALE_PLANS: [StalePlan; 19] = [
         products: &[0, 3, 2, 0],
     },
     StalePlan {
-        label: "three slots: three walks with one detour",
+        label: "three times at 1, 2 and 3 in turn",
+        sizes: (5, 6),
+        terms: (1, 1),
+        records: &[
+            (1, 0, 1),
+            (2, 1, 2),
+            (2, 1, 3),
+            (3, 2, 1),
+            (3, 3, 1),
+            (4, 1, 2),
+            (4, 1, 3),
+            (5, 2, 1),
+            (5, 3, 1),
+            (6, 1, 4),
+        ],
+        there: &[
+            &[0, 1, 3, 5, 7, 9],
+            &[0, 1, 3, 6, 8, 9],
+            &[0, 2, 4, 5, 7, 9],
+            &[0, 2, 4, 6, 8, 9],
+        ],
+        kept: &[&[0, 9]],
+        through: &[0, 4, 3, 3, 0],
+        products: &[0, 12, 4, 4, 0],
+    },
+    StalePlan {
+        label: "three walks with one detour",
         sizes: (4, 6),
         terms: (1, 3),
         records: &TWO_DETOURS,
@@ -156,7 +252,7 @@ pub const STALE_PLANS: [StalePlan; 19] = [
         products: &[0, 2, 1, 1, 1, 1, 0],
     },
     StalePlan {
-        label: "a walk twice at 1 and a path once at 1",
+        label: "a walk twice and a path once at 1",
         sizes: (6, 4),
         terms: (1, 2),
         records: &[
@@ -174,7 +270,7 @@ pub const STALE_PLANS: [StalePlan; 19] = [
         products: &[0, 3, 1, 1, 1, 0],
     },
     StalePlan {
-        label: "a walk twice at 1, and a path with a hop more",
+        label: "twice at 1, a path a hop longer",
         sizes: (8, 5),
         terms: (1, 2),
         records: &[
@@ -194,7 +290,7 @@ pub const STALE_PLANS: [StalePlan; 19] = [
         products: &[0, 2, 1, 0, 0, 0, 0, 0],
     },
     StalePlan {
-        label: "1 hears with one hop, later with two, and sends what it heard first",
+        label: "1 sends what it heard first",
         sizes: (4, 4),
         terms: (1, 2),
         records: &[(1, 0, 1), (1, 0, 2), (2, 2, 1), (3, 1, 3), (4, 1, 3)],
@@ -214,7 +310,7 @@ pub const STALE_PLANS: [StalePlan; 19] = [
         products: &[0, 2, 0],
     },
     StalePlan {
-        label: "hops rise again: what 1 hears first is dropped",
+        label: "what 1 hears first is dropped",
         sizes: (4, 6),
         terms: (1, 2),
         records: &[(1, 0, 1), (3, 0, 2), (4, 2, 1), (5, 1, 3)],
@@ -252,7 +348,7 @@ pub const STALE_PLANS: [StalePlan; 19] = [
         products: &[0, 3, 0],
     },
     StalePlan {
-        label: "g = h = 3: one slot alone",
+        label: "one slot alone, g = h",
         sizes: (3, 7),
         terms: (3, 3),
         records: &[
@@ -270,7 +366,7 @@ pub const STALE_PLANS: [StalePlan; 19] = [
         products: &[0, 1, 0],
     },
     StalePlan {
-        label: "no walk: all is dropped",
+        label: "all is dropped, no walk",
         sizes: (3, 4),
         terms: (1, 2),
         records: &[(1, 0, 1), (4, 1, 2)],
@@ -280,7 +376,7 @@ pub const STALE_PLANS: [StalePlan; 19] = [
         products: &[0, 0, 0],
     },
     StalePlan {
-        label: "the source hears the reading again and is bound",
+        label: "the source hears its reading again",
         sizes: (3, 5),
         terms: (1, 1),
         records: &[(1, 0, 1), (2, 1, 0), (5, 0, 2)],
@@ -318,6 +414,75 @@ pub fn detours() -> Vec<Owned> {
     subsets(&AROUND_DETOURS).map(plan).collect()
 }
 
+/// Some of them, with each small g and h in turn.
+pub fn some_detours(step: usize) -> Vec<LabelledPlan> {
+    let terms = small_terms();
+    let plan = |(index, records): (usize, Vec<Record>)| {
+        let (turnaround, keeping) = terms[index % terms.len()];
+        let label = format!("detours {index}");
+        let terms = (turnaround as u16, keeping as u16);
+        with_terms(&label, (4, 8), &records, terms)
+    };
+    let chosen = subsets(&AROUND_DETOURS).skip(step - 1).step_by(step);
+    chosen.enumerate().map(plan).collect()
+}
+
+/// The h of `detours_around`.
+const AROUND: [u16; 7] = [2, 3, 4, 16, 253, 254, 255];
+
+/// From 0 to 1, to 2, back to 1 in slots 1 to 3 and to 3 in the last slot, with T = h, h + 1 and h + 2. In the
+/// last alone what 1 hears first is dropped.
+pub fn detours_around() -> Vec<LabelledPlan> {
+    let mut plans = Vec::new();
+    for keeping in AROUND {
+        for slots in (keeping..=keeping + 2).filter(|slots| (4..=MOST_SLOTS as u16).contains(slots))
+        {
+            let mut records = DETOUR;
+            records[3].0 = slots;
+            let label = format!("detour, T {slots}");
+            plans.push(with_terms(&label, (4, slots), &records, (1, keeping)));
+        }
+    }
+    plans
+}
+
+/// n, T, g and h at which the stations do not divide evenly into blocks, or into blocks of few: what is kept takes
+/// room of them.
+pub const STALE_BLOCKS: [(u16, u16, u16, u16); 10] = [
+    (8, 4, 1, 2),
+    (8, 5, 1, 3),
+    (10, 9, 2, 5),
+    (34, 8, 1, 4),
+    (34, 20, 1, 16),
+    (64, 23, 1, 4),
+    (64, 60, 16, 47),
+    (256, 64, 4, 16),
+    (256, 255, 16, 64),
+    (256, 255, 1, 253),
+];
+
+/// Plans of these sizes. The first station sends to every second one in slot 1; each of these sends to its
+/// neighbour and hears it g slots later, and sends to the last station h + 1 slots after slot 1. All stations
+/// between are in one walk, and each second one twice.
+pub fn stale_blocks() -> Vec<LabelledPlan> {
+    let plan = |(stations, slots, turnaround, keeping): (u16, u16, u16, u16)| {
+        let mut records = Vec::new();
+        for one in (1..stations - 1).step_by(2) {
+            records.extend([
+                (1, 0, one),
+                (1 + turnaround, one, one + 1),
+                (1 + 2 * turnaround, one + 1, one),
+                (keeping + 2, one, stations - 1),
+            ]);
+        }
+        records.sort_unstable();
+        let label = format!("blocks n {stations}, T {slots}");
+        let terms = (turnaround, keeping);
+        counted_where_large(with_terms(&label, (stations, slots), &records, terms))
+    };
+    STALE_BLOCKS.map(plan).to_vec()
+}
+
 /// A plan of up to 5 stations, 9 slots and 20 records, with small g and h drawn.
 pub fn random_stale_plan(random: &mut Random) -> Owned {
     let terms = small_terms();
@@ -327,6 +492,62 @@ pub fn random_stale_plan(random: &mut Random) -> Owned {
     let records = valid_records(random, stations, slots, wanted);
     let plan = Owned::new(stations, slots, &records);
     plan.turning(turnaround).keeping_for(keeping)
+}
+
+/// Whether some pair has a shortest walk that calls twice at a station.
+pub fn calls_twice(owned: &Owned) -> bool {
+    let plan = read(owned.input()).expect("a valid plan");
+    pairs(owned.stations).any(|(source, destination)| {
+        let walks = walks_from(&plan, source);
+        let shortest = shortest_walks(&walks, destination);
+        shortest.iter().any(|walk| !walk.is_path())
+    })
+}
+
+/// The seed of the drawn plans; each label names it.
+const SEED: u64 = 25;
+
+/// Drawn plans with small g and h. Of each two the second has a shortest walk that calls twice at a station.
+pub fn drawn_stale_plans(plans: usize) -> Vec<LabelledPlan> {
+    let mut random = Random::new(SEED);
+    let mut labelled = Vec::new();
+    while labelled.len() < plans {
+        let owned = random_stale_plan(&mut random);
+        let index = labelled.len();
+        if index % 2 == 0 || calls_twice(&owned) {
+            let [stations, slots, turnaround, keeping] =
+                [owned.stations, owned.slots, owned.turnaround, owned.keeping]
+                    .map(|number| number as u16);
+            let terms = terms_text((turnaround, keeping));
+            let label = format!("drawn stale {index}, seed {SEED}, {terms}");
+            let plan = LabelledPlan::new(&label, (stations, slots), owned.bytes);
+            labelled.push(plan.turning(turnaround).keeping_for(keeping));
+        }
+    }
+    labelled
+}
+
+/// Plans whose number from the first station depends on h: 9 or accepted. With h = 1 no reading crosses the gap;
+/// the short cut to layer 33 is there from h = 32 on.
+pub fn ladders_around() -> Vec<(LabelledPlan, u8)> {
+    let built = |label: &str, builder: &Builder, keeping: u16, number: u8| {
+        let label = format!("{label}, {}", terms_text((1, keeping)));
+        let plan = LabelledPlan::built(&label, builder).keeping_for(keeping);
+        (plan, number)
+    };
+    let gap = ladder_with_gap(65, 32);
+    let short_cut = ladder_with_short_cut(65, 33);
+    let whole = ladder_with_gap(65, 65);
+    let fits = ladder_with_gap(64, 64);
+    vec![
+        built("ladder with a gap", &gap, 1, 0),
+        built("ladder with a gap", &gap, 2, 9),
+        built("ladder with a short cut", &short_cut, 1, 9),
+        built("ladder with a short cut", &short_cut, 31, 9),
+        built("ladder with a short cut", &short_cut, 32, 0),
+        built("sent ladder of 65", &whole, 1, 9),
+        built("sent ladder of 64", &fits, 1, 0),
+    ]
 }
 
 /// A ladder of two stations a layer, a slot a layer; behind a layer one slot is left out.

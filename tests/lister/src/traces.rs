@@ -4,7 +4,7 @@ use crate::pair_cases::LabelledPlan;
 use crate::plan::Ends;
 use crate::plans::Owned;
 use crate::random::Random;
-use crate::way_cases::{mixed, other_turnarounds, Case};
+use crate::way_cases::{mixed, other_keepings, other_turnarounds, Case};
 
 /// Contents of a buffer: a path of the list, a path with one entry changed, or any numbers.
 pub fn contents(random: &mut Random, list: &[Vec<u16>], length: usize) -> Vec<u16> {
@@ -19,13 +19,14 @@ pub fn contents(random: &mut Random, list: &[Vec<u16>], length: usize) -> Vec<u1
     buffer
 }
 
-/// A trace on one pair: calls, refused calls, some with another turnaround, and writes behind the pair's
-/// hops.
+/// A trace on one pair: calls, refused calls, some with another g or h, and writes behind the pair's hops.
 pub fn random_trace(random: &mut Random, owned: &Owned, (source, destination): Ends) -> Case {
     let sizes = (owned.stations as u16, owned.slots as u16);
     let plan = LabelledPlan::new("", sizes, owned.bytes.clone());
     let plan = plan.turning(owned.turnaround as u16);
+    let plan = plan.keeping_for(owned.keeping as u16);
     let case = Case::on_plan(&plan, (source as u16, destination as u16));
     let case = mixed(random, case, 30);
-    other_turnarounds(random, case)
+    let case = other_turnarounds(random, case);
+    other_keepings(random, case)
 }

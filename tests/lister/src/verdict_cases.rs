@@ -1,6 +1,6 @@
 //! Cases for a program that runs the verdict on cases from standard input.
 //!
-//! A case on standard input: n, T, g, the source, the destination, the length of the plan, the length
+//! A case on standard input: n, T, g, h, the source, the destination, the length of the plan, the length
 //! of the label and a mark, each 16 bits, high byte first; the lent entries of the scratch, 32 bits,
 //! high byte first; the label; the plan; then the number of entries of the list, and these, each 16
 //! bits, high byte first. The scratch holds the mark before the call.
@@ -15,6 +15,7 @@ mod limits;
 mod long;
 mod refusals;
 mod small;
+mod stale;
 
 use crate::answer::number;
 use crate::call_cases::{CallCase, Called};
@@ -85,6 +86,7 @@ impl LabelledPlan {
             stations,
             slots,
             turnaround: self.turnaround,
+            keeping: self.keeping,
             bytes: self.bytes.clone(),
             mark: 999,
             lengths: [scratch_length(stations.into(), slots.into())],
@@ -193,6 +195,7 @@ pub fn all_cases() -> Vec<Case> {
         ladders::cases(),
         long::cases(),
         small::cases(),
+        stale::cases(),
     ]
     .concat()
 }

@@ -3,7 +3,7 @@
 //! A case on standard input: the length of the label, the number of its bytes of plans, the entries of
 //! the way buffer, the number of steps and a mark, each 16 bits, high byte first; then the label, the
 //! bytes of plans, the entries of the way buffer before the first step, and the steps. A step has
-//! nine numbers of 16 bits: the kind (0 first way, 1 next way, 2 the caller writes), n, T, g, source,
+//! ten numbers of 16 bits: the kind (0 first way, 1 next way, 2 the caller writes), n, T, g, h, source,
 //! destination, the first byte of the plan, its length, the lent entries of the way buffer; and one of
 //! 32 bits, the lent entries of the scratch. A write has the entry for n and the value for T.
 //!
@@ -17,6 +17,7 @@ mod layered;
 mod limits;
 mod refusals;
 mod small;
+mod stale;
 mod starts;
 mod turnarounds;
 
@@ -36,6 +37,7 @@ use crate::ways::{accepted_plan, walks_of_call, Found, Way, WayCall};
 
 pub use ladders::{ladder_path, sent_ladder_path};
 pub use small::mixed;
+pub use stale::other_keepings;
 pub use turnarounds::other_turnarounds;
 
 /// The longest label, in bytes.
@@ -56,6 +58,8 @@ pub struct Arguments {
     pub slots: u16,
     /// g
     pub turnaround: u16,
+    /// h
+    pub keeping: u16,
     pub source: u16,
     pub destination: u16,
     /// The first byte of the plan.
@@ -75,13 +79,24 @@ impl Arguments {
                 stations: self.stations.into(),
                 slots: self.slots.into(),
                 turnaround: self.turnaround.into(),
-                keeping: KEPT,
+                keeping: self.keeping.into(),
             },
             source: self.source.into(),
             destination: self.destination.into(),
             buffer_length: self.buffer_length.into(),
             scratch_length: self.scratch_length,
         }
+    }
+
+    /// Whether a call of a mixed trace has a cause other than 9 and 10: it is not the pair's, or lends too little.
+    fn is_refused(self, pair: Arguments) -> bool {
+        let named = Arguments {
+            buffer_length: self.buffer_length,
+            scratch_length: self.scratch_length,
+            ..pair
+        };
+        let short = self.buffer_length < pair.slots || self.scratch_length < pair.scratch_length;
+        self != named || short
     }
 }
 
@@ -162,6 +177,7 @@ impl Case {
             stations,
             slots,
             turnaround: LEAST_TURNAROUND as u16,
+            keeping: KEPT as u16,
             source,
             destination,
             plan_from: 0,
@@ -197,12 +213,13 @@ impl Case {
         Case::on_bytes(label, sizes, plan_bytes(records), stations)
     }
 
-    /// A trace without steps on a plan and its turnaround; the plain lister gives its list.
+    /// A trace without steps on a plan and its g and h; the plain lister gives its list.
     pub fn on_plan(plan: &LabelledPlan, (source, destination): (u16, u16)) -> Case {
         let label = format!("{}, {source} to {destination}", plan.label);
         let bytes = plan.bytes.clone();
         let mut case = Case::unlisted(&label, plan.sizes, bytes, (source, destination));
         case.pair.turnaround = plan.turnaround;
+        case.pair.keeping = plan.keeping;
         case.listed()
     }
 
@@ -359,7 +376,7 @@ impl Filed for Case {
 /// The bytes of a step.
 fn step_bytes(step: &Step) -> Vec<u8> {
     let (words, scratch_length) = match step {
-        Step::Write(entry, value) => ([2, *entry, *value, 0, 0, 0, 0, 0, 0], 0),
+        Step::Write(entry, value) => ([2, *entry, *value, 0, 0, 0, 0, 0, 0, 0], 0),
         Step::Call(way, call) => {
             let words = [
                 match way {
@@ -369,6 +386,7 @@ fn step_bytes(step: &Step) -> Vec<u8> {
                 call.stations,
                 call.slots,
                 call.turnaround,
+                call.keeping,
                 call.source,
                 call.destination,
                 call.plan_from,
@@ -392,6 +410,7 @@ pub fn all_cases() -> Vec<Case> {
         layered::cases(),
         small::cases(),
         turnarounds::cases(),
+        stale::cases(),
     ]
     .concat()
 }

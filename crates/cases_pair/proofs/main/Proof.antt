@@ -8,7 +8,7 @@ use Rattle.cases_pair.proofs.main.Tie as tie
 
 abbrev Inv-loop : tie.InvT-loop
 Inv-loop head₀ label₀ plan₀ first₀ second₀ work₀ left₀ head label plan first second work left =
-    (30 ≡ length head) × (64 ≡ length label) × (49200 ≡ length plan) × (320 ≡ length first)
+    (32 ≡ length head) × (64 ≡ length label) × (49200 ≡ length plan) × (320 ≡ length first)
     × (320 ≡ length second) × (262200 ≡ length work)
 
 abbrev μ-loop : tie.MeasureT-loop

@@ -8,7 +8,7 @@ use Rattle.cases_partial.proofs.main.Tie as tie
 
 abbrev Inv-loop : tie.InvT-loop
 Inv-loop head₀ label₀ plan₀ pairs₀ sums₀ work₀ left₀ head label plan pairs sums work left =
-    (32 ≡ length head) × (64 ≡ length label) × (49200 ≡ length plan) × (320 ≡ length pairs) × (320 ≡ length sums) × (262200 ≡ length work)
+    (34 ≡ length head) × (64 ≡ length label) × (49200 ≡ length plan) × (320 ≡ length pairs) × (320 ≡ length sums) × (262200 ≡ length work)
 
 abbrev μ-loop : tie.MeasureT-loop
 μ-loop head₀ label₀ plan₀ pairs₀ sums₀ work₀ left₀ head label plan pairs sums work left = left

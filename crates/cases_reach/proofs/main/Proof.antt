@@ -8,7 +8,7 @@ use Rattle.cases_reach.proofs.main.Tie as tie
 
 abbrev Inv-loop : tie.InvT-loop
 Inv-loop head₀ label₀ plan₀ hops₀ counts₀ sh₀ sc₀ left₀ head label plan hops counts sh sc left =
-    (32 ≡ length head) × (64 ≡ length label) × (49200 ≡ length plan) × (65600 ≡ length hops)
+    (34 ≡ length head) × (64 ≡ length label) × (49200 ≡ length plan) × (65600 ≡ length hops)
     × (65600 ≡ length counts) × (320 ≡ length sh) × (320 ≡ length sc)
 
 abbrev μ-loop : tie.MeasureT-loop

@@ -8,7 +8,7 @@ use Rattle.cases_sets.proofs.main.Tie as tie
 
 abbrev Inv-loop : tie.InvT-loop
 Inv-loop head₀ label₀ plan₀ set₀ work₀ left₀ head label plan set work left =
-    (22 ≡ length head) × (80 ≡ length label) × (49200 ≡ length plan) × (320 ≡ length set) × (262200 ≡ length work)
+    (24 ≡ length head) × (80 ≡ length label) × (49200 ≡ length plan) × (320 ≡ length set) × (262200 ≡ length work)
 
 abbrev μ-loop : tie.MeasureT-loop
 μ-loop head₀ label₀ plan₀ set₀ work₀ left₀ head label plan set work left = left

@@ -8,7 +8,7 @@ use Rattle.cases_verdicts.proofs.main.Tie as tie
 
 abbrev Inv-loop : tie.InvT-loop
 Inv-loop head₀ label₀ plan₀ entries₀ list₀ work₀ left₀ head label plan entries list work left =
-    (20 ≡ length head) × (80 ≡ length label) × (49200 ≡ length plan) × (131070 ≡ length entries) × (65535 ≡ length list) × (262200 ≡ length work)
+    (22 ≡ length head) × (80 ≡ length label) × (49200 ≡ length plan) × (131070 ≡ length entries) × (65535 ≡ length list) × (262200 ≡ length work)
 
 abbrev μ-loop : tie.MeasureT-loop
 μ-loop head₀ label₀ plan₀ entries₀ list₀ work₀ left₀ head label plan entries list work left = left

@@ -9,7 +9,7 @@ use Rattle.cases_ways.proofs.main.Tie as tie
 abbrev Inv-loop : tie.InvT-loop
 Inv-loop head₀ label₀ plans₀ entries₀ step₀ way₀ work₀ left₀ head label plans entries step way work left =
     (10 ≡ length head) × (64 ≡ length label) × (49200 ≡ length plans) × (600 ≡ length entries)
-    × (22 ≡ length step) × (300 ≡ length way) × (262200 ≡ length work)
+    × (24 ≡ length step) × (300 ≡ length way) × (262200 ≡ length work)
 
 abbrev μ-loop : tie.MeasureT-loop
 μ-loop head₀ label₀ plans₀ entries₀ step₀ way₀ work₀ left₀ head label plans entries step way work left =

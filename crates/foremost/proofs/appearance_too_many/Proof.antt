@@ -1,12 +1,12 @@
 -- `foremost::appearance_too_many` meets its contract.
 -- Assumes nothing.
-use Rattle.foremost.proofs.WorkLaws.{appearances-met}
+use Rattle.foremost.proofs.WorkLaws.{appearances-pass, appearances-met}
 use borrow.Author.Needs.{needs}
 use Rattle.foremost.proofs.appearance_too_many.Statement.{statement}
 use Rattle.foremost.proofs.appearance_too_many.Tie as tie
 
 pass-until-requires : tie.Need-pass-until-requires
-pass-until-requires c κs = search needs
+pass-until-requires c κs = appearances-pass _ _ _ _ _ _ (c .before .before .before .pre)
 
 met-appearance-requires : tie.Need-met-appearance-requires
 met-appearance-requires c κs = search needs

@@ -1,6 +1,7 @@
 -- `foremost::foremost_throughs` meets its contract.
 -- Assumes nothing.
 use Rattle.foremost.proofs.WorkLaws.{whole-area, foremosts-over, foremosts-ready, foremosts-counted}
+use Rattle.temporal.proofs.PlanLaws.{kept-always}
 use borrow.Author.Needs.{needs}
 use Rattle.foremost.proofs.foremost_throughs.Statement.{statement}
 use Rattle.foremost.proofs.foremost_throughs.Tie as tie
@@ -15,7 +16,7 @@ returns : tie.Need-returns
 returns c = foremosts-over _ _ _ _ _ _ _ _ (c .before .before .before .before .before .before .before .before .pre) _ _ (c .before .before .before .appearance-too-many .ensures) (c .if1 .taken)
 
 throughs-requires : tie.Need-throughs-requires
-throughs-requires c κs = foremosts-ready _ _ _ _ _ _ _ _ (c .before .before .before .before .before .before .before .before .before .before .pre) _ _ (c .before .before .before .before .before .appearance-too-many .ensures)
+throughs-requires c κs = foremosts-ready _ _ _ _ _ _ _ _ (c .before .before .before .before .before .before .before .before .before .before .pre) _ _ (c .before .before .before .before .before .appearance-too-many .ensures) (kept-always _ _ _ (c .before .before .before .before .before .before .before .before .before .before .pre .accepted))
 
 same-length-2 : tie.Need-same-length-2
 same-length-2 c = search needs

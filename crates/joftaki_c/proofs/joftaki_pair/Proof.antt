@@ -7,8 +7,8 @@ use Rattle.joftaki_c.proofs.joftaki_pair.Tie as tie
 pair-requires : tie.Need-pair-requires
 pair-requires c κs = search needs
 
-enum-known-h : tie.Need-enum-known-h
-enum-known-h c = search needs
+enum-known-l : tie.Need-enum-known-l
+enum-known-l c = search needs
 
 enum-known-fault : tie.Need-enum-known-fault
 enum-known-fault c = search needs
@@ -25,7 +25,7 @@ same-length-2 c = search needs
 returns : tie.Need-returns
 returns c =
     let at = c .before .before .before .before .before .before .before in
-    rw (c .before .h .given .1) at (at .pair .ensures)
+    rw (c .before .l .given .1) at (at .pair .ensures)
 
 same-length-3 : tie.Need-same-length-3
 same-length-3 c = search needs
@@ -43,7 +43,7 @@ joftaki-pair-spec =
     tie.close
     (tie.spec
     pair-requires
-    enum-known-h
+    enum-known-l
     enum-known-fault
     fault-code-requires
     same-length

@@ -1,4 +1,5 @@
--- `joftaki_c::joftaki_partial_loads` meets its contract: the answer gives the number, and the tables are as `loads::partial_loads` leaves them.
+-- `joftaki_c::joftaki_partial_loads` meets its contract: the answer gives the number, and the tables are as `loads::partial_loads` leaves
+-- them.
 -- Assumes nothing.
 use borrow.Author.Needs.{needs}
 use Rattle.joftaki_c.proofs.joftaki_partial_loads.Statement.{statement}

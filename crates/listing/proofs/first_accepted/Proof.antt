@@ -1,10 +1,9 @@
--- `listing::first_accepted` meets its contract: a call that 12, 6, 7 or 8 refuses is passed on, any other does the work.
+-- `listing::first_accepted` meets its contract: a call that 12, 14, 6, 7 or 8 refuses is passed on, any other does the work.
 -- Assumes nothing.
 use mathlib.Core.Path.{sym, _∙_}
 use Rattle.temporal.specs.Cursor.{first-way}
 use Rattle.temporal.proofs.Accepted.{accepted}
 use Rattle.listing.proofs.CallLaws.{way-ready, way-works, way-call}
-use Rattle.temporal.proofs.PlanLaws.{kept-always}
 use borrow.Author.Needs.{needs}
 use Rattle.listing.proofs.first_accepted.Statement.{statement}
 use Rattle.listing.proofs.first_accepted.Tie as tie
@@ -19,7 +18,7 @@ enum-told : tie.Need-enum-told
 enum-told c = search needs
 
 first-cleared-requires : tie.Need-first-cleared-requires
-first-cleared-requires c κs = way-ready first-way _ _ _ (c .before .before .before .before .before .before .before .before .pre) _ (c .before .before .before .before .pair-call .ensures) (c .before .before .enum-told .given .1) (kept-always _ _ _ (c .before .before .before .before .before .before .before .before .pre))
+first-cleared-requires c κs = way-ready first-way _ _ _ (c .before .before .before .before .before .before .before .before .pre) _ (c .before .before .before .before .pair-call .ensures) (c .before .before .enum-told .given .1)
 
 same-length : tie.Need-same-length
 same-length c = search needs

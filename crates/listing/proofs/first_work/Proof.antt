@@ -1,4 +1,4 @@
--- `listing::first_work` meets its contract: 9, the empty list, or the first path.
+-- `listing::first_work` meets its contract: 9, the empty list, or the first walk.
 -- Assumes nothing.
 use Rattle.listing.specs.Answer.{question}
 use native.Mathlib.Omega.{arith}
@@ -9,7 +9,7 @@ use Rattle.listing.proofs.first_work.Statement.{statement}
 use Rattle.listing.proofs.first_work.Tie as tie
 
 pass-requires : tie.Need-pass-requires
-pass-requires c κs = pass-ready (question _ _ _ _ _ _) _ _ (c .before .before .before .before .pre)
+pass-requires c κs = pass-ready (question _ _ _ _ _ _ _) _ _ (c .before .before .before .before .pre)
 
 same-length : tie.Need-same-length
 same-length c = search needs
@@ -17,11 +17,11 @@ same-length c = search needs
 returns : tie.Need-returns
 returns c = worked-too-many _ _ _ (c .before .before .before .before .before .before .before .before .pre) _ _ (c .before .before .before .pass .ensures) _ (c .if1 .taken)
 
-mul-h : tie.Need-mul-h
-mul-h c = search needs
+mul-hops : tie.Need-mul-hops
+mul-hops c = search needs
 
-slice-read-h : tie.Need-slice-read-h
-slice-read-h c = search needs
+slice-read-hops : tie.Need-slice-read-hops
+slice-read-hops c = search needs
 
 same-length-2 : tie.Need-same-length-2
 same-length-2 c = search needs
@@ -34,7 +34,7 @@ complete-requires c κs = search needs
 
 first-path-requires : tie.Need-first-path-requires
 first-path-requires c κs =
-    ready-startable (question _ _ _ _ _ _) _ _ (c .before .before .before .before .before .before .before .before .before .before .before .before .before .before .before .before .pre) _ _ (c .before .before .before .before .before .before .before .before .before .before .before .pass .ensures) (c .before .before .before .before .before .before .before .before .if1 .left) _ refl
+    ready-startable (question _ _ _ _ _ _ _) _ _ (c .before .before .before .before .before .before .before .before .before .before .before .before .before .before .before .before .pre) _ _ (c .before .before .before .before .before .before .before .before .before .before .before .pass .ensures) (c .before .before .before .before .before .before .before .before .if1 .left) _ refl
     (λ e. c .before .before .before .before .before .before .if2 .left e) _ (c .before .before .before .before .complete .ensures)
 
 same-length-3 : tie.Need-same-length-3
@@ -55,8 +55,8 @@ first-work-spec =
     pass-requires
     same-length
     returns
-    mul-h
-    slice-read-h
+    mul-hops
+    slice-read-hops
     same-length-2
     returns-2
     complete-requires

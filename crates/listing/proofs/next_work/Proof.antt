@@ -1,4 +1,4 @@
--- `listing::next_work` meets its contract: 9, 10, the next path, or the last one.
+-- `listing::next_work` meets its contract: 9, 10, the next walk, or the last one.
 -- Assumes nothing.
 use Rattle.listing.specs.Answer.{question}
 use native.Mathlib.Omega.{arith}
@@ -9,7 +9,7 @@ use Rattle.listing.proofs.next_work.Statement.{statement}
 use Rattle.listing.proofs.next_work.Tie as tie
 
 pass-requires : tie.Need-pass-requires
-pass-requires c κs = pass-ready (question _ _ _ _ _ _) _ _ (c .before .before .before .before .pre)
+pass-requires c κs = pass-ready (question _ _ _ _ _ _ _) _ _ (c .before .before .before .before .pre)
 
 same-length : tie.Need-same-length
 same-length c = search needs
@@ -17,11 +17,11 @@ same-length c = search needs
 returns : tie.Need-returns
 returns c = worked-too-many _ _ _ (c .before .before .before .before .before .before .before .before .pre) _ _ (c .before .before .before .pass .ensures) _ (c .if1 .taken)
 
-mul-h : tie.Need-mul-h
-mul-h c = search needs
+mul-hops : tie.Need-mul-hops
+mul-hops c = search needs
 
-slice-read-h : tie.Need-slice-read-h
-slice-read-h c = search needs
+slice-read-hops : tie.Need-slice-read-hops
+slice-read-hops c = search needs
 
 same-length-2 : tie.Need-same-length-2
 same-length-2 c = search needs
@@ -31,7 +31,7 @@ returns-2 c = worked-no-offer _ _ _ (c .before .before .before .before .before .
 
 offered-requires : tie.Need-offered-requires
 offered-requires c κs =
-    ready-listable (question _ _ _ _ _ _) _ _ (c .before .before .before .before .before .before .before .before .before .before .before .pre) _ _ (c .before .before .before .before .before .before .pass .ensures) (c .before .before .before .if1 .left) _ refl
+    ready-listable (question _ _ _ _ _ _ _) _ _ (c .before .before .before .before .before .before .before .before .before .before .before .pre) _ _ (c .before .before .before .before .before .before .pass .ensures) (c .before .before .before .if1 .left) _ refl
     (λ e. c .before .if2 .left e)
 
 complete-requires : tie.Need-complete-requires
@@ -39,7 +39,7 @@ complete-requires c κs = search needs
 
 next-path-requires : tie.Need-next-path-requires
 next-path-requires c κs =
-    ready-continuable (question _ _ _ _ _ _) _ _ (c .before .before .before .before .before .before .before .before .before .before .before .before .before .before .before .before .before .before .before .pre) _ _ (c .before .before .before .before .before .before .before .before .before .before .before .before .before .before .pass .ensures) (c .before .before .before .before .before .before .before .before .before .before .before .if1 .left) _ refl
+    ready-continuable (question _ _ _ _ _ _ _) _ _ (c .before .before .before .before .before .before .before .before .before .before .before .before .before .before .before .before .before .before .before .pre) _ _ (c .before .before .before .before .before .before .before .before .before .before .before .before .before .before .pass .ensures) (c .before .before .before .before .before .before .before .before .before .before .before .if1 .left) _ refl
     (λ e. c .before .before .before .before .before .before .before .before .before .if2 .left e) _ (c .before .before .before .before .complete .ensures) (sym (c .before .before .before .before .before .before .before .offered .ensures) ∙ c .before .before .before .before .before .before .if3 .taken)
 
 same-length-3 : tie.Need-same-length-3
@@ -82,8 +82,8 @@ next-work-spec =
     pass-requires
     same-length
     returns
-    mul-h
-    slice-read-h
+    mul-hops
+    slice-read-hops
     same-length-2
     returns-2
     offered-requires

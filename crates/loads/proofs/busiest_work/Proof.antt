@@ -33,19 +33,19 @@ returns c =
 
 base-of-requires : tie.Need-base-of-requires
 base-of-requires c κs =
-    let a = accepted _ _ _ (c .before .before .before .before .before .before .before .pre .accepted) in (a .stations, a .some-slot, a .slots)
+    let a = accepted _ _ _ (c .before .before .before .before .before .before .before .pre .accepted) in (a .stations, a .slots)
 
 add-largest : tie.Need-add-largest
 add-largest c =
     omega
-    (arith, tally-room _ _ _ _ _ _ (c .before .before .before .before .before .before .before .before .before .pre .accepted) (c .before .base-of .ensures) (c .before .before .before .before .before .before .before .before .before .pre .area), c .before .before .before .before .before .before .before .before .before .good .0 .0)
+    (arith, tally-room _ _ _ _ (c .before .base-of .ensures) (c .before .before .before .before .before .before .before .before .before .pre .area), c .before .before .before .before .before .before .before .before .before .good .0 .0)
 
 largest-requires : tie.Need-largest-requires
 largest-requires c κs = (
   accepted _ _ _ (c .before .before .before .before .before .before .before .before .before .pre .accepted) .some-station,
   omega (
     arith,
-    tally-room _ _ _ _ _ _ (c .before .before .before .before .before .before .before .before .before .pre .accepted) (c .before .base-of .ensures) (c .before .before .before .before .before .before .before .before .before .pre .area),
+    tally-room _ _ _ _ (c .before .base-of .ensures) (c .before .before .before .before .before .before .before .before .before .pre .area),
     c .before .before .before .before .before .tally .ensures .same-length,
   ),
 )

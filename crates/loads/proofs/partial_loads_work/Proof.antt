@@ -45,22 +45,22 @@ returns c =
 
 base-of-requires : tie.Need-base-of-requires
 base-of-requires c κs =
-    let a = accepted _ _ _ (c .before .before .before .before .before .before .before .before .before .pre .accepted) in (a .stations, a .some-slot, a .slots)
+    let a = accepted _ _ _ (c .before .before .before .before .before .before .before .before .before .pre .accepted) in (a .stations, a .slots)
 
 copy-requires : tie.Need-copy-requires
 copy-requires c κs =
-    let room = tally-room _ _ _ _ _ _ (c .before .before .before .before .before .before .before .before .before .before .before .before .pre .accepted) (c .before .before .base-of .ensures) (c .before .before .before .before .before .before .before .before .before .before .before .before .pre .area) in
+    let room = tally-room _ _ _ _ (c .before .before .base-of .ensures) (c .before .before .before .before .before .before .before .before .before .before .before .before .pre .area) in
     let size = c .before .before .before .before .before .before .tally .ensures .same-length in
     record { source-room = omega arith; table-room = c .before .before .before .before .before .before .before .before .before .before .before .before .pre .pairs-room }
 
 add-copy : tie.Need-add-copy
 add-copy c =
     omega
-    (arith, tally-room _ _ _ _ _ _ (c .before .before .before .before .before .before .before .before .before .before .before .before .before .before .before .before .before .pre .accepted) (c .before .before .before .before .before .before .before .base-of .ensures) (c .before .before .before .before .before .before .before .before .before .before .before .before .before .before .before .before .before .pre .area), c .before .before .before .before .before .before .before .before .before .before .before .before .before .before .before .before .before .good .1 .1 .0 .0)
+    (arith, tally-room _ _ _ _ (c .before .before .before .before .before .before .before .base-of .ensures) (c .before .before .before .before .before .before .before .before .before .before .before .before .before .before .before .before .before .pre .area), c .before .before .before .before .before .before .before .before .before .before .before .before .before .before .before .before .before .good .1 .1 .0 .0)
 
 copy-requires-2 : tie.Need-copy-requires-2
 copy-requires-2 c κs =
-    let room = tally-room _ _ _ _ _ _ (c .before .before .before .before .before .before .before .before .before .before .before .before .before .before .before .before .before .pre .accepted) (c .before .before .before .before .before .before .before .base-of .ensures) (c .before .before .before .before .before .before .before .before .before .before .before .before .before .before .before .before .before .pre .area) in
+    let room = tally-room _ _ _ _ (c .before .before .before .before .before .before .before .base-of .ensures) (c .before .before .before .before .before .before .before .before .before .before .before .before .before .before .before .before .before .pre .area) in
     let size = c .before .before .before .before .before .before .before .before .before .before .before .tally .ensures .same-length in
     record { source-room = omega arith; table-room = c .before .before .before .before .before .before .before .before .before .before .before .before .before .before .before .before .before .pre .loads-room }
 

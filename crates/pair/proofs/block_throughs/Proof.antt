@@ -8,7 +8,7 @@ use Rattle.pair.proofs.block_throughs.Statement.{statement}
 use Rattle.pair.proofs.block_throughs.Tie as tie
 
 pass-until-requires : tie.Need-pass-until-requires
-pass-until-requires c κs = block-pass _ _ _ _ _ _ _ _ _ _ _ (c .before .before .before .before .pre)
+pass-until-requires c κs = block-pass _ _ _ _ _ _ _ _ _ _ _ _ (c .before .before .before .before .pre)
 
 settled-slot-requires : tie.Need-settled-slot-requires
 settled-slot-requires c κs = search needs
@@ -17,10 +17,10 @@ same-length : tie.Need-same-length
 same-length c = search needs
 
 returns : tie.Need-returns
-returns c = block-over _ _ _ _ _ _ _ _ _ _ _ (c .before .before .before .before .before .before .before .before .before .pre) _ _ (c .before .before .before .before .pass-until .ensures) (sym (c .before .settled-slot .ensures) ∙ omega arith)
+returns c = block-over _ _ _ _ _ _ _ _ _ _ _ _ (c .before .before .before .before .before .before .before .before .before .pre) _ _ (c .before .before .before .before .pass-until .ensures) (sym (c .before .settled-slot .ensures) ∙ omega arith)
 
 store-requires : tie.Need-store-requires
-store-requires c κs = block-store _ _ _ _ _ _ _ _ _ _ _ (c .before .before .before .before .before .before .before .before .before .before .before .pre) _ _ (c .before .before .before .before .before .before .pass-until .ensures) (λ q. let slot = c .before .before .before .settled-slot .ensures in omega arith)
+store-requires c κs = block-store _ _ _ _ _ _ _ _ _ _ _ _ (c .before .before .before .before .before .before .before .before .before .before .before .pre) _ _ (c .before .before .before .before .before .before .pass-until .ensures) (λ q. let slot = c .before .before .before .settled-slot .ensures in omega arith)
 
 same-length-2 : tie.Need-same-length-2
 same-length-2 c = search needs
@@ -32,7 +32,7 @@ returns-2 : tie.Need-returns-2
 returns-2 c =
     let slot = c .before .before .before .before .before .before .settled-slot .ensures in
     rw slot
-    (block-done _ _ _ _ _ _ _ _ _ _ _ (c .before .before .before .before .before .before .before .before .before .before .before .before .before .before .pre) _ _ (c .before .before .before .before .before .before .before .before .before .pass-until .ensures) (λ q. omega arith) _ (c .before .before .store .ensures))
+    (block-done _ _ _ _ _ _ _ _ _ _ _ _ (c .before .before .before .before .before .before .before .before .before .before .before .before .before .before .pre) _ _ (c .before .before .before .before .before .before .before .before .before .pass-until .ensures) (λ q. omega arith) _ (c .before .before .store .ensures))
 
 pub block-throughs-spec : {M : Type 1} → statement M
 block-throughs-spec =

@@ -5,13 +5,13 @@ use native.Mathlib.Omega.{arith}
 use mathlib.Core.Path.{refl}
 use Rattle.temporal.proofs.Accepted.{accepted}
 use Rattle.pair.proofs.PairLaws.{paired-refused, paired-counted}
-use mathlib.Core.Logic.{inl}
+use mathlib.Core.Logic.{inl, inr}
 use borrow.Author.Needs.{needs}
 use Rattle.pair.proofs.pair_work.Statement.{statement}
 use Rattle.pair.proofs.pair_work.Tie as tie
 
 throughs-requires : tie.Need-throughs-requires
-throughs-requires c κs = record { ready = (c .before .before .before .before .before .pre); asks = inl refl }
+throughs-requires c κs = record { ready = (c .before .before .before .before .before .pre); asks = record { which = inl refl; waits = inr refl } }
 
 clear-requires : tie.Need-clear-requires
 clear-requires c κs = search needs

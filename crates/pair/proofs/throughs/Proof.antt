@@ -1,96 +1,45 @@
--- `pair::throughs` meets its contract. The loop's invariant: the stations below low are stored. The measure is the number
--- of stations left, which falls since no block is empty.
+-- `pair::throughs` meets its contract: how many appearances are kept, how many columns fit, then the blocks.
 -- Assumes nothing.
-use Prim.Native.Nat.{_-_}
 use native.Mathlib.Omega.{arith}
-use mathlib.Core.Path.{ap, _∙_}
-use Rattle.temporal.specs.Plan.{turning}
 use Rattle.temporal.proofs.Accepted.{accepted}
-use Rattle.pass.specs.Passed.{mostColumns}
-use Rattle.pair.proofs.BlockLaws.{blocks-refused, blocks-more, block-progress, blocks-end}
-use Rattle.pair.proofs.BlockLaws.{Blocks, blocks-none, block-within, next-ready}
+use Rattle.pair.proofs.BlockLaws.{depth-ready, columns-lent, blocks-ready, throughs-entry}
 use borrow.Author.Needs.{needs}
 use Rattle.pair.proofs.throughs.Statement.{statement}
 use Rattle.pair.proofs.throughs.Tie as tie
 
-abbrev Inv-loop : tie.InvT-loop
-Inv-loop through₀ work₀ plan n t g s z until q most low₀ slot₀ through work low slot =
-    Blocks plan n t (turning g) s z until through₀ work₀ low through work slot
+depth-requires : tie.Need-depth-requires
+depth-requires c κs = depth-ready _ _ _ _ _ _ _ _ _ _ (c .before .before .before .before .pre)
 
-abbrev μ-loop : tie.MeasureT-loop
-μ-loop through₀ work₀ plan n t g s z until q most low₀ slot₀ through work low slot = n - low
+add-most-columns : tie.Need-add-most-columns
+add-most-columns c = omega (arith, accepted _ _ _ (c .before .before .before .before .before .before .before .pre .ready .accepted) .slots)
 
-smaller-requires : tie.Need-smaller-requires Inv-loop μ-loop
-smaller-requires c κs = search needs
+mul-most-columns : tie.Need-mul-most-columns
+mul-most-columns c = omega (arith, accepted _ _ _ (c .before .before .before .before .before .before .before .pre .ready .accepted) .slots)
 
-add-most-columns : tie.Need-add-most-columns Inv-loop μ-loop
-add-most-columns c = omega (arith, accepted _ _ _ (c .before .before .before .before .pre .ready .accepted) .slots)
+most-columns-requires : tie.Need-most-columns-requires
+most-columns-requires c κs = columns-lent _ _ _ _ _ _ _ _ _ _ (c .before .before .before .before .before .before .before .pre) _ _ (c .before .before .depth .ensures)
 
-mul-most-columns : tie.Need-mul-most-columns Inv-loop μ-loop
-mul-most-columns c = omega (arith, accepted _ _ _ (c .before .before .before .before .pre .ready .accepted) .slots)
+through-blocks-requires : tie.Need-through-blocks-requires
+through-blocks-requires c κs = blocks-ready _ _ _ _ _ _ _ _ _ _ (c .before .before .before .before .before .before .before .before .before .before .pre) _ _ (c .before .before .before .before .before .depth .ensures) _ (c .before .before .most-columns .ensures)
 
-most-columns-requires : tie.Need-most-columns-requires Inv-loop μ-loop
-most-columns-requires c κs = let a = accepted _ _ _ (c .before .before .before .before .pre .ready .accepted) in let slots = a .slots in let q = c .smaller .ensures in (omega arith, omega arith)
+same-length : tie.Need-same-length
+same-length c = search needs
 
-loop-holds : tie.Need-loop-holds Inv-loop μ-loop
-loop-holds c = blocks-none _ _ _ _ _ _ _ _ _ _ (c .before .before .before .before .before .pre)
+same-length-2 : tie.Need-same-length-2
+same-length-2 c = search needs
 
-sub-smaller : tie.Need-sub-smaller Inv-loop μ-loop
-sub-smaller c = omega arith
-
-smaller-requires-2 : tie.Need-smaller-requires-2 Inv-loop μ-loop
-smaller-requires-2 c κs = search needs
-
-block-throughs-requires : tie.Need-block-throughs-requires Inv-loop μ-loop
-block-throughs-requires c κs = next-ready _ _ _ _ _ _ _ _ _ _ _ _ _ (c .before .before .before .before .loop .inv) (c .before .before .before .loop-test .taken) _ _ (c .before .before .before .before .before .most-columns .ensures ∙ ap (mostColumns _ _) (c .before .before .before .before .before .before .smaller .ensures)) (c .before .before .smaller2 .ensures)
-
-same-length : tie.Need-same-length Inv-loop μ-loop
-same-length c = c .before .before .before .before .before .block-throughs .ensures .table-length ∙ c .before .before .before .before .before .before .before .before .before .before .loop .inv .table-length
-
-same-length-2 : tie.Need-same-length-2 Inv-loop μ-loop
-same-length-2 c = c .before .before .before .before .before .block-throughs .ensures .area-length ∙ c .before .before .before .before .before .before .before .before .before .before .loop .inv .area-length
-
-returns : tie.Need-returns Inv-loop μ-loop
-returns c = blocks-refused _ _ _ _ _ _ _ _ _ _ _ _ _ (c .before .before .before .before .before .before .before .before .before .before .loop .inv) (c .before .before .before .before .before .before .before .before .before .loop-test .taken) _ _ (c .before .before .before .before .before .before .before .before .before .before .before .most-columns .ensures ∙ ap (mostColumns _ _) (c .before .before .before .before .before .before .before .before .before .before .before .before .smaller .ensures)) (c .before .before .before .before .before .before .before .before .smaller2 .ensures) _ _ _ (c .before .before .before .before .before .block-throughs .ensures) (omega arith)
-
-add-low : tie.Need-add-low Inv-loop μ-loop
-add-low c = let inside = block-within _ _ _ _ _ _ _ _ _ _ _ _ _ (c .before .before .before .before .before .before .before .before .before .before .loop .inv) (c .before .before .before .before .before .before .before .before .before .loop-test .taken) _ _ (c .before .before .before .before .before .before .before .before .before .before .before .most-columns .ensures ∙ ap (mostColumns _ _) (c .before .before .before .before .before .before .before .before .before .before .before .before .smaller .ensures)) (c .before .before .before .before .before .before .before .before .smaller2 .ensures) in omega (arith, accepted _ _ _ (c .before .before .before .before .before .before .before .before .before .before .before .before .before .before .before .before .pre .ready .accepted) .stations)
-
-loop-less : tie.Need-loop-less Inv-loop μ-loop
-loop-less c = block-progress _ _ _ _ _ _ _ _ _ _ _ _ _ (c .before .before .before .before .before .before .before .before .before .before .loop .inv) (c .before .before .before .before .before .before .before .before .before .loop-test .taken) _ _ (c .before .before .before .before .before .before .before .before .before .before .before .most-columns .ensures ∙ ap (mostColumns _ _) (c .before .before .before .before .before .before .before .before .before .before .before .before .smaller .ensures)) (c .before .before .before .before .before .before .before .before .smaller2 .ensures) _ _ _ (c .before .before .before .before .before .block-throughs .ensures) (λ q. omega arith)
-
-loop-again : tie.Need-loop-again Inv-loop μ-loop
-loop-again c = blocks-more _ _ _ _ _ _ _ _ _ _ _ _ _ (c .before .before .before .before .before .before .before .before .before .before .loop .inv) (c .before .before .before .before .before .before .before .before .before .loop-test .taken) _ _ (c .before .before .before .before .before .before .before .before .before .before .before .most-columns .ensures ∙ ap (mostColumns _ _) (c .before .before .before .before .before .before .before .before .before .before .before .before .smaller .ensures)) (c .before .before .before .before .before .before .before .before .smaller2 .ensures) _ _ _ (c .before .before .before .before .before .block-throughs .ensures) (λ q. omega arith)
-
-same-length-3 : tie.Need-same-length-3 Inv-loop μ-loop
-same-length-3 c = c .before .loop .inv .table-length
-
-same-length-4 : tie.Need-same-length-4 Inv-loop μ-loop
-same-length-4 c = c .before .loop .inv .area-length
-
-returns-2 : tie.Need-returns-2 Inv-loop μ-loop
-returns-2 c = blocks-end _ _ _ _ _ _ _ _ _ _ _ _ _ (omega arith) (c .before .loop .inv)
+returns : tie.Need-returns
+returns c = throughs-entry _ _ _ _ _ _ _ _ _ _ (c .before .before .before .before .before .before .before .before .before .before .before .before .before .before .before .pre) _ _ (c .before .before .before .before .before .before .before .before .before .before .depth .ensures) _ _ _ (c .before .before .before .before .through-blocks .ensures)
 
 pub throughs-spec : {M : Type 1} → statement M
 throughs-spec =
     tie.close
     (tie.spec
-    Inv-loop
-    μ-loop
-    smaller-requires
+    depth-requires
     add-most-columns
     mul-most-columns
     most-columns-requires
-    loop-holds
-    sub-smaller
-    smaller-requires-2
-    block-throughs-requires
+    through-blocks-requires
     same-length
     same-length-2
-    returns
-    add-low
-    loop-less
-    loop-again
-    same-length-3
-    same-length-4
-    returns-2)
+    returns)

@@ -5,7 +5,7 @@
 use Prim.Native.Nat.{_+_, _-_}
 use native.Mathlib.Omega.{arith}
 use mathlib.Core.Path.{sym, _∙_}
-use Rattle.temporal.specs.Plan.{turning}
+use Rattle.temporal.specs.Plan.{units}
 use Rattle.temporal.specs.Bytes.{records}
 use Rattle.temporal.proofs.Accepted.{accepted}
 use Rattle.plan.proofs.SlotLaws.{in-slot-inv}
@@ -19,11 +19,11 @@ use Rattle.pass.proofs.pass_columns.Statement.{statement}
 use Rattle.pass.proofs.pass_columns.Tie as tie
 
 abbrev Inv-loop : tie.InvT-loop
-Inv-loop work₀ plan n t g source columns set block until q base₀ u₀ j₀ work base u j =
-    Passing plan n t (turning g) source until (columnOf columns set block) block q work₀ base u j work
+Inv-loop work₀ plan n t g h source columns set block until q base₀ u₀ j₀ work base u j =
+    Passing plan n t (units g h) source until (columnOf columns set block) block q work₀ base u j work
 
 abbrev μ-loop : tie.MeasureT-loop
-μ-loop work₀ plan n t g source columns set block until q base₀ u₀ j₀ work base u j = (t + q - u) + (records plan - j)
+μ-loop work₀ plan n t g h source columns set block until q base₀ u₀ j₀ work base u j = (t + q - u) + (records plan - j)
 
 smaller-requires : tie.Need-smaller-requires Inv-loop μ-loop
 smaller-requires c κs = search needs
@@ -73,8 +73,8 @@ returns c = let ready = ready-begun _ _ _ _ _ _ _ _ _ _ (c .before .before .befo
 reached-requires : tie.Need-reached-requires Inv-loop μ-loop
 reached-requires c κs = let ready = ready-begun _ _ _ _ _ _ _ _ _ _ (c .before .before .before .before .before .before .before .before .before .before .before .before .before .before .before .before .before .smaller .ensures) (c .before .before .before .before .before .before .before .before .before .before .before .before .before .before .before .before .before .before .before .before .before .pre) (c .before .before .before .before .before .before .before .before .before .before .before .before .before .before .before .begin .ensures) in let fits = first-part (next-area _ _ _ _ _ _ _ _ _ ready _ (c .before .before .before .before .before .before .before .before .before .before .before .before .before .before .before .before .before .smaller .ensures) _ _ _ _ (c .before .before .before .before .before .before .before .before .before .before .before .loop .inv) (sym (c .before .before .before .before .before .before .before .before .before .in-slot .ensures) ∙ c .before .before .before .before .before .before .before .before .if1 .left) _ (c .before .before .before .before .before .before .before .part-at2 .ensures) (c .before .before .before .before .before .before .if2 .taken) (c .before .before .before .before .before .before .before .before .before .before .loop-test .taken) _ _ (c .before .before .before .before .settle .ensures)) in omega arith
 
-sub-t30 : tie.Need-sub-t30 Inv-loop μ-loop
-sub-t30 c = omega arith
+sub-t31 : tie.Need-sub-t31 Inv-loop μ-loop
+sub-t31 c = omega arith
 
 same-length-2 : tie.Need-same-length-2 Inv-loop μ-loop
 same-length-2 c = let ready = ready-begun _ _ _ _ _ _ _ _ _ _ (c .before .before .before .before .before .before .before .before .before .before .before .before .before .before .before .before .before .before .before .smaller .ensures) (c .before .before .before .before .before .before .before .before .before .before .before .before .before .before .before .before .before .before .before .before .before .before .before .pre) (c .before .before .before .before .before .before .before .before .before .before .before .before .before .before .before .before .before .begin .ensures) in next-length _ _ _ _ _ _ _ _ _ ready _ (c .before .before .before .before .before .before .before .before .before .before .before .before .before .before .before .before .before .before .before .smaller .ensures) _ _ _ _ (c .before .before .before .before .before .before .before .before .before .before .before .before .before .loop .inv) (sym (c .before .before .before .before .before .before .before .before .before .before .before .in-slot .ensures) ∙ c .before .before .before .before .before .before .before .before .before .before .if1 .left) _ (c .before .before .before .before .before .before .before .before .before .part-at2 .ensures) (c .before .before .before .before .before .before .before .before .if2 .taken) (c .before .before .before .before .before .before .before .before .before .before .before .before .loop-test .taken) _ _ (c .before .before .before .before .before .before .settle .ensures) ∙ c .before .before .before .before .before .before .before .before .before .before .before .before .before .before .before .before .before .begin .kept .0
@@ -125,7 +125,7 @@ pass-columns-spec =
     same-length
     returns
     reached-requires
-    sub-t30
+    sub-t31
     same-length-2
     returns-2
     loop-less-2

@@ -30,7 +30,7 @@ loop-holds c = windowing-begun _ _ _ _ _ _ _ _ (c .before .before .before .befor
 
 fold-window-requires : tie.Need-fold-window-requires Inv-loop μ-loop
 fold-window-requires c κs =
-    (windowing-foldable _ _ _ _ _ _ _ _ (c .before .before .before .before .before .before .before .before .before .before .before .before .before .before .before .before .before .before .before .before .before .before .before .before .pre) _ _ _ (c .before .before .before .before .before .loop .inv) (c .before .before .before .before .loop-test .taken), c .before .before .before .before .before .before .before .before .before .before .before .before .before .before .before .before .before .before .before .before .before .before .before .before .pre .turns)
+    (windowing-foldable _ _ _ _ _ _ _ _ (c .before .before .before .before .before .before .before .before .before .before .before .before .before .before .before .before .before .before .before .before .before .before .before .before .pre) _ _ _ (c .before .before .before .before .before .loop .inv) (c .before .before .before .before .loop-test .taken), c .before .before .before .before .before .before .before .before .before .before .before .before .before .before .before .before .before .before .before .before .before .before .before .before .pre .units .turns)
 
 add-j : tie.Need-add-j Inv-loop μ-loop
 add-j c =

@@ -2,7 +2,6 @@
 -- Assumes nothing.
 use Rattle.temporal.proofs.Accepted.{accepted}
 use Rattle.sets.proofs.SetCallLaws.{set-call, set-asked}
-use Rattle.temporal.proofs.PlanLaws.{kept-always}
 use borrow.Author.Needs.{needs}
 use Rattle.sets.proofs.set_accepted.Statement.{statement}
 use Rattle.sets.proofs.set_accepted.Tie as tie
@@ -18,7 +17,7 @@ enum-told c = search needs
 
 set-free-requires : tie.Need-set-free-requires
 set-free-requires c κs =
-    set-asked _ _ _ _ _ _ _ _ (c .before .before .before .before .before .before .before .pre) _ (c .before .before .before .pair-call .ensures) (kept-always _ _ _ (c .before .before .before .before .before .before .before .pre)) (c .before .enum-told .given .1)
+    set-asked _ _ _ _ _ _ _ _ (c .before .before .before .before .before .before .before .pre) _ (c .before .before .before .pair-call .ensures) (c .before .enum-told .given .1)
 
 same-length : tie.Need-same-length
 same-length c = search needs

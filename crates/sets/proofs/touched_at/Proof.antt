@@ -1,4 +1,4 @@
--- `sets::touched_at` meets its contract: the count less the entry, 0 where there is no path.
+-- `sets::touched_at` meets its contract: the count less the entry, 0 where there is no walk.
 -- Assumes nothing.
 use native.Mathlib.Omega.{arith}
 use mathlib.Core.Path.{sym}

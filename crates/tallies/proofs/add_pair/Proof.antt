@@ -1,4 +1,4 @@
--- `tallies::add_pair` meets its contract: nothing for the destination itself or where no path has the station inside, else
+-- `tallies::add_pair` meets its contract: nothing for the destination itself or where no walk has the station inside, else
 -- one pair and its share.
 -- Assumes nothing.
 use native.Mathlib.Omega.{arith}

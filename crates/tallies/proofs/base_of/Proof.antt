@@ -1,25 +1,11 @@
 -- `tallies::base_of` meets its contract.
 -- Assumes nothing.
 use native.Mathlib.Omega.{arith}
-use Rattle.tallies.proofs.SourceLaws.{base-small, base-there}
+use Rattle.tallies.specs.Tally.{tallyBase}
+use Rattle.tallies.proofs.Sizes.{base-small}
 use borrow.Author.Needs.{needs}
 use Rattle.tallies.proofs.base_of.Statement.{statement}
 use Rattle.tallies.proofs.base_of.Tie as tie
-
-smaller-requires : tie.Need-smaller-requires
-smaller-requires c κs = search needs
-
-add-most-columns : tie.Need-add-most-columns
-add-most-columns c = search needs
-
-mul-most-columns : tie.Need-mul-most-columns
-mul-most-columns c = search needs
-
-sub-most-columns : tie.Need-sub-most-columns
-sub-most-columns c = search needs
-
-most-columns-requires : tie.Need-most-columns-requires
-most-columns-requires c κs = search needs
 
 add-result : tie.Need-add-result
 add-result c = search needs
@@ -27,30 +13,15 @@ add-result c = search needs
 mul-result : tie.Need-mul-result
 mul-result c = search needs
 
+sub-result : tie.Need-sub-result
+sub-result c = search needs
+
 mul-result-2 : tie.Need-mul-result-2
-mul-result-2 c = let small = base-small _ _ _ _ _ _ (c .before .before .pre .0) (c .before .before .pre .2) (c .before .smaller .ensures) (c .most-columns .ensures) in omega (arith, small .0, small .1)
-
-add-result-2 : tie.Need-add-result-2
-add-result-2 c = let small = base-small _ _ _ _ _ _ (c .before .before .pre .0) (c .before .before .pre .2) (c .before .smaller .ensures) (c .most-columns .ensures) in omega (arith, small .0, small .1)
-
-mul-result-3 : tie.Need-mul-result-3
-mul-result-3 c = let small = base-small _ _ _ _ _ _ (c .before .before .pre .0) (c .before .before .pre .2) (c .before .smaller .ensures) (c .most-columns .ensures) in omega (arith, small .0, small .1)
+mul-result-2 c = omega (arith, base-small _ _ (c .pre .0) (c .pre .1))
 
 returns : tie.Need-returns
-returns c = base-there _ _ _ _ _ (c .before .smaller .ensures) (c .most-columns .ensures)
+unfolding tallyBase
+returns c = search needs
 
 pub base-of-spec : {M : Type 1} → statement M
-base-of-spec =
-    tie.close
-    (tie.spec
-    smaller-requires
-    add-most-columns
-    mul-most-columns
-    sub-most-columns
-    most-columns-requires
-    add-result
-    mul-result
-    mul-result-2
-    add-result-2
-    mul-result-3
-    returns)
+base-of-spec = tie.close (tie.spec add-result mul-result sub-result mul-result-2 returns)

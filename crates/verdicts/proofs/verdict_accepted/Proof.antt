@@ -18,7 +18,7 @@ enum-told c = search needs
 
 verdict-cleared-requires : tie.Need-verdict-cleared-requires
 verdict-cleared-requires c κs =
-    verdict-ready _ _ _ _ _ _ _ (c .before .before .before .before .before .before .before .pre) _ (c .before .before .before .pair-call .ensures) (c .before .enum-told .given .1)
+    verdict-ready _ _ _ _ _ _ _ _ (c .before .before .before .before .before .before .before .pre) _ (c .before .before .before .pair-call .ensures) (c .before .enum-told .given .1)
 
 same-length : tie.Need-same-length
 same-length c = search needs

@@ -27,7 +27,7 @@ same-length : tie.Need-same-length
 same-length c = search needs
 
 returns : tie.Need-returns
-returns c = work-cleared (question _ _ _ _ _ _) _ _ _ _ _ (c .before .before .before .before .before .before .verdict-work .ensures) (c .before .before .clear .ensures)
+returns c = work-cleared (question _ _ _ _ _ _ _) _ _ _ _ _ (c .before .before .before .before .before .before .verdict-work .ensures) (c .before .before .clear .ensures)
 
 pub verdict-cleared-spec : {M : Type 1} → statement M
 verdict-cleared-spec =

@@ -1,4 +1,4 @@
--- `verdicts::verdict_work` meets its contract: 9, no path, or the list judged.
+-- `verdicts::verdict_work` meets its contract: 9, no walk, or the list judged.
 -- Assumes nothing.
 use mathlib.Core.Path.{refl}
 use mathlib.Core.List.{[]}
@@ -10,7 +10,7 @@ use Rattle.verdicts.proofs.verdict_work.Statement.{statement}
 use Rattle.verdicts.proofs.verdict_work.Tie as tie
 
 pass-requires : tie.Need-pass-requires
-pass-requires c κs = pass-asks (question _ _ _ _ _ _) [] _ (c .before .before .before .before .pre)
+pass-requires c κs = pass-asks (question _ _ _ _ _ _ _) [] _ (c .before .before .before .before .pre)
 
 same-length : tie.Need-same-length
 same-length c = search needs
@@ -18,11 +18,11 @@ same-length c = search needs
 returns : tie.Need-returns
 returns c = judged-too-many _ _ _ (c .before .before .before .before .before .before .before .before .pre) _ _ (c .before .before .before .pass .ensures) (c .if1 .taken)
 
-mul-h : tie.Need-mul-h
-mul-h c = search needs
+mul-hops : tie.Need-mul-hops
+mul-hops c = search needs
 
-slice-read-h : tie.Need-slice-read-h
-slice-read-h c = search needs
+slice-read-hops : tie.Need-slice-read-hops
+slice-read-hops c = search needs
 
 judge-none-requires : tie.Need-judge-none-requires
 judge-none-requires c κs = search needs
@@ -38,7 +38,7 @@ complete-requires c κs = search needs
 
 judge-requires : tie.Need-judge-requires
 judge-requires c κs =
-    judgeable (question _ _ _ _ _ _) [] _ (c .before .before .before .before .before .before .before .before .before .before .before .before .before .before .before .pre) _ _ (c .before .before .before .before .before .before .before .before .before .before .pass .ensures) (c .before .before .before .before .before .before .before .if1 .left) _ refl (λ e. c .before .before .before .before .before .if2 .left e) _ (c .before .before .before .complete .ensures)
+    judgeable (question _ _ _ _ _ _ _) [] _ (c .before .before .before .before .before .before .before .before .before .before .before .before .before .before .before .pre) _ _ (c .before .before .before .before .before .before .before .before .before .before .pass .ensures) (c .before .before .before .before .before .before .before .if1 .left) _ refl (λ e. c .before .before .before .before .before .if2 .left e) _ (c .before .before .before .complete .ensures)
 
 same-length-3 : tie.Need-same-length-3
 same-length-3 c = search needs
@@ -54,8 +54,8 @@ verdict-work-spec =
     pass-requires
     same-length
     returns
-    mul-h
-    slice-read-h
+    mul-hops
+    slice-read-hops
     judge-none-requires
     same-length-2
     returns-2

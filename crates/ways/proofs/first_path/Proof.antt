@@ -1,4 +1,4 @@
--- `ways::first_path` meets its contract. The loop's invariant: the first k entries are the least that begin a shortest path.
+-- `ways::first_path` meets its contract. The loop's invariant: the first k entries are the least that begin a shortest walk.
 -- The measure is the number of legs left.
 -- Assumes nothing.
 use Prim.Native.Nat.{_-_}

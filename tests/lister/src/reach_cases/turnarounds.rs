@@ -31,12 +31,13 @@ pub fn cases() -> Vec<Case> {
 }
 
 /// Reach on a plan, from a source.
-fn from(plan: &LabelledPlan, source: u16) -> Case {
+pub fn from(plan: &LabelledPlan, source: u16) -> Case {
     let label = format!("{}, from {source}", plan.label);
     let case = Case::on_bytes(&label, plan.sizes, plan.bytes.clone(), source);
+    let case = case.turning(plan.turnaround).keeping_for(plan.keeping);
     Case {
         counting: plan.counting,
-        ..case.turning(plan.turnaround)
+        ..case
     }
 }
 

@@ -31,8 +31,8 @@ pub fn labelled<'a>(made: &'a Made, label: &str) -> &'a (Case, Outcome) {
 }
 
 /// Asserts that the numbers stated by hand are those of the lister; gives how many cases state each.
-pub fn assert_stated(made: &Made) -> [usize; 14] {
-    let mut seen = [0; 14];
+pub fn assert_stated(made: &Made) -> [usize; 15] {
+    let mut seen = [0; 15];
     for (case, outcome) in made {
         if let Some(stated) = case.stated {
             assert_eq!(outcome.number, stated, "{}", case.label);
@@ -83,13 +83,15 @@ pub fn assert_lines(made: &Made, lines: &[(&str, &str)]) {
 /// Asserts that standard input, read back, has the cases; `lengths` are those in the head of a case.
 pub fn assert_stdin(made: &Made, lengths: fn(&Case) -> Vec<usize>) {
     let stdin = stdin_bytes(&all(made));
-    assert!(stdin.len() < 1_650_000, "{}", stdin.len());
+    assert!(stdin.len() < 1_850_000, "{}", stdin.len());
     let mut rest = stdin.as_slice();
     for (case, _) in made {
         let kind = case.operation.kind().map(usize::from);
         let behind = case.operation.words().into_iter().map(usize::from);
         let mut head = Vec::from_iter(kind);
         head.extend([case.stations, case.slots, case.turnaround].map(usize::from));
+        let keeping = case.operation.has_keeping().then_some(case.keeping);
+        head.extend(keeping.map(usize::from));
         head.extend(behind);
         head.extend([case.bytes.len(), case.label.len(), case.mark.into()]);
         let lengths = lengths(case);

@@ -12,6 +12,7 @@ use crate::pair_cases::{
     TIED_PLANS, TURNED_BLOCKS,
 };
 use crate::reach_cases::LONGEST_PLAN;
+use crate::stale::STALE_BLOCKS;
 
 /// All cases with their outcomes, made once.
 fn cases() -> &'static Made {
@@ -31,18 +32,18 @@ fn kind(operation: Operation) -> usize {
 
 #[test]
 fn stated_numbers_are_those_of_the_lister() {
-    let mut seen = [[0; 13]; 3];
+    let mut seen = [[0; 15]; 3];
     for (case, outcome) in cases() {
         if let Some(stated) = case.stated {
             assert_eq!(outcome.number, stated, "{}", case.label);
             seen[kind(case.operation)][usize::from(stated)] += 1;
         }
     }
-    for number in (0..10).chain([12]) {
+    for number in (0..10).chain([12, 14]) {
         assert!(seen[0][number] > 4, "{number}: {seen:?}");
     }
     for seen in &seen[1..] {
-        for number in [0, 1, 2, 3, 4, 5, 8, 12] {
+        for number in [0, 1, 2, 3, 4, 5, 8, 12, 14] {
             assert!(seen[number] > 4, "{number}: {seen:?}");
         }
         assert!(seen[9] > 1 && seen[6] == 0 && seen[7] == 0, "{seen:?}");
@@ -136,6 +137,25 @@ fn lines_by_hand() {
         ),
         ("heard again while it waits, g 2, 0 to 2", "0 2 1 | 1: 1 |"),
         (
+            "twice at 1, no path, g 1, h 1, 0 to 3",
+            "0 4 1 | 1 .. 2: 1 |",
+        ),
+        (
+            "twice at 1, no path, g 1, h 1, loads",
+            "0 | 1: 3 2: 1 | 1: 12884901888 2: 4294967296 |",
+        ),
+        (
+            "three times at 1, 2 and 3 in turn, g 1, h 1, 0 to 4",
+            "0 6 4 | 1: 4 2 .. 3: 3 |",
+        ),
+        ("detour, T 255, g 1, h 253, 0 to 3", "0 4 1 | 1 .. 2: 1 |"),
+        ("detour, T 255, g 1, h 254, 0 to 3", "0 2 1 | 1: 1 |"),
+        (
+            "14 for plan A, g 1, h 256, 0 to 4",
+            "14 0 0 | 0 .. 6: 999 | 0 .. 102: 999",
+        ),
+        ("14 for plan A, g 16, h 15, busiest", "14 0 | 0 .. 102: 999"),
+        (
             "spaced ladder of 64 layers, 2 wide, g 4, 0 to 128",
             "0 64 9223372036854775808 | 1 .. 126: 4611686018427387904 |",
         ),
@@ -159,7 +179,7 @@ fn stdin_read_back_gives_the_cases() {
 #[test]
 fn lines_read_back_give_the_outcomes() {
     let length = call_files::assert_read_back(cases());
-    assert!(length < 500_000, "{length}");
+    assert!(length < 520_000, "{length}");
 }
 
 #[test]
@@ -392,6 +412,27 @@ fn blocks_beside_what_waits_are_uneven_and_used() {
         }
     }
     assert!(uneven.iter().all(|count| *count > 4), "{uneven:?}");
+}
+
+/// The plans with a detour for each two stations: each is in one walk, and the blocks beside what is kept for h slots
+/// and the windows are mostly uneven.
+#[test]
+fn blocks_of_detours_are_uneven_and_used() {
+    let mut uneven = 0;
+    for (stations, slots, turnaround, keeping) in STALE_BLOCKS {
+        let n = usize::from(stations);
+        let label = format!("blocks n {stations}, T {slots}, g {turnaround}, h {keeping}");
+        let (_, pair) = labelled(&format!("{label}, 0 to {}", n - 1));
+        assert_eq!(pair.values, [4, (n as u64 - 2) / 2], "{label}");
+        let mut through = vec![1; n];
+        (through[0], through[n - 1]) = (0, 0);
+        assert_eq!(pair.buffers[0], through, "{label}");
+        let (entries, parts) = (4 * (slots + 1), keeping + 2);
+        assert!(slots >= keeping + 2, "{label}");
+        let block = n.min(usize::from(entries / parts - 2));
+        uneven += usize::from(n % block != 0);
+    }
+    assert!(uneven > 4, "{uneven}");
 }
 
 #[test]

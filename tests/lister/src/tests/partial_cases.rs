@@ -74,6 +74,14 @@ fn lines_by_hand() {
             "12 for g 17, k 6",
             "12 | 0 .. 6: 999 | 0 .. 5: 999 | 0 .. 102: 999",
         ),
+        (
+            "14 for plan A, g 2, h 1, k 18446744073709551615",
+            "14 | 0 .. 6: 999 | 0 .. 5: 999 | 0 .. 102: 999",
+        ),
+        (
+            "twice at 1, no path, g 1, h 1, k 1",
+            "0 | 1: 2 2: 1 4 .. 5: 999 | 1: 8589934592 2: 4294967296 4: 999 | 80 .. 82: 999",
+        ),
         ("plan A, exactly long enough, k 0", "0 | | |"),
         (
             "plan A, g 2, k 1",
@@ -104,13 +112,13 @@ fn stdin_read_back_gives_the_cases() {
     call_files::assert_stdin(cases(), |case| case.lengths.to_vec());
 }
 
-/// The number of sources is one number of 64 bits behind n, T and g.
+/// The number of sources is one number of 64 bits behind n, T, g and h.
 #[test]
 fn the_number_of_sources_has_64_bits() {
     let mut above = 0;
     for (case, _) in cases() {
         let stdin = case.stdin();
-        assert_eq!(stdin[6..14], sources(case).to_be_bytes(), "{}", case.label);
+        assert_eq!(stdin[8..16], sources(case).to_be_bytes(), "{}", case.label);
         above += usize::from(sources(case) > u16::MAX.into());
     }
     assert!(above > 20, "{above}");
@@ -119,7 +127,7 @@ fn the_number_of_sources_has_64_bits() {
 #[test]
 fn lines_read_back_give_the_outcomes() {
     let length = call_files::assert_read_back(cases());
-    assert!(length < 400_000, "{length}");
+    assert!(length < 450_000, "{length}");
 }
 
 #[test]
@@ -146,7 +154,8 @@ fn numbers_of_sources_tell_apart() {
     let mut of_plans: BTreeMap<_, BTreeSet<Vec<u64>>> = BTreeMap::new();
     for (case, outcome) in cases() {
         if outcome.number == 0 {
-            let plan = (&case.bytes, case.stations, case.slots, case.turnaround);
+            let terms = (case.turnaround, case.keeping);
+            let plan = (&case.bytes, case.stations, case.slots, terms);
             let loads = outcome.buffers[1][..case.stations.into()].to_vec();
             of_plans.entry(plan).or_default().insert(loads);
         }

@@ -7,7 +7,7 @@ use super::read_back::{assert_labels, entries_of, take, take_number};
 use crate::answer::number;
 use crate::files::{stdin_bytes, stdout_text};
 use crate::means::Counting;
-use crate::plan::{PlanInput, KEPT};
+use crate::plan::PlanInput;
 use crate::reach::Tables;
 use crate::reach_cases::{
     all_cases, Case, Operation, Outcome, LONGEST_LABEL, LONGEST_PLAN, LONGEST_TABLES,
@@ -22,8 +22,8 @@ fn cases() -> &'static [Case] {
 
 #[test]
 fn stated_numbers_are_those_of_the_lister() {
-    let mut reached = [0; 13];
-    let mut rows = [0; 13];
+    let mut reached = [0; 15];
+    let mut rows = [0; 15];
     for case in cases().iter().filter(|case| case.stated.is_some()) {
         let number = case.outcome().number();
         assert_eq!(Some(number), case.stated, "{}", case.label);
@@ -32,7 +32,7 @@ fn stated_numbers_are_those_of_the_lister() {
             Operation::Row(_) => rows[usize::from(number)] += 1,
         }
     }
-    for number in [0, 1, 2, 3, 4, 5, 6, 8, 9, 12] {
+    for number in [0, 1, 2, 3, 4, 5, 6, 8, 9, 12, 14] {
         assert!(reached[number] > 4, "{number}: {reached:?}");
     }
     for number in [0, 1, 6, 8] {
@@ -72,6 +72,11 @@ fn lines_by_hand() {
         "back at the source and on, g 2, from 0: 0 | 0: 0 3: 2 7: 1 16 .. 17: 1 \
          | 0: 1 3: 1 7: 1 16 .. 17: 1 | 0: 0 1 .. 2: 1 | 0 .. 1: 1 2: 2",
         "row 5 of n 5, T 4, 24 entries: 6 0 |",
+        "twice at 1, no path, g 1, h 1, from 0: 0 | 0: 0 6: 1 8: 3 12: 2 19: 4 \
+         | 0: 1 6: 1 8: 1 12: 1 19: 1 | 0: 0 1: 1 2: 2 3: 4 | 0 .. 3: 1",
+        "14 for plan A, g 1, h 0, from 0: 14 | 0 .. 26: 999 | 0 .. 25: 999 | 0 .. 7: 999 | 0 .. 6: 999",
+        "ladder with a gap, g 1, h 2, from 0: 9 | 0 .. 8776: 0 8777: 4321 | 8777 .. 8778: 4321 \
+         | 0 .. 130: 0 131 .. 133: 4321 | 131 .. 134: 4321",
     ] {
         let (label, _) = line.split_once(" | ").or(line.split_once(" |")).unwrap();
         let (label, _) = label.split_once(": ").unwrap();
@@ -85,8 +90,8 @@ fn lines_by_hand() {
 
 /// Calls what a case of standard input names; the tables as the line gives them.
 fn assert_line(stdin: &mut &[u8], line: &str, counting: Counting) {
-    let [kind, stations, slots, turnaround, station] =
-        [2; 5].map(|length| take_number(stdin, length));
+    let [kind, stations, slots, turnaround, keeping, station] =
+        [2; 6].map(|length| take_number(stdin, length));
     let [plan, label, mark] = [2; 3].map(|length| take_number(stdin, length));
     let lengths = [4; 4].map(|length| take_number(stdin, length));
     assert!((0..4).all(|table| lengths[table] <= LONGEST_TABLES[table]));
@@ -97,7 +102,7 @@ fn assert_line(stdin: &mut &[u8], line: &str, counting: Counting) {
         stations,
         slots,
         turnaround,
-        keeping: KEPT,
+        keeping,
     };
     let rest = line
         .strip_prefix(label)
@@ -133,7 +138,7 @@ fn assert_line(stdin: &mut &[u8], line: &str, counting: Counting) {
 fn stdin_read_back_gives_stdout() {
     let cases = cases();
     let (stdin, stdout) = (stdin_bytes(cases), stdout_text(cases));
-    assert!(stdin.len() < 690_000 && stdout.len() < 420_000);
+    assert!(stdin.len() < 740_000 && stdout.len() < 460_000);
     let mut rest = stdin.as_slice();
     for (case, line) in cases.iter().zip(stdout.lines()) {
         assert_line(&mut rest, line, case.counting);
@@ -171,6 +176,7 @@ fn walks_are_counted_for_ladders_alone() {
         "3^4",
         "15^16",
         "every slot, g 16",
+        "ladder with",
     ];
     let mut listed = 0;
     for case in cases() {

@@ -11,7 +11,10 @@ use crate::pair::Paired;
 use crate::plan::{Ends, Plan, Terms, KEPT, MOST_TURNAROUND};
 use crate::random::Random;
 use crate::shortest::{positions_of, NO_WALK};
-use crate::stale::{random_stale_plan, DETOUR, STALE_PLANS, TWO_DETOURS};
+use crate::stale::{
+    calls_twice, detours_around, drawn_stale_plans, random_stale_plan, some_detours, DETOUR,
+    KNOWN_TERMS, STALE_PLANS, TWO_DETOURS, WRONG_TERMS,
+};
 use crate::verdicts::{verdict_on, Verdict};
 use crate::walk::walks_from;
 
@@ -66,13 +69,47 @@ fn plans_by_hand_have_the_walks_stated() {
     }
 }
 
+/// The plans of the cases: detours whose T is around h, and drawn plans of which each second has a walk that calls
+/// twice at a station.
+#[test]
+fn plans_of_the_cases_drop_readings() {
+    let around = detours_around();
+    for more in 0..=2 {
+        let has = around
+            .iter()
+            .filter(|plan| plan.sizes.1 == plan.keeping + more);
+        assert!(has.count() > 3, "T = h + {more}");
+    }
+    for plan in around {
+        let list = plan.owned().list(0, 3);
+        let hops = if plan.sizes.1 == plan.keeping + 2 {
+            4
+        } else {
+            2
+        };
+        assert_eq!(list.iter().map(Vec::len).collect::<Vec<_>>(), [hops]);
+    }
+    for plans in drawn_stale_plans(24).chunks(2) {
+        assert!(calls_twice(&plans[1].owned()), "{}", plans[1].label);
+    }
+    let twice = some_detours(61).into_iter();
+    let twice = twice.filter(|plan| calls_twice(&plan.owned())).count();
+    assert!(twice > 3, "{twice}");
+    for (turnaround, keeping) in KNOWN_TERMS {
+        assert!((turnaround..=255).contains(&keeping) && (1..=16).contains(&turnaround));
+    }
+    for (turnaround, keeping) in WRONG_TERMS {
+        assert!(!(turnaround..=255).contains(&keeping) && (1..=16).contains(&turnaround));
+    }
+}
+
 /// How many plans by hand have one of these: a sum of products that is no through count, through counts that
 /// are not count × (hops − 1) together, and a walk where units that keep every reading have a shorter one.
 #[test]
 fn plans_by_hand_tell_walks_from_paths() {
     let plans = STALE_PLANS.iter();
-    let other_products = plans.clone().filter(|plan| plan.products != plan.through);
-    assert_eq!(other_products.count(), 9);
+    let other_products = plans.clone().filter(|plan| plan.calls_twice());
+    assert_eq!(other_products.count(), 10);
     let other_sum = plans.clone().filter(|plan| {
         let values = values_of(
             &plan
@@ -84,12 +121,12 @@ fn plans_by_hand_tell_walks_from_paths() {
         let total: u64 = plan.through.iter().sum();
         values.count > 0 && total != values.count * (u64::from(values.hops) - 1)
     });
-    assert_eq!(other_sum.count(), 9);
+    assert_eq!(other_sum.count(), 10);
     let longer = plans.filter(|plan| match (plan.there.first(), plan.kept.first()) {
         (Some(walk), Some(path)) => walk.len() > path.len(),
         _ => false,
     });
-    assert_eq!(longer.count(), 10);
+    assert_eq!(longer.count(), 11);
 }
 
 /// The detour with h = 1: its only walk from 0 to 3 is 0, 1, 2, 1, 3.

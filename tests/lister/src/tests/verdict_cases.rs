@@ -30,7 +30,7 @@ fn stated_numbers_are_those_of_the_lister() {
         }
     }
     let numbers: Vec<u8> = seen.keys().copied().collect();
-    assert_eq!(numbers, [0, 1, 2, 3, 4, 5, 6, 7, 8, 9, 12]);
+    assert_eq!(numbers, [0, 1, 2, 3, 4, 5, 6, 7, 8, 9, 12, 14]);
     assert!(seen.values().all(|times| *times > 4), "{seen:?}");
 }
 
@@ -44,22 +44,26 @@ fn hand_made_cases_state_their_numbers() {
     }
 }
 
-/// A label names the turnaround, or it is 1; those of 12 before 9 and of a cause before 12 have 17.
+/// A label names g, or it is 1; those of 12 before 9 and of a cause before 12 have 17. It names h, or that is 255.
 #[test]
-fn cases_have_the_turnaround_of_their_label() {
-    let mut ones = 0;
+fn cases_have_the_terms_of_their_label() {
+    let mut seen = [0; 2];
     for (case, _) in cases() {
         let label = &case.call.label;
-        let named = label.split(", ").find_map(|part| {
-            let number = part.strip_prefix("g ").or(part.strip_prefix("12 for g "))?;
-            number.parse().ok()
-        });
+        let named = |before: &str| {
+            let number = |part: &str| part.strip_prefix(before)?.parse().ok();
+            label.split(", ").find_map(number)
+        };
         let wrong = label.contains("before 12") || label.starts_with("12 before 9");
-        let expected = named.unwrap_or(if wrong { 17 } else { 1 });
-        assert_eq!(case.call.turnaround, expected, "{label}");
-        ones += usize::from(expected == 1);
+        let turnaround = named("g ").or(named("12 for g "));
+        let turnaround = turnaround.unwrap_or(if wrong { 17 } else { 1 });
+        let keeping = named("h ").unwrap_or(255);
+        let terms = (case.call.turnaround, case.call.keeping);
+        assert_eq!(terms, (turnaround, keeping), "{label}");
+        seen[0] += usize::from(terms == (1, 255));
+        seen[1] += usize::from(keeping < 255);
     }
-    assert!(ones > 3000, "{ones}");
+    assert!(seen[0] > 3000 && seen[1] > 300, "{seen:?}");
 }
 
 /// A verdict stands beside 0 alone; each is there with lists of every kind.
@@ -111,6 +115,26 @@ fn lines_by_hand() {
         ("a scratch of 99, 0 to 4, list of 9", "8 | 0 .. 98: 999"),
         ("12 for g 17, 0 to 4, list of 0", "12 | 0 .. 102: 999"),
         (
+            "14 for plan A, g 3, h 2, 0 to 4, list of 9",
+            "14 | 0 .. 102: 999",
+        ),
+        (
+            "twice at 1, no path, g 1, h 1, 0 to 3, first 4 entries",
+            "0 complete |",
+        ),
+        (
+            "twice at 1, no path, g 1, h 1, 0 to 3, walks of h 255",
+            "0 wrong |",
+        ),
+        (
+            "three walks with one detour, g 1, h 3, 0 to 3, first 8 entries",
+            "0 beginning |",
+        ),
+        (
+            "three walks with one detour, g 1, h 3, 0 to 3, path 1 missing",
+            "0 wrong |",
+        ),
+        (
             "nothing before 9, 0 to 130, empty list",
             "9 | 34584 .. 34587: 994",
         ),
@@ -147,12 +171,13 @@ fn lines_by_hand() {
 
 /// Asserts that the next case of standard input is a given one.
 fn assert_read(stdin: &mut &[u8], Case { call, list }: &Case) {
-    let head = [2; 8].map(|length| take_number(stdin, length));
+    let head = [2; 9].map(|length| take_number(stdin, length));
     let scratch = take_number(stdin, 4);
     let asked = [
         call.stations.into(),
         call.slots.into(),
         call.turnaround.into(),
+        call.keeping.into(),
         call.operation.source.into(),
         call.operation.destination.into(),
         call.bytes.len(),
@@ -171,7 +196,7 @@ fn assert_read(stdin: &mut &[u8], Case { call, list }: &Case) {
 fn stdin_read_back_gives_the_cases() {
     let all: Vec<Case> = cases().iter().map(|(case, _)| case.clone()).collect();
     let stdin = stdin_bytes(&all);
-    assert!(stdin.len() < 1_550_000, "{}", stdin.len());
+    assert!(stdin.len() < 1_650_000, "{}", stdin.len());
     let mut rest = stdin.as_slice();
     for case in &all {
         assert_read(&mut rest, case);

@@ -70,7 +70,7 @@ impl Case {
 const SCRATCH: usize = 100;
 
 /// Changes of a call that give 6, 7 and 8: the number, the words, the pair, and the scratch.
-const CHANGES: [(u8, &str, (u16, u16), usize); 7] = [
+pub const CHANGES: [(u8, &str, (u16, u16), usize); 7] = [
     (6, "6 of the source", (5, 0), SCRATCH),
     (6, "6 of the destination", (0, 65535), SCRATCH),
     (6, "6 and 7", (300, 300), SCRATCH),

@@ -110,11 +110,20 @@ pub fn refused_calls(case: &mut Case, number: u8) -> Vec<Refused> {
             ("no scratch", with(|call| call.scratch_length = 0)),
         ],
         9 => vec![("ladder of 65 layers", too_many(case))],
-        _ => vec![
+        12 => vec![
             ("g 0", with(|call| call.turnaround = 0)),
             ("g 17", with(|call| call.turnaround = 17)),
             ("g 256", with(|call| call.turnaround = 256)),
             ("g 65535", with(|call| call.turnaround = 65535)),
+        ],
+        _ => vec![
+            ("h 0", with(|call| call.keeping = 0)),
+            ("h 256", with(|call| call.keeping = 256)),
+            ("h 257", with(|call| call.keeping = 257)),
+            (
+                "g 16, h 15",
+                with(|call| (call.turnaround, call.keeping) = (16, 15)),
+            ),
         ],
     }
 }

@@ -40,7 +40,7 @@ pub fn cases() -> Vec<Case> {
 }
 
 /// The trace, with its replies.
-fn stating(case: Case, stated: Vec<String>) -> Case {
+pub fn stating(case: Case, stated: Vec<String>) -> Case {
     Case { stated, ..case }
 }
 
@@ -65,7 +65,7 @@ fn examples() -> Vec<Case> {
 }
 
 /// The ordered pairs of a plan.
-fn every_pair(plan: &LabelledPlan) -> Vec<(u16, u16)> {
+pub fn every_pair(plan: &LabelledPlan) -> Vec<(u16, u16)> {
     let pairs = pairs(plan.sizes.0.into());
     let narrow = |(source, destination): (usize, usize)| (source as u16, destination as u16);
     pairs.map(narrow).collect()
@@ -245,39 +245,45 @@ fn around() -> Vec<Case> {
     cases
 }
 
+/// A trace without steps on a ladder whose layers are a turnaround apart.
+pub fn spaced(turnaround: usize, layers: usize) -> Case {
+    let builder = spaced_sent_ladder(turnaround, layers, 2);
+    let last = 2 * layers as u16;
+    let label = format!("spaced ladder of {layers} layers, g {turnaround}");
+    let mut case = Case::unlisted(&label, builder.sizes(), builder.bytes(), (0, last));
+    case.pair.turnaround = turnaround as u16;
+    case
+}
+
+/// The first ways and the last ones of such a ladder of 64 layers.
+pub fn first_and_last(bare: Case) -> [Case; 2] {
+    let part = |name: &str, indices: std::ops::Range<u64>| Case {
+        label: format!("{}, {name}", bare.label),
+        list: indices
+            .map(|index| sent_ladder_path(64, 1, index))
+            .collect(),
+        ..bare.clone()
+    };
+    let all = 1 << 63;
+    let first = part("first ways", 0..4).first().next(3);
+    let last = part("last ways", all - 2..all);
+    let offered = last.list[0].clone();
+    let length = last.contents.len();
+    let last = last.beginning(&offered, length).next(2);
+    [
+        first.stating(&["path 64"; 4]),
+        last.stating(&["path 64", "last"]),
+    ]
+}
+
 /// Ladders whose layers are a turnaround apart: their first ways and their last, and 65 layers; then a ladder
 /// whose layers are nearer.
 fn ladders() -> Vec<Case> {
-    let bare = |turnaround: usize, layers: usize| {
-        let builder = spaced_sent_ladder(turnaround, layers, 2);
-        let last = 2 * layers as u16;
-        let label = format!("spaced ladder of {layers} layers, g {turnaround}");
-        let mut case = Case::unlisted(&label, builder.sizes(), builder.bytes(), (0, last));
-        case.pair.turnaround = turnaround as u16;
-        case
-    };
-    let part = |turnaround: usize, name: &str, indices: std::ops::Range<u64>| {
-        let bare = bare(turnaround, 64);
-        Case {
-            label: format!("{}, {name}", bare.label),
-            list: indices
-                .map(|index| sent_ladder_path(64, 1, index))
-                .collect(),
-            ..bare
-        }
-    };
-    let all = 1 << 63;
     let mut cases = Vec::new();
     for turnaround in [2, 4] {
-        let first = part(turnaround, "first ways", 0..4).first().next(3);
-        cases.push(first.stating(&["path 64"; 4]));
-        let last = part(turnaround, "last ways", all - 2..all);
-        let offered = last.list[0].clone();
-        let length = last.contents.len();
-        let last = last.beginning(&offered, length).next(2);
-        cases.push(last.stating(&["path 64", "last"]));
+        cases.extend(first_and_last(spaced(turnaround, 64)));
     }
-    cases.push(bare(3, 65).first().next(1).stating(&["refused 9"; 2]));
+    cases.push(spaced(3, 65).first().next(1).stating(&["refused 9"; 2]));
     let near = sent_ladder(9, 2);
     let near = LabelledPlan::built("ladder of 9 layers, g 2", &near).turning(2);
     cases.push(
@@ -424,14 +430,8 @@ pub fn other_turnarounds(random: &mut Random, mut case: Case) -> Case {
         let Step::Call(_, call) = step else {
             continue;
         };
-        let named = Arguments {
-            buffer_length: call.buffer_length,
-            scratch_length: call.scratch_length,
-            ..pair
-        };
-        let short = call.buffer_length < pair.slots || call.scratch_length < pair.scratch_length;
         let wrong = WRONG_TURNAROUNDS[random.below(WRONG_TURNAROUNDS.len())];
-        if *call != named || short {
+        if call.is_refused(pair) {
             call.turnaround = match random.below(4) {
                 0 => wrong,
                 1 => drawn_turnaround(random) as u16,

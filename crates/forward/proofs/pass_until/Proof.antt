@@ -1,0 +1,36 @@
+-- `forward::pass_until` meets its contract: the pass with a column for each station of the block.
+-- Assumes nothing.
+use Rattle.pass.specs.Column.{columnOf}
+use borrow.Author.Needs.{needs}
+use Rattle.forward.proofs.pass_until.Statement.{statement}
+use Rattle.forward.proofs.pass_until.Tie as tie
+
+sub-pass-slots : tie.Need-sub-pass-slots
+sub-pass-slots c = search needs
+
+part-pass-slots-start : tie.Need-part-pass-slots-start
+part-pass-slots-start c = search needs
+
+part-pass-slots-end : tie.Need-part-pass-slots-end
+part-pass-slots-end c = search needs
+
+pass-slots-requires : tie.Need-pass-slots-requires
+pass-slots-requires c κs = search needs
+
+same-length : tie.Need-same-length
+same-length c = search needs
+
+returns : tie.Need-returns
+unfolding columnOf
+returns c = c .before .before .pass-slots .ensures
+
+pub pass-until-spec : {M : Type 1} → statement M
+pass-until-spec =
+    tie.close
+    (tie.spec
+    sub-pass-slots
+    part-pass-slots-start
+    part-pass-slots-end
+    pass-slots-requires
+    same-length
+    returns)

@@ -1,0 +1,2 @@
+-- What the forward pass asks and what it promises.
+pub mod Passed

@@ -1,0 +1,109 @@
+-- What the pass asks and what it promises: hops and counts from a source to every station, and for each of a block of
+-- stations how many shortest walks do not have it inside; or for a set of stations how many shortest walks to one
+-- destination have no member inside. Definitions only.
+-- Assumes nothing.
+use Prim.Native.Nat.{ℕ, _+_, _-_, _*_, _/_, _<_, _≤_, min}
+use mathlib.Core.Path.{_≡_}
+use mathlib.Core.Bool.{Bool, false, cond}
+use mathlib.Core.List.{List}
+use mathlib.Core.Logic.{_⊎_, _≢_}
+use lib.Dec.{leb, eqb}
+use lib.ListN.{length, getD, drop}
+use Rattle.temporal.specs.Plan.{Terms, Keeps, Allowed}
+use Rattle.temporal.specs.Bytes.{planOf}
+use Rattle.temporal.specs.Cause.{planFault, tooMany}
+use Rattle.temporal.specs.Shortest.{shortestWalksTo, hops, count, through}
+use Rattle.temporal.specs.Set.{touched}
+use Rattle.pass.specs.PassedColumns.{waiting, areaSize}
+use Rattle.stale.specs.Depth.{Deep}
+use Rattle.stale.specs.Size.{windowSize, windowColumns}
+
+-- How many entries of the work area the pass uses, with blocks of so many columns; d appearances of a station are kept where readings go
+-- stale.
+unfoldable pub passSize : ℕ → ℕ → Terms → ℕ → ℕ → ℕ
+passSize n t terms d block =
+    cond (leb t (terms .keeping + 1)) (areaSize n (waiting t terms) block) (windowSize n d block)
+
+-- the most columns of a row for which the pass fits e entries a station where nothing goes stale, with q parts of what waits; no more
+-- than there are stations
+unfoldable pub keptColumns : ℕ → ℕ → ℕ → ℕ
+keptColumns n e q = min n (e / (1 + q) - 2)
+
+-- the most columns for which it fits
+unfoldable pub mostColumns : ℕ → ℕ → Terms → ℕ → ℕ → ℕ
+mostColumns n t terms d e = cond (leb t (terms .keeping + 1)) (keptColumns n e (waiting t terms)) (windowColumns n e d)
+
+-- e entries a station are enough for one column: all of the work area but 2 are
+pub record Lent (t : ℕ) (terms : Terms) (d e : ℕ) : Type 0 where
+  pub units : Allowed terms
+  pub some : 0 < t
+  pub most : t ≤ 255
+  pub kept : d ≤ terms .keeping
+  pub enough : 4 * t + 2 ≤ e
+
+-- what finding how many appearances are kept asks
+pub record DepthReady (bs : List ℕ) (n t h : ℕ) (work : List ℕ) : Type 0 where
+  pub accepted : planFault bs n t ≡ 0
+  pub some : 0 < h
+  pub most : h ≤ 255
+  pub fits : n ≤ length work
+
+-- What the pass for any columns asks: an accepted plan, units that no cause refuses, a source that the pass does not wait for, and a work
+-- area that is long enough. It waits for a station only where nothing goes stale.
+pub record UntilReady (bs : List ℕ) (n t : ℕ) (terms : Terms) (d s until block : ℕ) (work : List ℕ) : Type 0 where
+  pub accepted : planFault bs n t ≡ 0
+  pub units : Allowed terms
+  pub deep : Deep bs n (terms .keeping) d
+  pub source : s < n
+  pub other : s ≢ until
+  pub waits : Keeps t terms ⊎ (until ≡ n)
+  pub fits : passSize n t terms d block ≤ length work
+
+-- what the pass asks: an accepted plan, units that no cause refuses, a source and a block of stations, and a work area that is long enough
+pub record PassReady (bs : List ℕ) (n t : ℕ) (terms : Terms) (d s low block : ℕ) (work : List ℕ) : Type 0 where
+  pub accepted : planFault bs n t ≡ 0
+  pub units : Allowed terms
+  pub deep : Deep bs n (terms .keeping) d
+  pub source : s < n
+  pub stations : low + block ≤ n
+  pub fits : passSize n t terms d block ≤ length work
+
+-- Station z has its hops at z and its count at n + z. At 2 n + z block + j stands how many of its shortest walks do not
+-- have station low + j inside; nothing is said there of z itself, nor where there is no walk.
+pub record Counted (bs : List ℕ) (n t : ℕ) (terms : Terms) (s low block : ℕ) (work : List ℕ) : Type 0 where
+  pub station-hops : (z : ℕ) → z < n → getD work z 0 ≡ hops (shortestWalksTo (planOf bs n t terms) s z)
+  pub station-counts : (z : ℕ) → z < n → getD work (n + z) 0 ≡ count (shortestWalksTo (planOf bs n t terms) s z)
+  pub rows : (z j : ℕ) → z < n → j < block → low + j ≢ z → hops (shortestWalksTo (planOf bs n t terms) s z) < 65535
+      → getD work (2 * n + z * block + j) 0 + through (planOf bs n t terms) s z (low + j)
+      ≡ count (shortestWalksTo (planOf bs n t terms) s z)
+
+-- What the pass promises: whether a count is over 2^64 - 1, exactly; where none is, the entries above; and that nothing
+-- past its part of the work area is touched.
+pub record Passed (bs : List ℕ) (n t : ℕ) (terms : Terms) (d s low block : ℕ) (old new : List ℕ) (r : Bool) : Type 0 where
+  pub too-many : r ≡ tooMany (planOf bs n t terms) s
+  pub counted : r ≡ false → Counted bs n t terms s low block new
+  pub beyond : drop (passSize n t terms d block) new ≡ drop (passSize n t terms d block) old
+  pub same-length : length new ≡ length old
+
+-- ---- a set of stations
+
+-- what the pass over a set asks: an accepted plan, units that no cause refuses, a source and a destination in it, and a work area that is
+-- long enough
+pub record SetReady (bs : List ℕ) (n t : ℕ) (terms : Terms) (s z : ℕ) (work : List ℕ) : Type 0 where
+  pub accepted : planFault bs n t ≡ 0
+  pub units : Allowed terms
+  pub source : s < n
+  pub destination : z < n
+  pub fits : passSize n t terms (terms .keeping) 1 ≤ length work
+
+-- What it promises: whether a count is over 2^64 - 1, exactly; where none is, hops and counts as above (Counted, with an
+-- empty block), and at 2 n + z how many shortest walks to the destination z have no member inside (nothing is said of it
+-- where there is no walk); and that nothing past its part of the work area is touched. A member's byte in the set is 1.
+pub record SetPassed (bs : List ℕ) (n t : ℕ) (terms : Terms) (s z : ℕ) (set old new : List ℕ) (r : Bool) : Type 0 where
+  pub too-many : r ≡ tooMany (planOf bs n t terms) s
+  pub counted : r ≡ false → Counted bs n t terms s 0 0 new
+  pub members : r ≡ false → hops (shortestWalksTo (planOf bs n t terms) s z) < 65535
+      → getD new (2 * n + z) 0 + touched (planOf bs n t terms) s z (λ v. eqb (getD set v 0) 1)
+      ≡ count (shortestWalksTo (planOf bs n t terms) s z)
+  pub beyond : drop (passSize n t terms (terms .keeping) 1) new ≡ drop (passSize n t terms (terms .keeping) 1) old
+  pub same-length : length new ≡ length old

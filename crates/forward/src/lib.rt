@@ -1,0 +1,200 @@
+// The forward pass, as the operations call it: where nothing goes stale in the slots of the plan, the pass that carries what may be sent
+// on; else the pass that gathers a sender's window. What either leaves in the work area is read in one way.
+ghost use mathlib.Core.Path.{_≡_};
+ghost use Prim.Native.Nat.{_+_, _*_, _<_, _≤_};
+ghost use Rattle.temporal.specs.Plan.{units};
+ghost use Rattle.pass.specs.Column.{blockColumn, columnOf};
+ghost use Rattle.pass.specs.PassedColumns.{ColumnsPassed, overOf, slotOf};
+ghost use Rattle.stale.specs.Depth.{DepthOf};
+ghost use Rattle.forward.specs.Passed.{
+  passSize,
+  keptColumns,
+  mostColumns,
+  Lent,
+  DepthReady,
+  UntilReady,
+  PassReady,
+  Passed,
+  SetReady,
+  SetPassed,
+};
+use pass::Columns;
+use pass::Ended;
+
+// How many appearances of a station the pass keeps where readings go stale.
+pub fn depth(work: &mut [u64], plan: &[u8], n: usize, t: usize, h: usize) -> usize
+    requires { ⌜ DepthReady (now plan) n t h (now work) ⌝ }
+    ensures { λ r. ⌜ DepthOf (now (plan .entry)) n h (now (work .entry)) (now (work .exit)) r ⌝ }
+{
+    if t <= h + 1 {
+        return h;
+    }
+    stale::depth_of(work, plan, n, h)
+}
+
+// The most columns of a row for which the pass fits e entries a station where nothing goes stale, with q parts of what waits.
+fn kept_columns(n: usize, e: usize, q: usize) -> usize
+    requires { ⌜ (q < 18446744073709551615) × (2 * (1 + q) ≤ e) ⌝ }
+    ensures { λ r. ⌜ r ≡ keptColumns n e q ⌝ }
+{
+    pass::smaller(n, e / (1 + q) - 2)
+}
+
+// The most columns of a row for which the pass fits e entries a station.
+pub fn most_columns(n: usize, t: usize, g: usize, h: usize, depth: usize, e: usize) -> usize
+    requires { ⌜ Lent t (units g h) depth e ⌝ }
+    ensures { λ r. ⌜ r ≡ mostColumns n t (units g h) depth e ⌝ }
+{
+    if t <= h + 1 {
+        let q = pass::smaller(g, t);
+        return kept_columns(n, e, q);
+    }
+    stale::window_columns(n, e, depth)
+}
+
+// The pass for any columns, to the slot in which the station until is reached.
+fn pass_slots(
+    work: &mut [u64],
+    plan: &[u8],
+    n: usize,
+    t: usize,
+    g: usize,
+    h: usize,
+    depth: usize,
+    source: usize,
+    columns: Columns,
+    set: &[u8],
+    block: usize,
+    until: usize,
+) -> Ended
+    requires { ⌜ UntilReady (now plan) n t (units g h) depth source until block (now work) ⌝ }
+    ensures { λ r. ⌜ ColumnsPassed (now (plan .entry)) n t (units g h) source until (columnOf columns (now (set .entry)) block) block
+        (passSize n t (units g h) depth block) (now (work .entry)) (now (work .exit)) r ⌝ }
+{
+    if t <= h + 1 {
+        return pass::pass_columns(work, plan, n, t, g, h, source, columns, set, block, until);
+    }
+    stale::pass_window(work, plan, n, t, g, h, depth, source, columns, set, block)
+}
+
+// The pass for a block of stations, to the slot in which the station until is reached: column j of a row is about station
+// low + j. With n for until it waits for no station and goes through every slot; for another it waits only where nothing goes stale.
+pub fn pass_until(
+    work: &mut [u64],
+    plan: &[u8],
+    n: usize,
+    t: usize,
+    g: usize,
+    h: usize,
+    depth: usize,
+    source: usize,
+    low: usize,
+    block: usize,
+    until: usize,
+) -> Ended
+    requires { ⌜ UntilReady (now plan) n t (units g h) depth source until block (now work) ⌝ }
+    ensures { λ r. ⌜ ColumnsPassed (now (plan .entry)) n t (units g h) source until (blockColumn low block) block
+        (passSize n t (units g h) depth block) (now (work .entry)) (now (work .exit)) r ⌝ }
+{
+    pass_slots(
+        work,
+        plan,
+        n,
+        t,
+        g,
+        h,
+        depth,
+        source,
+        Columns::From(low),
+        &plan[0..0],
+        block,
+        until,
+    )
+}
+
+// Whether a pass met a count over 2^64 - 1.
+fn over(ended: Ended) -> bool
+    ensures { λ r. ⌜ r ≡ overOf ended ⌝ }
+{
+    match ended {
+        Ended::Settled(_) => {
+            return false;
+        }
+        Ended::StationTooMany => {
+            return true;
+        }
+        Ended::AppearanceTooMany => {
+            return true;
+        }
+    }
+}
+
+// The slot in which a pass ended settled; 0 where it met a count over 2^64 - 1.
+pub fn settled_slot(ended: Ended) -> usize
+    ensures { λ r. ⌜ r ≡ slotOf ended ⌝ }
+{
+    match ended {
+        Ended::Settled(slot) => {
+            return slot;
+        }
+        Ended::StationTooMany => {
+            return 0;
+        }
+        Ended::AppearanceTooMany => {
+            return 0;
+        }
+    }
+}
+
+// The pass for a block of stations through every slot. True where an appearance or a station has a count over 2^64 - 1.
+pub fn pass(
+    work: &mut [u64],
+    plan: &[u8],
+    n: usize,
+    t: usize,
+    g: usize,
+    h: usize,
+    depth: usize,
+    source: usize,
+    low: usize,
+    block: usize,
+) -> bool
+    requires { ⌜ PassReady (now plan) n t (units g h) depth source low block (now work) ⌝ }
+    ensures { λ r. ⌜ Passed (now (plan .entry)) n t (units g h) depth source low block (now (work .entry)) (now (work .exit)) r ⌝ }
+{
+    let ended = pass_until(work, plan, n, t, g, h, depth, source, low, block, n);
+    over(ended)
+}
+
+// The pass for a set of stations, one column for all members; the destination is never inside.
+pub fn set_pass(
+    work: &mut [u64],
+    plan: &[u8],
+    n: usize,
+    t: usize,
+    g: usize,
+    h: usize,
+    source: usize,
+    destination: usize,
+    set: &[u8],
+) -> bool
+    requires { ⌜ SetReady (now plan) n t (units g h) source destination (now work) ⌝ }
+    ensures { λ r. ⌜ SetPassed (now (plan .entry)) n t (units g h) source destination (now (set .entry)) (now (work .entry))
+        (now (work .exit)) r ⌝ }
+{
+    let ended = pass_slots(
+        work,
+        plan,
+        n,
+        t,
+        g,
+        h,
+        h,
+        source,
+        Columns::Members(destination),
+        set,
+        1,
+        n,
+    );
+    over(ended)
+}

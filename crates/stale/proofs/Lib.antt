@@ -1,0 +1,16 @@
+-- the depth of the rings, and how many columns fit
+pub mod DepthLaws
+pub mod SizeLaws
+-- sums over cells that name numbers
+mod SpreadLaws
+-- where the parts, the slots of the cells and the counters lie
+mod RingPlaces
+-- what the functions of the pass leave, from what the functions that they call leave; cells of the work area
+mod WindowSteps
+mod WindowCells
+-- the rings of the stations
+mod RingLaws
+-- the windows, a slot, and the loop of the pass
+mod WindowWalks
+mod WindowSlots
+mod WindowPass

@@ -1,0 +1,517 @@
+-- The loop of the pass where readings go stale: from slot to slot, the beginning and the end. Assumes nothing.
+use Prim.Native.Nat.{ℕ, _+_, _-_, _*_, _%_, _^_, _<_, _≤_}
+use native.Mathlib.Omega.{arith}
+use native.Mathlib.Numerals.{add-one}
+use native.Mathlib.Decide.{decLe, ℕ-discrete}
+use mathlib.Core.Path.{_≡_, refl, sym, ap, subst, _∙_}
+use mathlib.Core.Bool.{Bool, true, false, cond}
+use mathlib.Core.List.{List}
+use mathlib.Core.Logic.{_⊎_, inl, inr, ⊎-elim, by-cases, _≢_}
+use mathlib.Core.Option.{some as present}
+use borrow.Author.Tests.{ltb-true, ltb-false}
+use lib.Dec.{ltb}
+use lib.ListN.{length, getD, drop, getElem?}
+use Rattle.temporal.specs.Lists.{below, any}
+use Rattle.temporal.specs.Plan.{Contact, Plan, Terms}
+use Rattle.temporal.specs.Bytes.{contactAt, records, planOf}
+use Rattle.temporal.specs.Cause.{planFault}
+use Rattle.temporal.specs.Shortest.{shortestWalks, count}
+use Rattle.temporal.specs.Foremost.{walksBy}
+use Rattle.temporal.proofs.Accepted.{accepted}
+use Rattle.temporal.proofs.ListLaws.{any-false, mem-below}
+use Rattle.temporal.proofs.ForemostLaws.{arrival-outside}
+use Rattle.temporal.proofs.WalkLaws.{SlotsWithin}
+use Rattle.temporal.proofs.PlanLaws.{contact-there, contact-inv, contacts-length, slots-within, slots-sorted}
+use Rattle.counting.proofs.Weights.{everywhere}
+use Rattle.counting.proofs.Fewest.{plus}
+use Rattle.counting.proofs.Recurrence.{arrivals, arrivals-all, arrivals-same, heard-more, start-other, heard-zero}
+use Rattle.entries.proofs.EntryLaws.{Entry, Small}
+use Rattle.entries.proofs.HopLaws.{few-slots}
+use Rattle.memory.proofs.FillLaws.{filled-length, filled-other, filled-at}
+use Rattle.plan.proofs.SlotLaws.{in-slot-inv, in-slot-none}
+use Rattle.pass.specs.declared.Ended.{Ended}
+use Rattle.pass.specs.declared.Ended.the-variants as ended
+use Rattle.pass.specs.Row.{partSize, rowAt}
+use Rattle.pass.specs.Entry.{areaOverflows}
+use Rattle.pass.specs.Sweep.{sweepOf, emptied, begunArea}
+use Rattle.pass.specs.PassedColumns.{SettledAt, EndedAs, ColumnsPassed, lastEnded}
+use Rattle.pass.proofs.PlaceLaws.{row-inside}
+use Rattle.pass.proofs.BestLaws.{best-ext, best-same}
+use Rattle.pass.proofs.ColumnLaws.{mayLeave, source-free}
+use Rattle.pass.proofs.PlanWalks.{kept, walksAt, none-arrived}
+use Rattle.pass.proofs.StateLaws.{AreaState}
+use Rattle.pass.proofs.BeginLaws.{begun-length, begun-state}
+use Rattle.pass.proofs.EndLaws.{appearance-small, appearance-large, start-small, too-many-appearance, few-appearances}
+use Rattle.pass.proofs.EndLaws.{entries-overflow, entries-counted}
+use Rattle.pass.proofs.ReachLaws.{stations-over}
+use Rattle.pass.proofs.PassLaws.{drop-same}
+use Rattle.stale.specs.Depth.{heardBefore, heardRecords}
+use Rattle.stale.specs.Size.{windowSize}
+use Rattle.stale.specs.Window.{ringAt, markAt, windowsOf, sentRecords, windowSlot, begunWindow, WindowArea, RecordsFit}
+use Rattle.stale.specs.Window.{SlotRecords, WindowReady}
+use Rattle.stale.proofs.DepthLaws.{rises, heard-most}
+use Rattle.stale.proofs.RingPlaces.{area-same, mark-behind, mark-at, mark-inside, first-parts, ring-first, parts-end}
+use Rattle.stale.proofs.WindowSteps.{counters-fit}
+use Rattle.stale.proofs.WindowCells.{Holds}
+use Rattle.stale.proofs.RingLaws.{Ring, counterOf}
+use Rattle.stale.proofs.WindowWalks.{heardBy, heardIn, WindowState}
+use Rattle.stale.proofs.WindowSlots.{Gathered, windows-gathered, Hearing, hearing-none, hearing-all, heard-moved}
+use Rattle.stale.proofs.WindowSlots.{LargeHere, Kept, kept-all}
+
+-- ---- a slot
+
+-- the records from j to before e are those of slot c + 1 in the plan
+pub record SlotOf (bs : List ℕ) (p : Plan) (n c j e : ℕ) : Type 0 where
+  pub from : j ≤ e
+  pub there : (i : ℕ) → j ≤ i → i < e → getElem? (p .contacts) i ≡ present (contactAt bs i)
+  pub slot : (i : ℕ) → j ≤ i → i < e → contactAt bs i .slot ≡ c + 1
+  pub sender : (i : ℕ) → j ≤ i → i < e → contactAt bs i .sender < n
+  pub hearer : (i : ℕ) → j ≤ i → i < e → contactAt bs i .hearer < n
+  pub done : (i : ℕ) (d : Contact) → i < j → getElem? (p .contacts) i ≡ present d → d .slot ≢ c + 1
+  pub past : (i : ℕ) (d : Contact) → e ≤ i → getElem? (p .contacts) i ≡ present d → d .slot ≢ c + 1
+  pub within : e ≤ length (p .contacts)
+
+module _ (bs : List ℕ) (p : Plan) (s : ℕ) (col : ℕ → ℕ) (n block c : ℕ) (turns : 0 < p .terms .turnaround) (some : 0 < p .terms .keeping)
+    (fits : SlotsWithin p) (few : p .slots ≤ 255) (d : ℕ) (old : List ℕ) (area : WindowArea n block d old) (j e : ℕ)
+    (slot : SlotOf bs p n c j e) (deep : (v : ℕ) → v < n → (d ≡ p .terms .keeping) ⊎ (heardBefore bs v e ≤ d))
+    (small : e < 18446744073709551616) (w : List ℕ)
+    (state : WindowState bs p s (mayLeave s col) n block (p .terms .keeping) d c j old w) where
+  gathered-list : List ℕ
+  gathered-list = windowsOf bs n block d (p .terms) s col w (c + 1) n j (e - j)
+
+  gathered : Gathered p s col n block c turns some bs d j old area j (e - j) w gathered-list
+  unfolding gathered-list
+  gathered =
+      windows-gathered p s col n block c turns some bs d j old area (e - j) w n j state (λ h. absurd (omega arith))
+      (λ i low high. slot .sender i low (let f = slot .from in omega arith))
+
+  sent-list : List ℕ
+  sent-list = sentRecords bs n block (ringAt n block d) (partSize n block) (emptied n gathered-list (partSize n block)) j (e - j)
+
+  hearing : Hearing bs p s (mayLeave s col) n block (p .terms .keeping) d c old j e e sent-list
+  unfolding sent-list
+  hearing =
+      let f = slot .from in
+      hearing-all bs p s (mayLeave s col) n block (p .terms .keeping) d c old area j e (slot .sender) fits few (e - j) j _ (omega arith)
+      (omega arith) (slot .there) (slot .slot) (slot .hearer)
+      (hearing-none bs p s (mayLeave s col) n block (p .terms .keeping) d c old area j e (slot .sender) gathered-list (gathered .state)
+      (λ i low high. gathered .here i low (omega arith)) (slot .done))
+
+  -- all that is heard in the slot is folded in
+  all-heard : (g : ℕ → Bool) (v k : ℕ) → arrivals p s g e v (c + 1) k ≡ heardIn p s g v (c + 1) k
+  all-heard g v k =
+      sym (arrivals-all p s g v (c + 1) k (omega arith)
+      ∙ sym (arrivals-same p s g v (c + 1) k e (length (p .contacts)) (slot .within) (λ i d from h there. slot .past i d from there)))
+
+  heard-here : (v : ℕ) → v < n
+      → Holds n block sent-list (partSize n block) v (heardIn p s everywhere v (c + 1)) (λ i. heardIn p s (mayLeave s col i) v (c + 1))
+  heard-here v hv = best-ext (all-heard everywhere v) (λ i. all-heard (mayLeave s col i) v) (hearing .heard v hv)
+
+  by-next : (g : ℕ → Bool) (v k : ℕ) → plus (heardBy p s g v c) (heardIn p s g v (c + 1)) k ≡ heardBy p s g v (c + 1) k
+  unfolding plus
+  by-next g v k = rw add-one (sym (heard-more p s g v c k))
+
+  -- a station that has walks in the slot hears in one of its records
+  moved : (v : ℕ) → (heardBefore bs v j < heardBefore bs v e) ⊎ ((m : ℕ) → heardIn p s everywhere v (c + 1) m ≡ 0)
+  moved v =
+      let f = slot .from in
+      ⊎-elim inl (λ (q : (m : ℕ) → arrivals p s everywhere e v (c + 1) m ≡ 0). inr (λ m. sym (all-heard everywhere v m) ∙ q m))
+      (heard-moved bs p s (mayLeave s col) n block (p .terms .keeping) d c old area j e (slot .sender) fits few v (e - j) j (omega arith)
+      (omega arith) (slot .there) (inr (none-arrived p s everywhere j (c + 1) (slot .done) v)))
+
+  kept-here : Kept bs p s (mayLeave s col) n block (p .terms .keeping) d c j e by-next (λ v. rises bs v j e (slot .from)) moved
+      (λ v. omega (arith, heard-most bs v e)) deep 0 (sweepOf false sent-list) (windowSlot bs n block d (p .terms) s col w (c + 1) j e)
+  unfolding windowSlot sent-list gathered-list
+  kept-here =
+      kept-all bs p s (mayLeave s col) n block (p .terms .keeping) d c j e by-next (λ v. rises bs v j e (slot .from)) moved
+      (λ v. omega (arith, heard-most bs v e)) deep n 0 (sweepOf false sent-list) (omega arith) (area-same area (hearing .state .same))
+      heard-here (λ z hz low. absurd (omega arith))
+      (λ z hz low. record { total = hearing .state .totals z hz; ring = hearing .state .rings z hz })
+
+  -- the state by the next slot
+  pub slot-state : WindowState bs p s (mayLeave s col) n block (p .terms .keeping) d (c + 1) e old
+      (windowSlot bs n block d (p .terms) s col w (c + 1) j e .work)
+  slot-state =
+      record {
+        same = kept-here .same ∙ hearing .state .same;
+        beyond = λ i far. kept-here .beyond i far ∙ hearing .state .beyond i far;
+        totals = λ v hv. kept-here .done v hv .total;
+        rings = λ v hv. kept-here .done v hv .ring;
+      }
+
+  -- the flag says whether an appearance in the slot is large
+  pub slot-over : windowSlot bs n block d (p .terms) s col w (c + 1) j e .over ≡ true → LargeHere n (λ v. heardIn p s everywhere v (c + 1))
+  slot-over h =
+      ⊎-elim (λ (f : _≡_ {A = Bool} false true). let z : _≡_ {A = ℕ} 0 1 = cc in absurd (omega arith)) (λ l. l) (kept-here .over h)
+
+  pub slot-within : windowSlot bs n block d (p .terms) s col w (c + 1) j e .over ≡ false → (v : ℕ) → v < n
+      → Small (heardIn p s everywhere v (c + 1))
+  slot-within h v hv = kept-here .within h .1 v (omega arith) hv
+
+-- ---- the loop
+
+-- The pass is before slot u, at position j: the work area holds the walks by the slot before, and no appearance by that slot has too many.
+pub record Windowing (bs : List ℕ) (n t : ℕ) (terms : Terms) (s : ℕ) (col : ℕ → ℕ) (block d : ℕ) (old : List ℕ) (u j : ℕ) (w : List ℕ)
+    : Type 0 where
+  pub from-one : 0 < u
+  pub last : u ≤ t + 1
+  pub inside : j ≤ records bs
+  done : (i : ℕ) → i < j → contactAt bs i .slot < u
+  ahead : (i : ℕ) → j ≤ i → i < records bs → u ≤ contactAt bs i .slot
+  pub state : WindowState bs (planOf bs n t terms) s (mayLeave s col) n block (terms .keeping) d (u - 1) j old w
+  small : (v x : ℕ) → v < n → x < u → count (shortestWalks (planOf bs n t terms) s v x) ≤ 18446744073709551615
+
+-- an area that is ready
+pub ready-area : (bs : List ℕ) (n t : ℕ) (terms : Terms) (d s block : ℕ) (w : List ℕ) → WindowReady bs n t terms d s block w
+    → WindowArea n block d w
+ready-area bs n t terms d s block w r =
+    record { some = accepted bs n t (r .accepted) .some-station; deep = r .deep .0; fits = r .fits }
+
+module _ (bs : List ℕ) (n t : ℕ) (terms : Terms) (d s : ℕ) (col : ℕ → ℕ) (block : ℕ) (old : List ℕ)
+    (ready : WindowReady bs n t terms d s block old) where
+  ok : planFault bs n t ≡ 0
+  ok = ready .accepted
+
+  area : WindowArea n block d old
+  area = ready-area bs n t terms d s block old ready
+
+  module _ (u j : ℕ) (w : List ℕ) (x : Windowing bs n t terms s col block d old u j w) where
+    -- the work area fits
+    pub windowing-area : WindowArea n block d w
+    windowing-area = area-same area (x .state .same)
+
+    -- its position lies within the plan
+    pub windowing-position : j * 6 ≤ length bs
+    windowing-position = let h = x .inside in let whole = accepted bs n t ok .whole in omega arith
+
+    beyond-same : drop (windowSize n d block) w ≡ drop (windowSize n d block) old
+    beyond-same = drop-same (windowSize n d block) w old (x .state .same) (x .state .beyond)
+
+    module _ (e : ℕ) (found : SlotRecords bs u j e) where
+      -- the records of the slot can be folded in
+      pub windowing-records : RecordsFit bs n j e
+      windowing-records =
+          record {
+            inside = λ i low high. let (there, slot) = in-slot-inv bs i u (found .here i low high) in
+                let whole = accepted bs n t ok .whole in omega arith;
+            sender-station = λ i low high. let (there, slot) = in-slot-inv bs i u (found .here i low high) in
+                accepted bs n t ok .contact i there .sender-station;
+            hearer-station = λ i low high. let (there, slot) = in-slot-inv bs i u (found .here i low high) in
+                accepted bs n t ok .contact i there .hearer-station;
+          }
+
+      end-inside : e ≤ records bs
+      end-inside =
+          by-cases (decLe e j) (λ h. let k = x .inside in omega arith)
+          (λ more. let f = found .from in
+          let (there, slot) = in-slot-inv bs (e - 1) u (found .here (e - 1) (omega arith) (omega arith)) in omega arith)
+
+      -- those behind them are in later slots
+      later : (i : ℕ) → e ≤ i → i < records bs → u < contactAt bs i .slot
+      later i from h =
+          let up : e + (i - e) ≡ i = omega arith in
+          let rise = rw up at (slots-sorted bs n t terms ok e (i - e) (omega arith)) in
+          let f = found .from in
+          let here = x .ahead e f (omega arith) in
+          let other = in-slot-none bs e u (found .past) (omega arith) in
+          omega arith
+
+      of-slot : SlotOf bs (planOf bs n t terms) n (u - 1) j e
+      of-slot =
+          let up = x .from-one in
+          record {
+            from = found .from;
+            there = λ i low high. contact-there bs n t terms i (in-slot-inv bs i u (found .here i low high) .0);
+            slot = λ i low high. let (there, slot) = in-slot-inv bs i u (found .here i low high) in omega arith;
+            sender = windowing-records .sender-station;
+            hearer = windowing-records .hearer-station;
+            done = λ i d below there same.
+                let (inside, here) = contact-inv bs n t terms i d there in
+                let sooner = x .done i below in
+                let slot : contactAt bs i .slot ≡ u - 1 + 1 = ap (λ y. y .slot) here ∙ same in
+                omega arith;
+            past = λ i d from there same.
+                let (inside, here) = contact-inv bs n t terms i d there in
+                let after = later i from inside in
+                let slot : contactAt bs i .slot ≡ u - 1 + 1 = ap (λ y. y .slot) here ∙ same in
+                omega arith;
+            within = let h = end-inside in let same = contacts-length bs n t terms in omega arith;
+          }
+
+      module _ (w′ : List ℕ) (r : Bool) (within : u ≤ t) (out : sweepOf r w′ ≡ windowSlot bs n block d terms s col w u j e) where
+        this-slot : u - 1 + 1 ≡ u
+        this-slot = let h = x .from-one in omega arith
+
+        turns : 0 < terms .turnaround
+        turns = ready .units .turns
+
+        keeps : 0 < terms .keeping
+        keeps = let a = ready .units .turns in let b = ready .units .keeps in omega arith
+
+        most : t ≤ 255
+        most = accepted bs n t ok .slots
+
+        -- the rings are deep enough for what is heard
+        deep-here : (v : ℕ) → v < n → (d ≡ terms .keeping) ⊎ (heardBefore bs v e ≤ d)
+        deep-here v hv =
+            ⊎-elim inl
+            (λ (few : (v : ℕ) → v < n → heardRecords bs v ≤ d). inr (omega (arith, few v hv, rises bs v e (records bs) end-inside)))
+            (ready .deep .1)
+
+        end-small : e < 18446744073709551616
+        end-small = let a = end-inside in let b = accepted bs n t ok .few in omega arith
+
+        state-next : WindowState bs (planOf bs n t terms) s (mayLeave s col) n block (terms .keeping) d u e old w′
+        unfolding planOf
+        state-next =
+            subst (λ l. WindowState bs (planOf bs n t terms) s (mayLeave s col) n block (terms .keeping) d u e old l)
+            (sym (ap (λ z. z .work) out))
+            (subst (λ y. WindowState bs (planOf bs n t terms) s (mayLeave s col) n block (terms .keeping) d y e old
+            (windowSlot bs n block d terms s col w y j e .work)) this-slot
+            (slot-state bs (planOf bs n t terms) s col n block (u - 1) turns keeps (slots-within bs n t terms ok) most d old area j e
+            of-slot deep-here end-small w (x .state)))
+
+        flag-large : r ≡ true → LargeHere n (λ v. heardIn (planOf bs n t terms) s everywhere v u)
+        unfolding planOf
+        flag-large h =
+            subst (λ y. windowSlot bs n block d terms s col w y j e .over ≡ true
+            → LargeHere n (λ v. heardIn (planOf bs n t terms) s everywhere v y)) this-slot
+            (slot-over bs (planOf bs n t terms) s col n block (u - 1) turns keeps (slots-within bs n t terms ok) most d old area j e
+            of-slot deep-here end-small w (x .state))
+            (sym (ap (λ z. z .over) out) ∙ h)
+
+        flag-small : r ≡ false → (v : ℕ) → v < n → Small (heardIn (planOf bs n t terms) s everywhere v u)
+        unfolding planOf
+        flag-small h =
+            subst (λ y. windowSlot bs n block d terms s col w y j e .over ≡ false
+            → (v : ℕ) → v < n → Small (heardIn (planOf bs n t terms) s everywhere v y)) this-slot
+            (slot-within bs (planOf bs n t terms) s col n block (u - 1) turns keeps (slots-within bs n t terms ok) most d old area j e
+            of-slot deep-here end-small w (x .state))
+            (sym (ap (λ z. z .over) out) ∙ h)
+
+        -- a large sequence is a cause of refusal
+        pub passed-over : r ≡ true → ColumnsPassed bs n t terms s n col block (windowSize n d block) old w′ ended.AppearanceTooMany
+        unfolding EndedAs
+        passed-over h =
+            let large = flag-large h in
+            record {
+              ends = too-many-appearance bs n t terms ok s (large .station) u (large .inside) within
+                  (appearance-large (planOf bs n t terms) (slots-within bs n t terms ok) (few-slots bs n t terms ok) s (large .station) u
+                  (λ k. refl) (large .large));
+              beyond = drop-same (windowSize n d block) w′ old (state-next .same) (state-next .beyond);
+              same-length = state-next .same;
+            }
+
+        -- the pass is one slot further
+        pub windowing-next : r ≡ false → Windowing bs n t terms s col block d old (u + 1) e w′
+        windowing-next h =
+            let up : u ≡ u + 1 - 1 = omega arith in
+            record {
+              from-one = omega arith;
+              last = omega arith;
+              inside = end-inside;
+              done = λ i below. by-cases (decLe j i)
+                  (λ from. let (there, slot) = in-slot-inv bs i u (found .here i from below) in omega arith)
+                  (λ before. let k = x .done i (omega arith) in omega arith);
+              ahead = λ i from inside. let k = later i from inside in omega arith;
+              state =
+                  subst (λ y. WindowState bs (planOf bs n t terms) s (mayLeave s col) n block (terms .keeping) d y e old w′) up state-next;
+              small = λ v y hv below. by-cases (ℕ-discrete y u)
+                  (λ same. rw same (appearance-small (planOf bs n t terms) (slots-within bs n t terms ok) (few-slots bs n t terms ok) s v u
+                  (λ k. refl) (flag-small h v hv)))
+                  (λ d. x .small v y hv (omega arith));
+            }
+
+    -- ---- past the last slot
+
+    module _ (r : Ended) (past : t < u) (e : r ≡ lastEnded n t n (any (areaOverflows n w) (below n))) where
+      state : WindowState bs (planOf bs n t terms) s (mayLeave s col) n block (terms .keeping) d t j old w
+      state =
+          let l = x .last in
+          let end : u - 1 ≡ t = omega arith in
+          subst (λ y. WindowState bs (planOf bs n t terms) s (mayLeave s col) n block (terms .keeping) d y j old w) end (x .state)
+
+      at : (i k : ℕ) → i ≡ k → getD w i 0 ≡ getD w k 0
+      at i k q = ap (λ m. getD w m 0) q
+
+      held : (z : ℕ) → z < n → Entry (kept (planOf bs n t terms) s everywhere z t) (getD w z 0) (getD w (z + n) 0)
+      unfolding kept everywhere
+      held z h = rw (at z (0 + z) (omega arith), at (z + n) (0 + z + n) (omega arith)) (state .totals z h .entry)
+
+      rows : (z c : ℕ) → z < n → c < block → getD w z 0 < 65535 → mayLeave s col c z ≡ true
+          → getD w (rowAt n block z + c) 0 ≡ kept (planOf bs n t terms) s (mayLeave s col c) z t (getD w z 0) % 2 ^ 64
+      unfolding kept
+      rows z c h i few free =
+          rw (free, at z (0 + z) (omega arith))
+          (at (rowAt n block z + c) (0 + rowAt n block z + c) (omega arith)
+          ∙ state .totals z h .row c i (let q = at z (0 + z) (omega arith) in omega arith))
+
+      exact : (z : ℕ) → z < n → areaOverflows n w z ≡ ltb 18446744073709551615 (count (walksBy (planOf bs n t terms) s z t))
+      exact = entries-overflow bs n t terms ok s col block w t held rows
+
+      small : (v y : ℕ) → v < n → y ≤ t → count (shortestWalks (planOf bs n t terms) s v y) ≤ 18446744073709551615
+      small v y hv below = x .small v y hv (omega arith)
+
+      settled-last : ((z : ℕ) → z < n → count (walksBy (planOf bs n t terms) s z t) ≤ 18446744073709551615)
+          → SettledAt bs n t terms s n col block w t
+      settled-last stations =
+          record {
+            slot = let never = arrival-outside bs n t terms ok s n (ready .source) (omega arith) in
+                let most = accepted bs n t ok .slots in omega arith;
+            appearances = small;
+            stations = λ none. stations;
+            entries = entries-counted bs n t terms ok s col block w t held rows;
+          }
+
+      -- what the pass promises
+      pub passed-end : ColumnsPassed bs n t terms s n col block (windowSize n d block) old w r
+      unfolding lastEnded EndedAs
+      passed-end =
+          record {
+            ends = rw e (go (ltb n n) refl (any (areaOverflows n w) (below n)) refl);
+            beyond = beyond-same;
+            same-length = x .state .same;
+          }
+        where
+          go : (b : Bool) → ltb n n ≡ b → (c : Bool) → any (areaOverflows n w) (below n) ≡ c
+              → EndedAs bs n t terms s n col block w (cond b (ended.Settled t) (cond c ended.StationTooMany (ended.Settled t)))
+          go true q c f = absurd (let less = ltb-true n n q in omega arith)
+          go false q true f =
+              record {
+                waits-for-none = omega arith;
+                appearances = few-appearances bs n t terms ok s small;
+                station = sym (stations-over bs n t terms ok s (areaOverflows n w) exact) ∙ f;
+              }
+          go false q false f =
+              settled-last (λ z hz.
+              ltb-false 18446744073709551615 (count (walksBy (planOf bs n t terms) s z t))
+              (sym (exact z hz) ∙ any-false (areaOverflows n w) (below n) .0 f z (mem-below n .1 hz)))
+
+-- ---- the beginning
+
+-- the beginning keeps the length
+begun-length-window : (bs : List ℕ) (n t : ℕ) (terms : Terms) (d s block : ℕ) (old begins : List ℕ) → WindowReady bs n t terms d s block old
+    → begins ≡ begunWindow n block d old s → length begins ≡ length old
+unfolding begunWindow
+begun-length-window bs n t terms d s block old begins ready e =
+    rw e (filled-length (begunArea n block 1 old s) (markAt n block d d 0) n 0
+    ∙ begun-length n block 1 old s (first-parts (ready-area bs n t terms d s block old ready)) (ready .source))
+
+-- the work area at the beginning is as ready as at entry
+pub ready-begun : (bs : List ℕ) (n t : ℕ) (terms : Terms) (d s block : ℕ) (old begins : List ℕ) → WindowReady bs n t terms d s block old
+    → begins ≡ begunWindow n block d old s → WindowReady bs n t terms d s block begins
+ready-begun bs n t terms d s block old begins ready e =
+    let f = ready .fits in
+    let same = begun-length-window bs n t terms d s block old begins ready e in
+    record { accepted = ready .accepted; units = ready .units; deep = ready .deep; source = ready .source; fits = omega arith }
+
+module _ (bs : List ℕ) (n t : ℕ) (terms : Terms) (d s : ℕ) (col : ℕ → ℕ) (block : ℕ) (old begins : List ℕ)
+    (ready : WindowReady bs n t terms d s block old) (e : begins ≡ begunWindow n block d old s) where
+  full : WindowArea n block d old
+  full = ready-area bs n t terms d s block old ready
+
+  bare : List ℕ
+  bare = begunArea n block 1 old s
+
+  begun : AreaState n block 1 0 old (walksAt (planOf bs n t terms) s (mayLeave s col) 0 0) bare
+  unfolding bare
+  begun = begun-state (planOf bs n t terms) s (mayLeave s col) n block 1 old (source-free s col) (first-parts full) (ready .source)
+
+  counters-room : markAt n block d d 0 + n ≤ length bare
+  counters-room = let f = counters-fit full in let same = begun .same in omega arith
+
+  -- before the counters, and behind them, nothing more changes
+  begins-other : (i : ℕ) → (i < markAt n block d d 0) ⊎ (markAt n block d d 0 + n ≤ i) → getD begins i 0 ≡ getD bare i 0
+  unfolding begunWindow bare
+  begins-other i out = rw e (filled-other (begunArea n block 1 old s) (markAt n block d d 0) n 0 i out)
+
+  begins-length : length begins ≡ length old
+  begins-length = begun-length-window bs n t terms d s block old begins ready e
+
+  -- the counters are 0
+  counter-zero : (v : ℕ) → v < n → counterOf n block d v begins ≡ 0
+  unfolding begunWindow bare
+  counter-zero v hv =
+      rw (e, ← mark-at n block d d v) (filled-at (begunArea n block 1 old s) (markAt n block d d 0) n 0 v hv counters-room)
+
+  begins-beyond : (i : ℕ) → windowSize n d block ≤ i → getD begins i 0 ≡ getD old i 0
+  begins-beyond i far =
+      let some = full .some in
+      let last = mark-inside n block d d (n - 1) (omega arith) (omega arith) in
+      let place = mark-at n block d d (n - 1) in
+      let first = ring-first n block 0 in
+      let parts = parts-end n block d 0 (omega arith) in
+      begins-other i (inr (omega arith)) ∙ begun .beyond i (omega arith)
+
+  -- by slot 0 the empty walk alone counts, and it may go on from the source
+  kept-heard : (g : ℕ → Bool) → g s ≡ true → (v k : ℕ) → kept (planOf bs n t terms) s g v 0 k ≡ heardBy (planOf bs n t terms) s g v 0 k
+  unfolding kept
+  kept-heard g free v k =
+      by-cases (ℕ-discrete v s)
+      (λ same. rw (same, free))
+      (λ d. go (g v) (heard-zero (planOf bs n t terms) s g v k ∙ start-other (planOf bs n t terms) s g v k d))
+    where
+      go : (b : Bool) {x : ℕ} → x ≡ 0 → cond b x 0 ≡ x
+      go true z = refl
+      go false z = sym z
+
+  begun-total : (v : ℕ) → v < n
+      → Holds n block begins 0 v (heardBy (planOf bs n t terms) s everywhere v 0)
+      (λ i. heardBy (planOf bs n t terms) s (mayLeave s col i) v 0)
+  unfolding walksAt everywhere
+  begun-total v h =
+      let row = row-inside n block v h in
+      best-ext (kept-heard everywhere refl v) (λ i. kept-heard (mayLeave s col i) (source-free s col i) v)
+      (best-same (at (0 + v) v (omega arith) (omega arith)) (at (0 + v + n) (v + n) (omega arith) (omega arith))
+      (λ j i g. at (0 + rowAt n block v + j) (rowAt n block v + j) (omega arith) (omega arith)) (begun .settled v h))
+    where
+      at : (i k : ℕ) → i ≡ k → k < partSize n block → getD begins i 0 ≡ getD bare k 0
+      at i k is small =
+          let first = ring-first n block 0 in
+          let parts = parts-end n block d 0 (omega arith) in
+          begins-other i (inl (omega (arith, mark-behind n block d d 0))) ∙ ap (λ q. getD bare q 0) is
+
+  -- nothing is kept
+  begun-ring : (v : ℕ) → v < n
+      → Ring n block d (terms .keeping) 0 v (heardBefore bs v 0) (heardIn (planOf bs n t terms) s everywhere v)
+      (λ i. heardIn (planOf bs n t terms) s (mayLeave s col i) v) begins
+  begun-ring v hv =
+      let none = counter-zero v hv in
+      record {
+        few = omega arith;
+        after = λ k q. absurd (let b = q .kept in omega arith);
+        before = λ k q. absurd (let b = q .kept in omega arith);
+        rising = λ k l q less last. absurd (omega arith);
+        holds = λ k q. absurd (let b = q .kept in omega arith);
+        whole = λ x low high late. absurd (omega arith);
+      }
+
+  pub windowing-begun : Windowing bs n t terms s col block d begins 1 0 begins
+  windowing-begun =
+      record {
+        from-one = omega arith;
+        last = omega arith;
+        inside = omega arith;
+        done = λ i h. absurd (omega arith);
+        ahead = λ i from h. accepted bs n t (ready .accepted) .contact i h .from-one;
+        state = record {
+          same = refl;
+          beyond = λ i h. refl;
+          totals = begun-total;
+          rings = begun-ring;
+        };
+        small = λ v x h below.
+            let zero-slot : x ≡ 0 = omega arith in
+            rw zero-slot (appearance-small (planOf bs n t terms) (slots-within bs n t terms (ready .accepted))
+            (few-slots bs n t terms (ready .accepted)) s v 0 (λ k. refl) (start-small (planOf bs n t terms) s v));
+      }
+
+  -- what is promised from there on is promised from the entry on
+  pub passed-entry : (new : List ℕ) (r : Ended) → ColumnsPassed bs n t terms s n col block (windowSize n d block) begins new r
+      → ColumnsPassed bs n t terms s n col block (windowSize n d block) old new r
+  passed-entry new r x =
+      record {
+        ends = x .ends;
+        beyond = x .beyond ∙ drop-same (windowSize n d block) begins old begins-length begins-beyond;
+        same-length = x .same-length ∙ begins-length;
+      }

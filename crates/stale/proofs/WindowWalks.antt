@@ -1,0 +1,189 @@
+-- The pass where readings go stale: the state of the work area between two slots, and what a window holds once it is gathered.
+-- Assumes nothing.
+use Prim.Native.Nat.{ℕ, zero, suc, _+_, _-_, _%_, _^_, _<_, _≤_}
+use native.Mathlib.Omega.{arith}
+use native.Mathlib.Decide.{ℕ-discrete}
+use mathlib.Core.Path.{_≡_, refl, sym, ap, subst, _∙_}
+use mathlib.Core.Bool.{Bool, true, cond, and-false}
+use lib.Dec.{eqb}
+use mathlib.Core.List.{List}
+use mathlib.Core.Logic.{inl, by-cases, _≢_}
+use borrow.Author.Tests.{eq-eqb, ne-eqb}
+use lib.ListN.{length, getD}
+use Rattle.temporal.specs.Plan.{Plan, start, windowFirst, windowEnd}
+use Rattle.counting.proofs.Weights.{total, everywhere, cond-less, total-less, total-zero}
+use Rattle.counting.proofs.Fewest.{fewest-intro}
+use Rattle.counting.proofs.Recurrence.{heard, atAppearance, before, start-here, start-other}
+use Rattle.counting.proofs.WindowLaws.{inSlots, before-window}
+use Rattle.entries.specs.Entry.{stored}
+use Rattle.entries.proofs.CountLaws.{stored-small}
+use Rattle.pass.specs.Row.{partSize}
+use Rattle.pass.proofs.BestLaws.{Best, best-ext}
+use Rattle.pass.proofs.ColumnLaws.{mayLeave, source-free}
+use Rattle.stale.specs.Depth.{heardBefore}
+use Rattle.stale.specs.Size.{windowSize}
+use Rattle.stale.specs.Window.{ringAt, gatheredCell, keptCells, emptiedCell, windowCell, WindowArea}
+use Rattle.stale.proofs.SpreadLaws.{spread}
+use Rattle.stale.proofs.RingPlaces.{area-same, ring-before, ring-fits, parts-end}
+use Rattle.stale.proofs.WindowSteps.{kept-few}
+use Rattle.stale.proofs.WindowCells.{Holds, OnlyCell, cell-then, cell-part}
+use Rattle.stale.proofs.WindowCells.{opened-cell, opened-holds, emptied-cell, emptied-holds, mask-cell, mask-holds}
+use Rattle.stale.proofs.RingLaws.{Ring, SameRing, part-ring, gathered-only, ring-window}
+
+-- the walks to v by slot c, and those to the appearance (v, x), by hops, under a permission g
+abbrev pub heardBy : Plan → ℕ → (ℕ → Bool) → ℕ → ℕ → ℕ → ℕ
+heardBy p s g v c = total p g (start s) (heard v c)
+
+abbrev pub heardIn : Plan → ℕ → (ℕ → Bool) → ℕ → ℕ → ℕ → ℕ
+heardIn p s g v x = total p g (start s) (atAppearance v x)
+
+-- what v may send on in slot u
+abbrev pub sendable : Plan → ℕ → (ℕ → Bool) → ℕ → ℕ → ℕ → ℕ
+sendable p s g v u k = cond (g v) (total p g (start s) (before p v u) k) 0
+
+-- The work area by slot c, with the first j records done: part 0 has the walks to the stations by slot c; the rings have those to the
+-- appearances that may be followed after it.
+pub record WindowState (bs : List ℕ) (p : Plan) (s : ℕ) (may : ℕ → ℕ → Bool) (n block h d c j : ℕ) (old w : List ℕ) : Type 0 where
+  pub same : length w ≡ length old
+  pub beyond : (i : ℕ) → windowSize n d block ≤ i → getD w i 0 ≡ getD old i 0
+  pub totals : (v : ℕ) → v < n → Holds n block w 0 v (heardBy p s everywhere v c) (λ i. heardBy p s (may i) v c)
+  pub rings : (v : ℕ) → v < n
+      → Ring n block d h c v (heardBefore bs v j) (heardIn p s everywhere v) (λ i. heardIn p s (may i) v) w
+
+-- the window of v holds what v may send on in slot u
+abbrev pub WindowHolds : Plan → ℕ → (ℕ → ℕ → Bool) → ℕ → ℕ → ℕ → ℕ → List ℕ → ℕ → Type 0
+WindowHolds p s may n block d u w v =
+    Holds n block w (ringAt n block d) v (sendable p s everywhere v u) (λ i. sendable p s (may i) v u)
+
+-- ---- permissions
+
+pub wider : (g : ℕ → Bool) (v : ℕ) → g v ≡ true → everywhere v ≡ true
+unfolding everywhere
+wider g v e = refl
+
+module _ (p : Plan) (s : ℕ) (g : ℕ → Bool) where
+  pub heard-less : (v c k : ℕ) → heardBy p s g v c k ≤ heardBy p s everywhere v c k
+  heard-less v c k = total-less p g everywhere (wider g) (start s) (heard v c) k
+
+  pub in-less : (v x k : ℕ) → heardIn p s g v x k ≤ heardIn p s everywhere v x k
+  in-less v x k = total-less p g everywhere (wider g) (start s) (atAppearance v x) k
+
+  pub sendable-less : (v u k : ℕ) → sendable p s g v u k ≤ sendable p s everywhere v u k
+  sendable-less v u k =
+      cond-less (g v) (everywhere v) (wider g v) (total-less p g everywhere (wider g) (start s) (before p v u) k)
+
+-- ---- a window
+
+-- no walk without a hop ends in a slot after the start
+none-without : (p : Plan) (s : ℕ) (g : ℕ → Bool) (v x m : ℕ) → 0 < x → inSlots p s g v x m 0 ≡ 0
+unfolding inSlots atAppearance
+none-without p s g v x zero low = refl
+none-without p s g v x (suc m) low =
+    omega (arith, total-zero p g (start s) (atAppearance v x), at-start, none-without p s g v (x + 1) m (omega arith))
+  where
+    at-start : atAppearance v x (start s) ≡ 0
+    at-start = rw (ne-eqb 0 x (omega arith), and-false (eqb s v))
+
+module _ (p : Plan) (s : ℕ) (col : ℕ → ℕ) (n block c : ℕ) (turns : 0 < p .terms .turnaround) (some : 0 < p .terms .keeping) where
+  -- at the source the empty walk alone counts: no other has as few hops
+  at-source : Best block 65535 (sendable p s everywhere s (c + 1)) (λ i. sendable p s (mayLeave s col i) s (c + 1)) 0 1 (λ j. 1)
+  unfolding everywhere
+  at-source =
+      record {
+        entry = record {
+          fewest = fewest-intro (omega arith) (omega (arith, one everywhere)) (λ k g. absurd (omega arith));
+          count = sym (ap stored (one everywhere) ∙ stored-small 1 (omega arith));
+        };
+        row = λ j q g. sym (ap (λ x. x % 2 ^ 64)
+            (ap (λ b. cond b (total p (mayLeave s col j) (start s) (before p s (c + 1)) 0) 0) (source-free s col j)
+            ∙ one (mayLeave s col j)));
+      }
+    where
+      one : (g : ℕ → Bool) → total p g (start s) (before p s (c + 1)) 0 ≡ 1
+      one g =
+          omega (
+            arith,
+            before-window p s g s (c + 1) turns (omega arith) 0,
+            start-here p s g,
+            none-without p s g s (windowFirst (p .terms .keeping) (c + 1))
+                (windowEnd (p .terms .turnaround) (c + 1) - windowFirst (p .terms .keeping) (c + 1)) (omega arith),
+          )
+
+  -- elsewhere the slots of the window count
+  in-slots : (g : ℕ → Bool) (v m t k : ℕ) → inSlots p s g v t m k ≡ spread (λ x. heardIn p s g v x k) t m
+  unfolding inSlots spread
+  in-slots g v zero t k = refl
+  in-slots g v (suc m) t k = ap (λ i. heardIn p s g v t k + i) (in-slots g v m (t + 1) k)
+
+  at-other : (g : ℕ → Bool) (v k : ℕ) → v ≢ s
+      → spread (λ x. heardIn p s g v x k) (windowFirst (p .terms .keeping) (c + 1))
+      (windowEnd (p .terms .turnaround) (c + 1) - windowFirst (p .terms .keeping) (c + 1))
+      ≡ total p g (start s) (before p v (c + 1)) k
+  at-other g v k other =
+      omega (
+        arith,
+        before-window p s g v (c + 1) turns (omega arith) k,
+        start-other p s g v k other,
+        in-slots g v (windowEnd (p .terms .turnaround) (c + 1) - windowFirst (p .terms .keeping) (c + 1))
+            (windowFirst (p .terms .keeping) (c + 1)) k,
+      )
+
+  module _ (bs : List ℕ) (d j : ℕ) (old w : List ℕ) (area : WindowArea n block d w)
+      (state : WindowState bs p s (mayLeave s col) n block (p .terms .keeping) d c j old w) (v : ℕ) (hv : v < n) where
+    room : ringAt n block d + partSize n block ≤ length w
+    room = ring-fits area d (omega arith)
+
+    bare : OnlyCell n block (ringAt n block d) v w (emptiedCell n w (ringAt n block d) v)
+    bare = emptied-cell n block w (ringAt n block d) v hv room
+
+    bare-area : WindowArea n block d (emptiedCell n w (ringAt n block d) v)
+    bare-area = area-same area (bare .same)
+
+    gathered-list : List ℕ
+    gathered-list =
+        gatheredCell n block d (emptiedCell n w (ringAt n block d) v) (ringAt n block d) v (windowFirst (p .terms .keeping) (c + 1))
+        (windowEnd (p .terms .turnaround) (c + 1)) 0 (keptCells n block d w v)
+
+    gathered-cell : OnlyCell n block (ringAt n block d) v w gathered-list
+    unfolding gathered-list
+    gathered-cell =
+        cell-then bare
+        (gathered-only n block d v (windowFirst (p .terms .keeping) (c + 1)) (windowEnd (p .terms .turnaround) (c + 1)) hv
+        (heardIn p s everywhere v) (λ i. heardIn p s (mayLeave s col i) v) (λ i x k. in-less p s (mayLeave s col i) v x k)
+        (keptCells n block d w v) _ 0 (omega (arith, kept-few n block d w v (keptCells n block d w v) refl)) bare-area)
+
+    gathered-room : ringAt n block d + partSize n block ≤ length gathered-list
+    gathered-room = let e = gathered-cell .same in let f = room in omega arith
+
+    bare-ring : SameRing n block d v w (emptiedCell n w (ringAt n block d) v)
+    bare-ring = part-ring v hv (λ i h. inl (ring-before n block i d h)) (parts-end n block d d (omega arith)) (cell-part hv bare)
+
+    -- only its cell changes
+    pub window-cell : OnlyCell n block (ringAt n block d) v w (windowCell n block d (p .terms) s col w v (c + 1))
+    unfolding windowCell gathered-list
+    window-cell =
+        by-cases (ℕ-discrete v s)
+        (λ same. rw (eq-eqb v s same) (opened-cell n block w (ringAt n block d) v hv room))
+        (λ other. rw (ne-eqb v s other)
+        (cell-then gathered-cell (mask-cell n block s col gathered-list (ringAt n block d) v other hv gathered-room)))
+
+    -- and it holds what v may send on
+    pub window-holds : WindowHolds p s (mayLeave s col) n block d (c + 1) (windowCell n block d (p .terms) s col w v (c + 1)) v
+    unfolding windowCell gathered-list everywhere
+    window-holds =
+        by-cases (ℕ-discrete v s)
+        (λ same. rw (eq-eqb v s same)
+        (opened-holds n block w (ringAt n block d) v hv room
+        (subst (λ x. Best block 65535 (sendable p s everywhere x (c + 1)) (λ i. sendable p s (mayLeave s col i) x (c + 1)) 0 1 (λ j. 1))
+        (sym same) at-source)))
+        (λ other. rw (ne-eqb v s other)
+        (best-ext
+        (λ k. at-other everywhere v k other)
+        (λ i k. ap (λ x. cond (mayLeave s col i v) x 0) (at-other (mayLeave s col i) v k other))
+        (mask-holds n block s col gathered-list (ringAt n block d) v other hv gathered-room
+        (ring-window (area .deep) (state .rings v hv) (windowFirst (p .terms .keeping) (c + 1))
+        (windowEnd (p .terms .turnaround) (c + 1)) _ hv
+        (λ i x k. in-less p s (mayLeave s col i) v x k)
+        (λ x low high. (omega arith, omega arith, omega arith))
+        bare-area bare-ring
+        (emptied-holds n block w (ringAt n block d) v hv room (λ k. refl))))))

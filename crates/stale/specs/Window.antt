@@ -1,0 +1,168 @@
+-- The pass where readings go stale. Part 0 has the stations' totals, part 1 what is heard in the slot that the pass is in. Behind them
+-- are d parts, the stations' rings: cell i of a ring is in part 2 + i. Part 2 + d has the windows: what a station may send on in the slot
+-- that the pass is in. Behind the parts stands, for each cell of a ring, the slot in which it was heard, and then for each station its
+-- counter: how many appearances of it have been kept so far. The appearance that is kept as number k is in cell k mod d.
+-- Definitions only.
+-- Assumes nothing.
+use Prim.Native.Nat.{ℕ, zero, suc, _+_, _-_, _*_, _%_, _^_, _<_, _≤_, min}
+use mathlib.Core.Path.{_≡_}
+use mathlib.Core.Bool.{true, false, cond, _||_}
+use mathlib.Core.List.{List}
+use lib.Dec.{ltb, eqb}
+use lib.ListN.{length, getD, set}
+use Rattle.temporal.specs.Plan.{Terms, Allowed, windowFirst, windowEnd}
+use Rattle.temporal.specs.Bytes.{contactAt}
+use Rattle.temporal.specs.Cause.{planFault}
+use Rattle.memory.specs.Fill.{filled}
+use Rattle.plan.specs.Record.{inSlot}
+use Rattle.pass.specs.Row.{partSize, rowAt}
+use Rattle.pass.specs.Entry.{absorbed, areaOverflows}
+use Rattle.pass.specs.Sweep.{Sweep, sweepOf, emptied, begunArea}
+use Rattle.stale.specs.Depth.{Deep}
+use Rattle.stale.specs.Size.{windowSize}
+
+-- where the part of cell i of the rings begins; behind d cells, where the part of the windows does
+unfoldable pub ringAt : ℕ → ℕ → ℕ → ℕ
+ringAt n block i = (2 + i) * partSize n block
+
+-- where the slot of cell i of the ring of station v stands, with rings of depth d; behind d cells, where its counter does
+unfoldable pub markAt : ℕ → ℕ → ℕ → ℕ → ℕ → ℕ
+markAt n block d i v = (3 + d) * partSize n block + i * n + v
+
+-- The entry of station x in the part that begins at from is taken, over some hops more, into the entry of station v in the part that
+-- begins at to.
+unfoldable pub takenCell : ℕ → ℕ → List ℕ → ℕ → ℕ → ℕ → ℕ → ℕ → List ℕ
+takenCell n block w to v from x more =
+    cond (ltb (getD w (from + x) 0) 65535)
+    (absorbed n block w (to + v) (to + rowAt n block v) (from + rowAt n block x) (getD w (from + x) 0 + more) (getD w (from + x + n) 0))
+    w
+
+-- the entry of station v in a part has the empty walk alone, with a row of ones
+unfoldable pub openedCell : ℕ → ℕ → List ℕ → ℕ → ℕ → List ℕ
+openedCell n block w base v = filled (set (set w (base + v) 0) (base + v + n) 1) (base + rowAt n block v) block 1
+
+-- it has no walks
+unfoldable pub emptiedCell : ℕ → List ℕ → ℕ → ℕ → List ℕ
+emptiedCell n w base v = set (set w (base + v) 65535) (base + v + n) 0
+
+-- the column that stands for v becomes 0 in the row at a place, where one stands for it
+unfoldable pub maskedRow : ℕ → (ℕ → ℕ) → List ℕ → ℕ → ℕ → List ℕ
+maskedRow block col w row v = cond (ltb (col v) block) (set w (row + col v) 0) w
+
+-- The cell of the ring of station v in the part that begins at part, whose slot stands at a place, is taken into its entry in the part that
+-- begins at base, where that slot is from slot first to before slot end.
+unfoldable pub keptCell : ℕ → ℕ → List ℕ → ℕ → ℕ → ℕ → ℕ → ℕ → ℕ → List ℕ
+keptCell n block w base v part at first end =
+    cond (ltb (getD w at 0) first) w (cond (ltb (getD w at 0) end) (takenCell n block w base v part v 0) w)
+
+-- the same for k cells from cell i on
+unfoldable pub gatheredCell : ℕ → ℕ → ℕ → List ℕ → ℕ → ℕ → ℕ → ℕ → ℕ → ℕ → List ℕ
+gatheredCell n block d w base v first end i zero = w
+gatheredCell n block d w base v first end i (suc k) =
+    gatheredCell n block d (keptCell n block w base v (ringAt n block i) (markAt n block d i v) first end) base v first end (i + 1) k
+
+-- how many cells of the ring of station v have something
+unfoldable pub keptCells : ℕ → ℕ → ℕ → List ℕ → ℕ → ℕ
+keptCells n block d w v = min (getD w (markAt n block d d v) 0) d
+
+-- what station v may send on in slot u is gathered in its window: for the source the empty walk
+unfoldable pub windowCell : ℕ → ℕ → ℕ → Terms → ℕ → (ℕ → ℕ) → List ℕ → ℕ → ℕ → List ℕ
+windowCell n block d terms s col w v u =
+    cond (eqb v s)
+    (openedCell n block w (ringAt n block d) v)
+    (maskedRow block col
+    (gatheredCell n block d (emptiedCell n w (ringAt n block d) v) (ringAt n block d) v (windowFirst (terms .keeping) u)
+    (windowEnd (terms .turnaround) u) 0 (keptCells n block d w v))
+    (ringAt n block d + rowAt n block v) v)
+
+-- the same, but not where v is the station whose window was gathered last
+unfoldable pub windowNext : ℕ → ℕ → ℕ → Terms → ℕ → (ℕ → ℕ) → List ℕ → ℕ → ℕ → ℕ → List ℕ
+windowNext n block d terms s col w last v u = cond (eqb v last) w (windowCell n block d terms s col w v u)
+
+-- the windows of the senders of k records from position j on
+unfoldable pub windowsOf : List ℕ → ℕ → ℕ → ℕ → Terms → ℕ → (ℕ → ℕ) → List ℕ → ℕ → ℕ → ℕ → ℕ → List ℕ
+windowsOf bs n block d terms s col w u last j zero = w
+windowsOf bs n block d terms s col w u last j (suc k) =
+    windowsOf bs n block d terms s col (windowNext n block d terms s col w last (contactAt bs j .sender) u) u (contactAt bs j .sender)
+    (j + 1) k
+
+-- the windows of the senders of k records from position j on go out, over one hop, to the hearers' entries in the part at to
+unfoldable pub sentRecords : List ℕ → ℕ → ℕ → ℕ → ℕ → List ℕ → ℕ → ℕ → List ℕ
+sentRecords bs n block from to w j zero = w
+sentRecords bs n block from to w j (suc k) =
+    sentRecords bs n block from to (takenCell n block w to (contactAt bs j .hearer) from (contactAt bs j .sender) 1) (j + 1) k
+
+-- what station v heard in slot u is kept in cell i of its ring, as number k
+unfoldable pub pushedAt : ℕ → ℕ → ℕ → List ℕ → ℕ → ℕ → ℕ → ℕ → List ℕ
+pushedAt n block d w u v i k =
+    set
+    (set (takenCell n block (emptiedCell n w (ringAt n block i) v) (ringAt n block i) v (partSize n block) v 0) (markAt n block d i v) u)
+    (markAt n block d d v) ((k + 1) % 2 ^ 64)
+
+-- the cell and the number are those by its counter
+unfoldable pub pushedCell : ℕ → ℕ → ℕ → List ℕ → ℕ → ℕ → List ℕ
+pushedCell n block d w u v = pushedAt n block d w u v (getD w (markAt n block d d v) 0 % d) (getD w (markAt n block d d v) 0)
+
+-- where station v heard something in slot u, it is taken into its total and kept
+unfoldable pub keptOne : ℕ → ℕ → ℕ → ℕ → List ℕ → ℕ → List ℕ
+keptOne n block d u w v =
+    cond (ltb (getD w (partSize n block + v) 0) 65535)
+    (pushedCell n block d (takenCell n block w 0 v (partSize n block) v 0) u v)
+    w
+
+-- with the flag of a count over 2^64 - 1
+unfoldable pub keptNext : ℕ → ℕ → ℕ → ℕ → Sweep → ℕ → Sweep
+keptNext n block d u x v =
+    sweepOf (x .over || areaOverflows n (x .work) (partSize n block + v)) (keptOne n block d u (x .work) v)
+
+-- the same for k stations from v on
+unfoldable pub keptFrom : ℕ → ℕ → ℕ → ℕ → Sweep → ℕ → ℕ → Sweep
+keptFrom n block d u x v zero = x
+keptFrom n block d u x v (suc k) = keptFrom n block d u (keptNext n block d u x v) (v + 1) k
+
+-- Slot u, whose records are those from position j to before e: the windows are gathered, part 1 is emptied, the windows go out, and what
+-- was heard is kept.
+unfoldable pub windowSlot : List ℕ → ℕ → ℕ → ℕ → Terms → ℕ → (ℕ → ℕ) → List ℕ → ℕ → ℕ → ℕ → Sweep
+windowSlot bs n block d terms s col w u j e =
+    keptFrom n block d u
+    (sweepOf false
+    (sentRecords bs n block (ringAt n block d) (partSize n block)
+    (emptied n (windowsOf bs n block d terms s col w u n j (e - j)) (partSize n block)) j (e - j)))
+    0 n
+
+-- no walks but the empty one, in the source's total, and nothing is kept
+unfoldable pub begunWindow : ℕ → ℕ → ℕ → List ℕ → ℕ → List ℕ
+begunWindow n block d w s = filled (begunArea n block 1 w s) (markAt n block d d 0) n 0
+
+-- two parts lie within the list
+pub record TwoParts (n block to from : ℕ) (w : List ℕ) : Type 0 where
+  pub some : 0 < n
+  pub to-fits : to + partSize n block ≤ length w
+  pub from-fits : from + partSize n block ≤ length w
+
+-- the parts, the slots of the cells and the counters fit
+pub record WindowArea (n block d : ℕ) (w : List ℕ) : Type 0 where
+  pub some : 0 < n
+  pub deep : 0 < d
+  pub fits : windowSize n d block ≤ length w
+
+-- the records from position j to before e are there, and their stations lie within the plan
+pub record RecordsFit (bs : List ℕ) (n j e : ℕ) : Type 0 where
+  pub inside : (i : ℕ) → j ≤ i → i < e → i * 6 + 5 < length bs
+  pub sender-station : (i : ℕ) → j ≤ i → i < e → contactAt bs i .sender < n
+  pub hearer-station : (i : ℕ) → j ≤ i → i < e → contactAt bs i .hearer < n
+
+-- the records from position j to before e are those of slot u from j on
+pub record SlotRecords (bs : List ℕ) (u j e : ℕ) : Type 0 where
+  pub from : j ≤ e
+  pub here : (i : ℕ) → j ≤ i → i < e → inSlot bs i u ≡ true
+  pub past : inSlot bs e u ≡ false
+
+-- what the pass asks: an accepted plan, units whose terms no cause refuses, rings that are deep enough, a source, and a work area that is
+-- long enough
+pub record WindowReady (bs : List ℕ) (n t : ℕ) (terms : Terms) (d s block : ℕ) (work : List ℕ) : Type 0 where
+  pub accepted : planFault bs n t ≡ 0
+  pub units : Allowed terms
+  pub deep : Deep bs n (terms .keeping) d
+  pub source : s < n
+  pub fits : windowSize n d block ≤ length work

@@ -1,0 +1,566 @@
+// The forward pass where readings go stale: hops and counts from a source to every station, with columns as the pass of the crate pass has
+// them. What each station heard lately is kept in a ring of cells, one for each slot in which it heard something; what it may send on in a
+// slot is gathered from the cells of the slots that a contact may follow. Everything lives in a lent work area.
+ghost use mathlib.Core.Path.{_≡_};
+ghost use mathlib.Core.Bool.{false};
+ghost use Prim.Native.Nat.{ℕ, _+_, _-_, _*_, _%_, _^_, _<_, _≤_};
+ghost use lib.ListN.{length, getD, set};
+ghost use Rattle.temporal.specs.Plan.{units};
+ghost use Rattle.temporal.specs.Bytes.{contactAt, records};
+ghost use Rattle.pass.specs.Row.{partSize};
+ghost use Rattle.pass.specs.Sweep.{sweepOf};
+ghost use Rattle.pass.specs.Column.{columnOf};
+ghost use Rattle.pass.specs.PassedColumns.{ColumnsPassed};
+ghost use Rattle.stale.specs.Depth.{DepthReady, DepthOf, HearersCounted};
+ghost use Rattle.stale.specs.Size.{windowSize, windowColumns};
+ghost use Rattle.stale.specs.Window.{
+  ringAt,
+  markAt,
+  takenCell,
+  openedCell,
+  emptiedCell,
+  maskedRow,
+  keptCell,
+  gatheredCell,
+  keptCells,
+  windowCell,
+  windowNext,
+  windowsOf,
+  sentRecords,
+  pushedCell,
+  keptNext,
+  keptFrom,
+  windowSlot,
+  begunWindow,
+  TwoParts,
+  WindowArea,
+  RecordsFit,
+  SlotRecords,
+  WindowReady,
+};
+use pass::Columns;
+use pass::Ended;
+
+// Takes the entry of station x in the part that begins at from, over no hop or one more, into the entry of station v in the part
+// that begins at to.
+fn take(
+    work: &mut [u64],
+    n: usize,
+    block: usize,
+    to: usize,
+    v: usize,
+    from: usize,
+    x: usize,
+    more: u64,
+)
+    requires { ⌜ TwoParts n block to from (now work) × (v < n) × (x < n) × (more ≤ 1) ⌝ }
+    ensures { λ _. ⌜ now (work .exit) ≡ takenCell n block (now (work .entry)) to v from x more ⌝ }
+{
+    let at = from + x;
+    let l = work[at];
+    if l < 65535 {
+        let d = work[at + n];
+        let row = to + pass::row_at(n, block, v);
+        let other = from + pass::row_at(n, block, x);
+        pass::absorb(work, n, block, to + v, row, other, l + more, d);
+    }
+}
+
+// Leaves the empty walk alone in the entry of station v in the part that begins at base, with a row of ones.
+fn open_entry(work: &mut [u64], n: usize, block: usize, base: usize, v: usize)
+    requires { ⌜ (v < n) × (base + partSize n block ≤ length (now work)) ⌝ }
+    ensures { λ _. ⌜ now (work .exit) ≡ openedCell n block (now (work .entry)) base v ⌝ }
+{
+    let at = base + v;
+    work[at] = 0;
+    work[at + n] = 1;
+    let row = base + pass::row_at(n, block, v);
+    memory::fill_part(work, row, block, 1);
+}
+
+// Leaves no walks in it.
+fn empty_entry(work: &mut [u64], n: usize, base: usize, v: usize)
+    requires { ⌜ (v < n) × (base + 2 * n ≤ length (now work)) ⌝ }
+    ensures { λ _. ⌜ now (work .exit) ≡ emptiedCell n (now (work .entry)) base v ⌝ }
+{
+    let at = base + v;
+    work[at] = 65535;
+    work[at + n] = 0;
+}
+
+// Writes 0 to the column that stands for v in the row at a place, where there is one.
+fn mask_row(work: &mut [u64], block: usize, columns: Columns, set: &[u8], row: usize, v: usize)
+    requires { ⌜ row + block ≤ length (now work) ⌝ }
+    ensures { λ _. ⌜ now (work .exit) ≡ maskedRow block (columnOf columns (now (set .entry)) block) (now (work .entry)) row v ⌝ }
+{
+    let j = pass::column_of(columns, set, v, block);
+    if j < block {
+        work[row + j] = 0;
+    }
+}
+
+// How many entries a part has.
+fn part_size(n: usize, block: usize) -> usize
+    requires { ⌜ partSize n block < 18446744073709551616 ⌝ }
+    ensures { λ r. ⌜ r ≡ partSize n block ⌝ }
+{
+    2 * n + n * block
+}
+
+// Where the part of cell i of the rings begins; behind the last, where the windows do.
+fn ring_at(n: usize, block: usize, depth: usize, i: usize) -> usize
+    requires { ⌜ (i ≤ depth) × (0 < n) × (windowSize n depth block < 18446744073709551616) ⌝ }
+    ensures { λ r. ⌜ r ≡ ringAt n block i ⌝ }
+{
+    (2 + i) * part_size(n, block)
+}
+
+// Where the slot of cell i of the ring of station v stands; behind the last, where its counter does.
+fn mark_at(n: usize, block: usize, depth: usize, i: usize, v: usize) -> usize
+    requires { ⌜ (i ≤ depth) × (v < n) × (windowSize n depth block < 18446744073709551616) ⌝ }
+    ensures { λ r. ⌜ r ≡ markAt n block depth i v ⌝ }
+{
+    (3 + depth) * part_size(n, block) + i * n + v
+}
+
+// Takes the cell of the ring of station v in the part that begins at part, whose slot stands at a place, into its entry in the part that
+// begins at base, where that slot is from slot first to before slot end.
+fn take_kept(
+    work: &mut [u64],
+    n: usize,
+    block: usize,
+    base: usize,
+    v: usize,
+    part: usize,
+    at: usize,
+    first: u64,
+    end: u64,
+)
+    requires { ⌜ TwoParts n block base part (now work) × (v < n) × (at < length (now work)) ⌝ }
+    ensures { λ _. ⌜ now (work .exit) ≡ keptCell n block (now (work .entry)) base v part at first end ⌝ }
+{
+    let x = work[at];
+    if x < first {
+        return;
+    }
+    if x < end {
+        take(work, n, block, base, v, part, v, 0);
+    }
+}
+
+// How many cells of the ring of station v have something.
+fn kept_cells(work: &[u64], n: usize, block: usize, depth: usize, v: usize) -> usize
+    requires { ⌜ WindowArea n block depth (now work) × (v < n) ⌝ }
+    ensures { λ r. ⌜ r ≡ keptCells n block depth (now (work .entry)) v ⌝ }
+{
+    let counter = mark_at(n, block, depth, depth, v);
+    pass::smaller(work[counter] as usize, depth)
+}
+
+// Takes the first k cells of the ring of station v, those of the slots from first to before end, into its entry in the part that begins at
+// base.
+fn gather(
+    work: &mut [u64],
+    n: usize,
+    block: usize,
+    depth: usize,
+    base: usize,
+    v: usize,
+    first: u64,
+    end: u64,
+    k: usize,
+)
+    requires { ⌜ WindowArea n block depth (now work) × (base + partSize n block ≤ length (now work)) × (v < n) × (k ≤ depth) ⌝ }
+    ensures { λ _. ⌜ now (work .exit) ≡ gatheredCell n block depth (now (work .entry)) base v first end 0 k ⌝ }
+{
+    let size = part_size(n, block);
+    let mut part = ring_at(n, block, depth, 0);
+    let mut at = mark_at(n, block, depth, 0, v);
+    let mut i = 0;
+    while i < k {
+        take_kept(work, n, block, base, v, part, at, first, end);
+        part += size;
+        at += n;
+        i += 1;
+    }
+}
+
+// Gathers what station v may send on in slot u in its entry of the part of the windows.
+fn gather_window(
+    work: &mut [u64],
+    n: usize,
+    block: usize,
+    g: usize,
+    h: usize,
+    depth: usize,
+    source: usize,
+    columns: Columns,
+    set: &[u8],
+    v: usize,
+    u: usize,
+)
+    requires { ⌜ WindowArea n block depth (now work) × (v < n) × (0 < g) ⌝ }
+    ensures { λ _. ⌜ now (work .exit) ≡
+        windowCell n block depth (units g h) source (columnOf columns (now (set .entry)) block) (now (work .entry)) v u ⌝ }
+{
+    let base = ring_at(n, block, depth, depth);
+    if v == source {
+        open_entry(work, n, block, base, v);
+        return;
+    }
+    let k = kept_cells(work, n, block, depth, v);
+    empty_entry(work, n, base, v);
+    let first = plan::window_first(h, u);
+    let end = plan::window_end(g, u);
+    gather(work, n, block, depth, base, v, first as u64, end as u64, k);
+    let row = base + pass::row_at(n, block, v);
+    mask_row(work, block, columns, set, row, v);
+}
+
+// The same for the sender of the record at j, which it returns, but not where that is the station last.
+fn gather_next(
+    work: &mut [u64],
+    plan: &[u8],
+    n: usize,
+    block: usize,
+    g: usize,
+    h: usize,
+    depth: usize,
+    source: usize,
+    columns: Columns,
+    set: &[u8],
+    u: usize,
+    last: usize,
+    j: usize,
+) -> usize
+    requires { ⌜ WindowArea n block depth (now work) × (0 < g) × (j * 6 + 5 < length (now plan)) × (contactAt (now plan) j .sender < n) ⌝ }
+    ensures { λ r. ⌜ (r ≡ contactAt (now (plan .entry)) j .sender) × (now (work .exit) ≡
+        windowNext n block depth (units g h) source (columnOf columns (now (set .entry)) block) (now (work .entry)) last
+        (contactAt (now (plan .entry)) j .sender) u) ⌝ }
+{
+    let c = plan::contact_at(plan, j);
+    let v = c.sender;
+    if v == last {
+        return v;
+    }
+    gather_window(work, n, block, g, h, depth, source, columns, set, v, u);
+    v
+}
+
+// Gathers the windows of the senders of the records from j to before end.
+fn gather_records(
+    work: &mut [u64],
+    plan: &[u8],
+    n: usize,
+    block: usize,
+    g: usize,
+    h: usize,
+    depth: usize,
+    source: usize,
+    columns: Columns,
+    set: &[u8],
+    u: usize,
+    j: usize,
+    end: usize,
+)
+    requires { ⌜ WindowArea n block depth (now work) × (0 < g) × RecordsFit (now plan) n j end ⌝ }
+    ensures { λ _. ⌜ now (work .exit) ≡
+        windowsOf (now (plan .entry)) n block depth (units g h) source (columnOf columns (now (set .entry)) block) (now (work .entry)) u n j
+        (end - j) ⌝ }
+{
+    let mut last = n;
+    let mut i = j;
+    while i < end {
+        last = gather_next(
+            work,
+            plan,
+            n,
+            block,
+            g,
+            h,
+            depth,
+            source,
+            columns,
+            set,
+            u,
+            last,
+            i,
+        );
+        i += 1;
+    }
+}
+
+// Sends the window of the record's sender, in the part that begins at from, on to its hearer, in the part that begins at to.
+fn send_record(
+    work: &mut [u64],
+    plan: &[u8],
+    n: usize,
+    block: usize,
+    from: usize,
+    to: usize,
+    j: usize,
+)
+    requires { ⌜ TwoParts n block to from (now work) × (j * 6 + 5 < length (now plan)) × (contactAt (now plan) j .sender < n) ×
+        (contactAt (now plan) j .hearer < n) ⌝ }
+    ensures { λ _. ⌜ now (work .exit) ≡ takenCell n block (now (work .entry)) to (contactAt (now (plan .entry)) j .hearer) from
+        (contactAt (now (plan .entry)) j .sender) 1 ⌝ }
+{
+    let c = plan::contact_at(plan, j);
+    take(work, n, block, to, c.hearer, from, c.sender, 1);
+}
+
+// The same for the records from j to before end.
+fn send_records(
+    work: &mut [u64],
+    plan: &[u8],
+    n: usize,
+    block: usize,
+    from: usize,
+    to: usize,
+    j: usize,
+    end: usize,
+)
+    requires { ⌜ TwoParts n block to from (now work) × RecordsFit (now plan) n j end ⌝ }
+    ensures { λ _. ⌜ now (work .exit) ≡ sentRecords (now (plan .entry)) n block from to (now (work .entry)) j (end - j) ⌝ }
+{
+    let mut i = j;
+    while i < end {
+        send_record(work, plan, n, block, from, to, i);
+        i += 1;
+    }
+}
+
+// Keeps what v heard in slot u in the next cell of its ring.
+fn push(work: &mut [u64], n: usize, block: usize, depth: usize, u: usize, v: usize)
+    requires { ⌜ WindowArea n block depth (now work) × (v < n) ⌝ }
+    ensures { λ _. ⌜ now (work .exit) ≡ pushedCell n block depth (now (work .entry)) u v ⌝ }
+{
+    let counter = mark_at(n, block, depth, depth, v);
+    let k = work[counter];
+    let i = k as usize % depth;
+    let part = ring_at(n, block, depth, i);
+    let size = part_size(n, block);
+    empty_entry(work, n, part, v);
+    take(work, n, block, part, v, size, v, 0);
+    let mark = mark_at(n, block, depth, i, v);
+    work[mark] = u as u64;
+    work[counter] = std::num::wrapping_add_u64(k, 1);
+}
+
+// Where v heard something in slot u, takes it into its total and keeps it. True where the flag was, or where its count is over 2^64 - 1.
+fn keep_one(
+    work: &mut [u64],
+    n: usize,
+    block: usize,
+    depth: usize,
+    u: usize,
+    v: usize,
+    over: bool,
+) -> bool
+    requires { ⌜ WindowArea n block depth (now work) × (v < n) ⌝ }
+    ensures { λ r. ⌜ sweepOf r (now (work .exit)) ≡ keptNext n block depth u (sweepOf over (now (work .entry))) v ⌝ }
+{
+    let size = part_size(n, block);
+    let at = size + v;
+    if work[at] < 65535 {
+        let d = work[at + n];
+        take(work, n, block, 0, v, size, v, 0);
+        push(work, n, block, depth, u, v);
+        if d == 0 {
+            return true;
+        }
+    }
+    over
+}
+
+// The same for every station.
+fn keep_all(work: &mut [u64], n: usize, block: usize, depth: usize, u: usize) -> bool
+    requires { ⌜ WindowArea n block depth (now work) ⌝ }
+    ensures { λ r. ⌜ sweepOf r (now (work .exit)) ≡ keptFrom n block depth u (sweepOf false (now (work .entry))) 0 n ⌝ }
+{
+    let mut over = false;
+    let mut v = 0;
+    while v < n {
+        over = keep_one(work, n, block, depth, u, v, over);
+        v += 1;
+    }
+    over
+}
+
+// The position past the records of slot u that stand from j on.
+fn slot_end(plan: &[u8], j: usize, u: usize) -> usize
+    requires { ⌜ j * 6 ≤ length (now plan) ⌝ }
+    ensures { λ r. ⌜ SlotRecords (now (plan .entry)) u j r ⌝ }
+{
+    let mut i = j;
+    while plan::in_slot(plan, i, u) {
+        i += 1;
+    }
+    i
+}
+
+// Slot u, with the records from j to before end. True where a count is over 2^64 - 1.
+fn window_slot(
+    work: &mut [u64],
+    plan: &[u8],
+    n: usize,
+    block: usize,
+    g: usize,
+    h: usize,
+    depth: usize,
+    source: usize,
+    columns: Columns,
+    set: &[u8],
+    u: usize,
+    j: usize,
+    end: usize,
+) -> bool
+    requires { ⌜ WindowArea n block depth (now work) × (0 < g) × RecordsFit (now plan) n j end ⌝ }
+    ensures { λ r. ⌜ sweepOf r (now (work .exit)) ≡
+        windowSlot (now (plan .entry)) n block depth (units g h) source (columnOf columns (now (set .entry)) block) (now (work .entry)) u j
+        end ⌝ }
+{
+    gather_records(
+        work,
+        plan,
+        n,
+        block,
+        g,
+        h,
+        depth,
+        source,
+        columns,
+        set,
+        u,
+        j,
+        end,
+    );
+    let size = part_size(n, block);
+    pass::empty_part(work, n, size);
+    let base = ring_at(n, block, depth, depth);
+    send_records(work, plan, n, block, base, size, j, end);
+    keep_all(work, n, block, depth, u)
+}
+
+// Leaves the empty walk of the source alone, and nothing kept.
+fn begin_window(work: &mut [u64], n: usize, block: usize, depth: usize, source: usize)
+    requires { ⌜ WindowArea n block depth (now work) × (source < n) ⌝ }
+    ensures { λ _. ⌜ now (work .exit) ≡ begunWindow n block depth (now (work .entry)) source ⌝ }
+{
+    pass::begin(work, n, block, 1, source);
+    let counters = mark_at(n, block, depth, depth, 0);
+    memory::fill_part(work, counters, n, 0);
+}
+
+// The pass: slot by slot, what each sender may send on is gathered from what is kept.
+pub fn pass_window(
+    work: &mut [u64],
+    plan: &[u8],
+    n: usize,
+    t: usize,
+    g: usize,
+    h: usize,
+    depth: usize,
+    source: usize,
+    columns: Columns,
+    set: &[u8],
+    block: usize,
+) -> Ended
+    requires { ⌜ WindowReady (now plan) n t (units g h) depth source block (now work) ⌝ }
+    ensures { λ r. ⌜ ColumnsPassed (now (plan .entry)) n t (units g h) source n (columnOf columns (now (set .entry)) block) block
+        (windowSize n depth block) (now (work .entry)) (now (work .exit)) r ⌝ }
+{
+    begin_window(work, n, block, depth, source);
+    let mut j = 0;
+    let mut u = 1;
+    while u <= t {
+        let end = slot_end(plan, j, u);
+        if window_slot(
+            work,
+            plan,
+            n,
+            block,
+            g,
+            h,
+            depth,
+            source,
+            columns,
+            set,
+            u,
+            j,
+            end,
+        ) {
+            return Ended::AppearanceTooMany;
+        }
+        j = end;
+        u += 1;
+    }
+    pass::end_pass(work, n, t, n)
+}
+
+// Adds 1 to the number of the hearer of the record at i.
+fn count_hearer(work: &mut [u64], plan: &[u8], n: usize, i: usize)
+    requires { ⌜ (i * 6 + 5 < length (now plan)) × (contactAt (now plan) i .hearer < n) × (n ≤ length (now work)) ⌝ }
+    ensures { λ _. ⌜ now (work .exit) ≡ set (now (work .entry)) (contactAt (now (plan .entry)) i .hearer)
+        ((getD (now (work .entry)) (contactAt (now (plan .entry)) i .hearer) 0 + 1) % 2 ^ 64) ⌝ }
+{
+    let c = plan::contact_at(plan, i);
+    let b = c.hearer;
+    work[b] = std::num::wrapping_add_u64(work[b], 1);
+}
+
+// Writes for each station how many records have it as hearer.
+fn count_hearers(work: &mut [u64], plan: &[u8], n: usize)
+    requires { ⌜ ((i : ℕ) → i < records (now plan) → contactAt (now plan) i .hearer < n) × (n ≤ length (now work)) ⌝ }
+    ensures { λ _. ⌜ HearersCounted (now (plan .entry)) n (now (work .entry)) (records (now (plan .entry))) (now (work .exit)) ⌝ }
+{
+    memory::fill_part(work, 0, n, 0);
+    let m = plan.len() / 6;
+    let mut i = 0;
+    while i < m {
+        count_hearer(work, plan, n, i);
+        i += 1;
+    }
+}
+
+// The larger of a number and an entry.
+fn larger(a: usize, b: u64) -> usize
+    ensures { λ r. ⌜ (a ≤ r) × (b ≤ r) ⌝ }
+{
+    let c = b as usize;
+    if a < c {
+        return c;
+    }
+    a
+}
+
+// A number from 1 on that is no smaller than any of the first n entries.
+fn most_of(work: &[u64], n: usize) -> usize
+    requires { ⌜ n ≤ length (now work) ⌝ }
+    ensures { λ r. ⌜ (0 < r) × ((v : ℕ) → v < n → getD (now (work .entry)) v 0 ≤ r) ⌝ }
+{
+    let mut most = 1;
+    let mut v = 0;
+    while v < n {
+        most = larger(most, work[v]);
+        v += 1;
+    }
+    most
+}
+
+// A depth for a plan: as many cells as a reading is kept for slots, or as the station has that hears in most records, if those are fewer.
+pub fn depth_of(work: &mut [u64], plan: &[u8], n: usize, h: usize) -> usize
+    requires { ⌜ DepthReady (now plan) n h (now work) ⌝ }
+    ensures { λ r. ⌜ DepthOf (now (plan .entry)) n h (now (work .entry)) (now (work .exit)) r ⌝ }
+{
+    count_hearers(work, plan, n);
+    pass::smaller(h, most_of(work, n))
+}
+
+// The most columns for which the pass fits e entries for each of n stations.
+pub fn window_columns(n: usize, e: usize, depth: usize) -> usize
+    requires { ⌜ 4 * depth + 10 ≤ e ⌝ }
+    ensures { λ r. ⌜ r ≡ windowColumns n e depth ⌝ }
+{
+    pass::smaller(n, (e - (depth + 1)) / (3 + depth) - 2)
+}
