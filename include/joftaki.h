@@ -6,10 +6,11 @@
  * run of contacts: s sends the first, in any slot, and the hearer of each sends the next, g to h slots after hearing. A way is a
  * chain that visits no station twice. An appearance (v, u) is station v reached by a chain whose last contact is in slot u.
  *
- * Least chains, document 000's shortest walks, are what every function but foremost counts and lists. Where t <= h + 1 no reading
- * is dropped before the plan ends, and the least chains from s to another station are its least ways, the shortest paths. Where t
- * is larger a least chain may call at a station twice or more often, and there may be a least chain where there is no way. A chain
- * counts once for a station inside it, however often it calls there. "No way" at a prototype means that there is no chain.
+ * Least chains, document 000's shortest walks, are the chains that every function but foremost counts and lists. Where t <= h + 1
+ * no reading is dropped before the plan ends, and the least chains from s to another station are its least ways, the shortest
+ * paths. Where t is larger a least chain may call at a station twice or more often, and there may be a least chain where there is
+ * no way. A chain counts once for a station inside it, however often it calls there. "No way" at a prototype means that there is no
+ * chain.
  *
  * Arguments. plan: 0 to 8,192 records of 6 bytes, so up to 49,152 bytes, no header: slot, a, b, each 16 bits, high byte first.
  * A record is a contact: in this slot a sends and b hears (document 02, C-16; document 002's directed edge (a, b, slot),
@@ -20,15 +21,17 @@
  * kept, g to 255 (C-21); what a station hears in slot u goes out in the slots from u + g to u + h. With g = 1 the slots of a chain
  * rise strictly. With h = 255 every reading is kept until the plan ends, whatever t is. Both may be above t. The calls of one
  * listing have one g and one h. foremost takes no h: its stations keep every reading. s, z, v: stations. k: how many stations
- * partial_loads takes as sources, 0 to n: those below k. Every function but row and row_number reads the plan anew and trusts no
- * earlier table.
+ * partial_loads takes as sources, 0 to n: those below k. c: the channels of a band, 0 to 65,535 (C-22); only take_in has it. Every
+ * function but row and row_number reads the plan anew. None trusts an earlier table; take_in and take_out go on from the use that
+ * theirs holds, whatever it is.
  *
  * Answers. Every function gives a number: 0 where the call is accepted, else the number of the papers' first cause that
- * holds, in their order: 1, 2, then 3, 4, 5 record by record, then 12, 14, 13, 6, 7, 8, 11, 9, 10. First way and next way have
- * two more numbers, JOFTAKI_NONE and JOFTAKI_LAST, which are acceptances. A slot (arrival, hops, count, station, verdict, offset,
- * length) is always written: its value on acceptance; 0 on every refusal, and 0 beside JOFTAKI_NONE and JOFTAKI_LAST.
+ * holds, in their order: 1, 2, then 3, 4, 5 record by record, then 12, 14, 13, 6, 7, 8, then 11, 15 or 16, then 9, 10. First way
+ * and next way have two more numbers, JOFTAKI_NONE and JOFTAKI_LAST, which are acceptances. A slot (arrival, hops, count, station,
+ * verdict, offset, length) is always written: its value on acceptance; 0 on every refusal, and 0 beside JOFTAKI_NONE and
+ * JOFTAKI_LAST.
  *
- * Lent memory. Tables, buffers, sets, lists and work areas may hold anything at entry. Numbers 1 to 8 and 11 to 14 leave all of them
+ * Lent memory. Tables, buffers, sets, lists and work areas may hold anything at entry. Numbers 1 to 8 and 11 to 16 leave all of them
  * as they were. 9 sets the named parts of the tables and of the work area to 0 and leaves the way buffer. 10 sets the named
  * part of the work area to 0 and leaves the way buffer. Every acceptance leaves the named part of the work area 0. The named
  * part is the length said at each prototype, whatever g and h are; entries past it are never touched, and longer is always fine.
@@ -65,7 +68,7 @@
 extern "C" {
 #endif
 
-/* The numbers. 15 to 17 are kept for later causes; no function gives one of them. */
+/* The numbers. 17 is kept for a later cause; no function gives it. */
 #define JOFTAKI_ACCEPTED 0u
 /* A fault of the plan. */
 #define JOFTAKI_LIMITS 1u /* n or t outside its limits */
@@ -84,6 +87,8 @@ extern "C" {
 #define JOFTAKI_TURNAROUND 12u        /* g outside 1 to 16 */
 #define JOFTAKI_SOURCES 13u           /* partial_loads: k is above n */
 #define JOFTAKI_KEEPING 14u           /* h is below g or above 255; looked at before 13 */
+#define JOFTAKI_CHANNELS 15u          /* take_in: one of the 255 entries would be above c */
+#define JOFTAKI_UNTAKEN 16u           /* take_out: one of the 255 entries would be below 0 */
 /* First way and next way: acceptances that give no chain. */
 #define JOFTAKI_NONE 100u /* the pair has no chain */
 #define JOFTAKI_LAST 101u /* there is no least chain after the one in the buffer */
@@ -107,6 +112,10 @@ extern "C" {
 /* The named lengths, in entries: of a table of appearances and of a work area. n and t are within their limits. */
 #define JOFTAKI_TABLE_LENGTH(n, t) ((size_t)(n) * ((size_t)(t) + 1))
 #define JOFTAKI_WORK_LENGTH(n, t) (4 * JOFTAKI_TABLE_LENGTH(n, t))
+
+/* The named length, in entries, of a band's table, whatever t is; and the place of slot u in it, u from 1 to 255. */
+#define JOFTAKI_BAND_LENGTH JOFTAKI_MOST_SLOTS
+#define JOFTAKI_BAND_PLACE(u) ((size_t)(u) - 1)
 
 /* The place of appearance (v, u) in a table of appearances. */
 #define JOFTAKI_PLACE(t, v, u) ((size_t)(v) * ((size_t)(t) + 1) + (size_t)(u))
@@ -338,6 +347,47 @@ uint32_t joftaki_verdict(const uint8_t *plan, size_t plan_length, size_t n, size
                          uint32_t *verdict,
                          const uint16_t *list, size_t list_length,
                          uint64_t *work, size_t work_length);
+
+/*
+ * Take a plan into a band (document 02, C-22): every record takes one of the band's c channels in its slot. table holds the use of
+ * each slot, slot u at JOFTAKI_BAND_PLACE(u). To each of the 255 entries the number of the plan's records in that slot is added; a
+ * slot without records, also one above t, keeps its entry. Two stations that hear each other in a slot have two records there and
+ * take two channels. Where c is 0, only a plan without records is taken in.
+ *
+ * A band begins as a table of zeros. Where only take_in and take_out write to it, take_in always has the same c, and take_out is
+ * called only for plans then in, each entry is the number of records in its slot over the plans then in, one taken in twice
+ * counting twice, and none is above c. There 15 comes exactly where the new plan would bring some slot's records over all plans in
+ * above c and no number from 1 to 8 holds, and 16 never comes. So plans share a band by one table:
+ *
+ *     uint16_t band[JOFTAKI_BAND_LENGTH] = {0};
+ *     number = joftaki_take_in(plan, plan_length, n, t, c, band, JOFTAKI_BAND_LENGTH);
+ *     if (number == JOFTAKI_CHANNELS)
+ *         the plan does not fit beside those that are in
+ *
+ * Lend: table JOFTAKI_BAND_LENGTH entries, whatever t is. There is no work area.
+ * Gives 0, or the first of 1, 2, 3, 4, 5, 8, 15. 15 looks at all 255 entries, also at one in whose slot the plan has no record. A
+ * sum above 65,535 is above every c. A refusal leaves the table as it was. Entries past the 255 are neither looked at nor touched.
+ * Proved: the number and every entry of table at exit. What holds in a run of calls is a theorem (crates/demands/specs/Band.antt).
+ * Not covered: each pointer is valid for its length, aligned and not null, also where its length is 0; table and the plan do not
+ * overlap. That only these calls write to the table, and that a plan taken out is in, is the caller's: no function keeps a list.
+ */
+uint32_t joftaki_take_in(const uint8_t *plan, size_t plan_length, size_t n, size_t t, uint16_t c,
+                         uint16_t *table, size_t table_length);
+
+/*
+ * Take a plan out of a band (document 02, C-22): from each of the 255 entries of table the number of the plan's records in that slot
+ * is subtracted. The channels do not count here: there is no c. A plan that is in twice is in once afterwards.
+ *
+ * Lend: as for take_in: table JOFTAKI_BAND_LENGTH entries, whatever t is.
+ * Gives 0, or the first of 1, 2, 3, 4, 5, 8, 16. 16 is no answer to whether a plan is in: where the plans in have as many records in
+ * its slots, a plan that is not in is taken out too. A refusal leaves the table as it was. Entries past the 255 are neither looked
+ * at nor touched.
+ * Proved: as for take_in.
+ * Not covered: as for take_in: each pointer is valid for its length, aligned and not null, also where its length is 0; table and the
+ * plan do not overlap.
+ */
+uint32_t joftaki_take_out(const uint8_t *plan, size_t plan_length, size_t n, size_t t,
+                          uint16_t *table, size_t table_length);
 
 #ifdef __cplusplus
 }

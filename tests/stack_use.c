@@ -3,6 +3,7 @@
  * with a mark, and the bytes that lost it are counted from the call on. The plan is a line: 256 stations, 255 slots, in slot
  * i station i - 1 sends and station i hears. Its one way from 0 to 255 has 255 legs, the most there can be, and is a least chain
  * for every h. Each function runs where every reading is kept and where it is dropped after one slot; the larger stack is printed.
+ * Taking in runs before taking out, on one table.
  */
 #define _XOPEN_SOURCE 600
 #include <inttypes.h>
@@ -20,7 +21,7 @@
 #define MARK 0xa5
 
 static uint8_t plan[T * JOFTAKI_RECORD_BYTES], set[N];
-static uint16_t hops_table[TABLE], near_hops[N], way[T], list[T];
+static uint16_t hops_table[TABLE], near_hops[N], way[T], list[T], band[JOFTAKI_BAND_LENGTH];
 static uint64_t counts[TABLE], near_counts[N], through[N], pairs[N], loads[N], work[WORK], count;
 static size_t keeping, offset, length, arrival, hops, station;
 static uint32_t verdict;
@@ -70,6 +71,12 @@ static uint32_t run_verdict(void)
     return joftaki_verdict(plan, sizeof plan, N, T, 1, keeping, 0, 255, &verdict, list, T, work, WORK);
 }
 
+static uint32_t run_take_in(void)
+{
+    return joftaki_take_in(plan, sizeof plan, N, T, 2, band, JOFTAKI_BAND_LENGTH);
+}
+static uint32_t run_take_out(void) { return joftaki_take_out(plan, sizeof plan, N, T, band, JOFTAKI_BAND_LENGTH); }
+
 static const struct {
     const char *name;
     uint32_t (*run)(void);
@@ -81,7 +88,8 @@ static const struct {
     {"joftaki_busiest", run_busiest, 0},     {"joftaki_first_way", run_first_way, 0},
     {"joftaki_next_way", run_next_way, JOFTAKI_LAST}, {"joftaki_through_set", run_through_set, 0},
     {"joftaki_foremost", run_foremost, 0},   {"joftaki_partial_loads", run_partial_loads, 0},
-    {"joftaki_verdict", run_verdict, 0},
+    {"joftaki_verdict", run_verdict, 0},    {"joftaki_take_in", run_take_in, 0},
+    {"joftaki_take_out", run_take_out, 0},
 };
 
 static unsigned char stack[STACK];

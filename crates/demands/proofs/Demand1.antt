@@ -17,6 +17,7 @@ use Rattle.temporal.specs.OutcomePair.{PairBuffers, paired, pair, LoadBuffers, 
 use Rattle.temporal.specs.OutcomeSet.{setCounted, throughSet}
 use Rattle.temporal.specs.OutcomeForemost.{foremostPaired, foremost}
 use Rattle.temporal.specs.OutcomeVerdict.{judged, verdict}
+use Rattle.temporal.specs.Band.{takeIn, takeOut}
 use Rattle.temporal.proofs.NumberLaws.{none-has, cause-has, append-has, plan-has, ends-has, turning-other}
 use Rattle.plan.specs.Fault.{checkNumber}
 use Rattle.plan.specs.declared.CheckAnswer.{CheckAnswer}
@@ -37,6 +38,8 @@ use Rattle.demands.specs.Causes.{
   throughSetCauses,
   foremostCauses,
   verdictCauses,
+  takeInCauses,
+  takeOutCauses,
   firstWayCauses,
   nextWayCauses,
   wayEmptied,
@@ -50,9 +53,11 @@ use Rattle.demands.proofs.JudgedLaws.{
   plain-sources,
   plain-short,
   plain-set,
+  plain-band,
   judged-entered,
   judged-without,
   judged-accepted,
+  judged-plain,
   judged-too-many,
   judged-work,
 }
@@ -165,6 +170,14 @@ verdict-judged bs n t terms s z list old =
     judged-entered none old (cleared (workSize n t) old) _ _ _ (plain-pair bs n t terms _ s z)
     (judged-work none old (cleared (workSize n t) old) (tooMany (planOf bs n t terms) s) _ refl)
 
+take-in-judged : (bs : List ℕ) (n t c : ℕ) (old : List ℕ) → Judged (takeInCauses bs n t c old) tt old old (takeIn bs n t c old)
+unfolding takeIn takeInCauses
+take-in-judged bs n t c old = judged-plain tt old old _ _ (plain-band bs n t _ 15 _ (omega arith) (omega arith)) refl
+
+take-out-judged : (bs : List ℕ) (n t : ℕ) (old : List ℕ) → Judged (takeOutCauses bs n t old) tt old old (takeOut bs n t old)
+unfolding takeOut takeOutCauses
+take-out-judged bs n t old = judged-plain tt old old _ _ (plain-band bs n t _ 16 _ (omega arith) (omega arith)) refl
+
 -- the causes of the operation on shortest foremost paths, for units that keep a reading until the plan ends: 14 does not hold
 foremost-other : (bs : List ℕ) (n t g s z : ℕ) (old : PairBuffers) → first (foremostCauses bs n t (turning g) s z old) ≢ 14
 unfolding foremostCauses pairCauses
@@ -210,6 +223,8 @@ demand1 =
       of-verdict = λ bs n t terms s z list old x r e.
           subst (Judged (verdictCauses bs n t terms s z old) none old (cleared (workSize n t) old)) (sym e)
           (verdict-judged bs n t terms s z list old);
+      of-take-in = λ bs n t c old x r e. subst (Judged (takeInCauses bs n t c old) tt old old) (sym e) (take-in-judged bs n t c old);
+      of-take-out = λ bs n t old x r e. subst (Judged (takeOutCauses bs n t old) tt old old) (sym e) (take-out-judged bs n t old);
       of-first-way = λ bs n t g h s z old x r e.
           subst (Judged (firstWayCauses (question bs n t g h s z) old) 0 old (wayEmptied n t old)) (sym (ap outcomeOf e))
           (first-way-judged (question bs n t g h s z) old);

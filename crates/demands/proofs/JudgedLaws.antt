@@ -3,7 +3,7 @@ use Prim.Native.Nat.{ℕ, zero, suc}
 use native.Mathlib.Omega.{arith}
 use mathlib.Core.Path.{_≡_, refl, sym, subst, _∙_}
 use mathlib.Core.Bool.{Bool, true, false, cond}
-use mathlib.Core.List.{List, [], _∷_, _++_, flatMap, append-assoc}
+use mathlib.Core.List.{List, [], _∷_, _++_, flatMap, append-assoc, append-nil}
 use mathlib.Core.Logic.{_↔_, _≢_}
 use Rattle.temporal.specs.Lists.{below}
 use Rattle.temporal.specs.Plan.{Terms}
@@ -121,6 +121,12 @@ plain-set bs n t terms s z set old =
     subst Plain (append-assoc (planCauses bs n t) _ _)
     (plain-append _ _ (plain-pair bs n t terms _ s z) (plain-cause 11 _ [] (omega arith) (omega arith) plain-none))
 
+-- and with 8 and one cause more, of a call that names nothing
+pub plain-band : (bs : List ℕ) (n t : ℕ) (lacking : Bool) (k : ℕ) (b : Bool) → k ≢ 9 → k ≢ 10
+    → Plain (planCauses bs n t ++ (cause 8 lacking ∷ cause k b ∷ []))
+plain-band bs n t lacking k b p q =
+    plain-append _ _ (plain-plan bs n t) (plain-cause 8 _ _ (omega arith) (omega arith) (plain-cause k b [] p q plain-none))
+
 -- ---- the call
 
 -- lists whose first causes are the same, behind one list
@@ -207,6 +213,14 @@ module _ {Values Buffers : Type 0} (zeros : Values) (old emptied : Buffers) wher
         too-many = λ h. refl;
         unoffered = λ h. refl;
       }
+
+  -- an operation that has no cause left
+  pub judged-plain : (causes : List ℕ) (work : Outcome Values Buffers) → Plain causes → work .number ≡ 0
+      → Judged causes zeros old emptied (entered causes zeros old work)
+  unfolding first
+  judged-plain causes work plain e =
+      subst (λ l. Judged l zeros old emptied (entered causes zeros old work)) (append-nil causes)
+      (judged-entered causes [] work plain (judged-accepted [] work e refl))
 
   -- the work of an operation whose one cause left is 9
   pub judged-work : (many : Bool) (o : Outcome Values Buffers) → o .number ≡ 0

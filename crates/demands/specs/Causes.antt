@@ -1,4 +1,4 @@
--- For each operation the one list of all its causes of refusal, in document 01's order with document 02's 11 to 14; a cause that does not
+-- For each operation the one list of all its causes of refusal, in document 01's order with document 02's 11 to 16; a cause that does not
 -- hold stands in it as 0. (Check's list is planCauses.) Beside it, what 9 and 10 leave in the lent buffers. Definitions only.
 -- Assumes nothing.
 use Prim.Native.Nat.{ℕ}
@@ -13,6 +13,7 @@ use Rattle.temporal.specs.Cause.{appearanceTooMany, tooMany, tooManyBelow, tooM
 use Rattle.temporal.specs.Outcome.{cleared, short, places, workSize, ReachTables}
 use Rattle.temporal.specs.OutcomePair.{PairBuffers, LoadBuffers}
 use Rattle.temporal.specs.OutcomeSet.{setCauses}
+use Rattle.temporal.specs.Band.{bandSlots, overBand, underBand}
 use Rattle.temporal.specs.Cursor.{sameNumbers}
 use Rattle.temporal.specs.FirstNext.{Question, listOf, wayCauses, overflow}
 
@@ -109,6 +110,14 @@ foremostCauses bs n t terms s z old =
 unfoldable pub verdictCauses : List ℕ → ℕ → ℕ → Terms → ℕ → ℕ → List ℕ → List ℕ
 verdictCauses bs n t terms s z old =
     planCauses bs n t ++ pairCauses terms n s z (short (workSize n t) old) ++ cause 9 (tooMany (planOf bs n t terms) s) ∷ []
+
+-- ---- Taking a plan in and taking it out (document 02, C-22): 1 to 5, 8, then 15 of the one and 16 of the other; neither 9 nor 10
+
+unfoldable pub takeInCauses : List ℕ → ℕ → ℕ → ℕ → List ℕ → List ℕ
+takeInCauses bs n t c old = planCauses bs n t ++ (cause 8 (short bandSlots old) ∷ cause 15 (overBand bs c old) ∷ [])
+
+unfoldable pub takeOutCauses : List ℕ → ℕ → ℕ → List ℕ → List ℕ
+takeOutCauses bs n t old = planCauses bs n t ++ (cause 8 (short bandSlots old) ∷ cause 16 (underBand bs old) ∷ [])
 
 -- ---- Operation 7, first way: 1 to 5, 12, 14, 6 to 9; operation 8, next way: the same, then 10
 

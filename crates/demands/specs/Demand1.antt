@@ -15,6 +15,7 @@ use Rattle.temporal.specs.OutcomePair.{PairBuffers, pair, LoadBuffers, partialL
 use Rattle.temporal.specs.OutcomeSet.{throughSet}
 use Rattle.temporal.specs.OutcomeForemost.{foremost}
 use Rattle.temporal.specs.OutcomeVerdict.{verdict}
+use Rattle.temporal.specs.Band.{takeIn, takeOut}
 use Rattle.temporal.specs.Cursor.{Reply, path, no-path, last-path, refused, first-way, next-way}
 use Rattle.temporal.specs.FirstNext.{WayContract}
 use Rattle.plan.specs.Fault.{checkNumber}
@@ -34,6 +35,8 @@ use Rattle.foremost.specs.Answer.{foremostOutcome}
 use Rattle.foremost.specs.declared.ForemostAnswer.{ForemostAnswer}
 use Rattle.verdicts.specs.Answer.{verdictOutcome}
 use Rattle.verdicts.specs.declared.VerdictAnswer.{VerdictAnswer}
+use Rattle.band.specs.Answer.{bandOutcome}
+use Rattle.band.specs.declared.BandAnswer.{BandAnswer}
 use Rattle.listing.specs.Answer.{replyOf, question}
 use Rattle.listing.specs.declared.WayAnswer.{WayAnswer}
 use Rattle.demands.specs.Limits.{WithinLimits}
@@ -50,6 +53,8 @@ use Rattle.demands.specs.Causes.{
   throughSetCauses,
   foremostCauses,
   verdictCauses,
+  takeInCauses,
+  takeOutCauses,
   WayBuffers,
   firstWayCauses,
   nextWayCauses,
@@ -136,6 +141,11 @@ pub record Demand1 : Type 0 where
   pub of-verdict : (bs : List ℕ) (n t : ℕ) (terms : Terms) (s z : ℕ) (list old x : List ℕ) (r : VerdictAnswer)
       → verdictOutcome r x ≡ verdict bs n t terms s z list old
       → Judged (verdictCauses bs n t terms s z old) none old (cleared (workSize n t) old) (verdictOutcome r x)
+  -- they clear nothing on any refusal
+  pub of-take-in : (bs : List ℕ) (n t c : ℕ) (old x : List ℕ) (r : BandAnswer) → bandOutcome r x ≡ takeIn bs n t c old
+      → Judged (takeInCauses bs n t c old) tt old old (bandOutcome r x)
+  pub of-take-out : (bs : List ℕ) (n t : ℕ) (old x : List ℕ) (r : BandAnswer) → bandOutcome r x ≡ takeOut bs n t old
+      → Judged (takeOutCauses bs n t old) tt old old (bandOutcome r x)
   pub of-first-way : (bs : List ℕ) (n t g h s z : ℕ) (old x : WayBuffers) (r : WayAnswer)
       → WayContract first-way (question bs n t g h s z) (old .way) (old .work) (replyOf r) (x .way) (x .work)
       → Judged (firstWayCauses (question bs n t g h s z) old) 0 old (wayEmptied n t old) (wayResult r x)

@@ -23,3 +23,5 @@ pub mod Account
 pub mod Partial
 -- C-19: verdicts on lists
 pub mod Verdicts
+-- C-22: plans that share a band
+pub mod Band

@@ -9,12 +9,14 @@ ghost use Rattle.temporal.specs.OutcomePair.{pair, partialLoads, loads, busiest
 ghost use Rattle.temporal.specs.OutcomeSet.{throughSet};
 ghost use Rattle.temporal.specs.OutcomeForemost.{foremost};
 ghost use Rattle.temporal.specs.OutcomeVerdict.{verdict};
+ghost use Rattle.temporal.specs.Band.{takeIn, takeOut};
 ghost use Rattle.temporal.specs.Cursor.{first-way, next-way};
 ghost use Rattle.temporal.specs.FirstNext.{wayAnswer};
 ghost use Rattle.plan.specs.Fault.{faultNumber};
 ghost use Rattle.reach.specs.Pass.{lentTables};
 ghost use Rattle.pair.specs.Answer.{pairBuffers};
 ghost use Rattle.loads.specs.Answer.{loadsNumber, loadBuffers};
+ghost use Rattle.band.specs.Answer.{bandNumber};
 ghost use Rattle.judging.specs.Judge.{verdictOf};
 ghost use Rattle.listing.specs.Answer.{replyOf, question};
 ghost use Rattle.joftaki_c.specs.Slots.{
@@ -29,6 +31,7 @@ ghost use Rattle.joftaki_c.specs.Slots.{
   verdictCoded,
 };
 ghost use Rattle.joftaki_c.specs.Code.{replyCode, replyHops, wayGiven, wayExit};
+use band::BandAnswer;
 use foremost::ForemostAnswer;
 use judging::Judgement;
 use listing::WayAnswer;
@@ -398,4 +401,30 @@ pub extern "C" fn joftaki_next_way(
     let answer = listing::next_way(plan, n, t, g, h, s, z, way, work);
     *hops = way_hops(answer);
     way_code(answer)
+}
+
+// The number of what taking in and taking out answer.
+fn band_code(answer: BandAnswer) -> u32
+    ensures { λ r. ⌜ r ≡ bandNumber answer ⌝ }
+{
+    match answer {
+        BandAnswer::Taken => 0,
+        BandAnswer::Refused(fault) => fault_code(fault),
+    }
+}
+
+// Taking a plan into a band (document 02, C-22): the number, and the table as taking in leaves it.
+#[no_mangle]
+pub extern "C" fn joftaki_take_in(plan: &[u8], n: usize, t: usize, c: u16, table: &mut [u16]) -> u32
+    ensures { λ r. ⌜ answered r (now (table .exit)) ≡ takeIn (now (plan .entry)) n t c (now (table .entry)) ⌝ }
+{
+    band_code(band::take_in(plan, n, t, c, table))
+}
+
+// Taking a plan out (document 02, C-22): the number, and the table as taking out leaves it.
+#[no_mangle]
+pub extern "C" fn joftaki_take_out(plan: &[u8], n: usize, t: usize, table: &mut [u16]) -> u32
+    ensures { λ r. ⌜ answered r (now (table .exit)) ≡ takeOut (now (plan .entry)) n t (now (table .entry)) ⌝ }
+{
+    band_code(band::take_out(plan, n, t, table))
 }

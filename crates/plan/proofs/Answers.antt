@@ -44,6 +44,8 @@ call-number-within call-fault.SetByte = (omega arith, omega arith)
 call-number-within call-fault.Turnaround = (omega arith, omega arith)
 call-number-within call-fault.Sources = (omega arith, omega arith)
 call-number-within call-fault.Keeping = (omega arith, omega arith)
+call-number-within call-fault.Channels = (omega arith, omega arith)
+call-number-within call-fault.Untaken = (omega arith, omega arith)
 
 pub fault-number-within : (f : Fault) → (0 < faultNumber f) × (faultNumber f ≤ 17)
 fault-number-within (fault.Plan f) = (number-positive f, omega (arith, plan-number-small f))

@@ -1,13 +1,16 @@
--- A record of a slot, and none. Assumes nothing.
-use Prim.Native.Nat.{ℕ, _<_}
+-- A record of a slot, and none; and the records of a slot from a position on. Assumes nothing.
+use Prim.Native.Nat.{ℕ, _+_, _*_, _<_, _≤_}
+use native.Mathlib.Omega.{arith}
+use native.Mathlib.Decide.{ℕ-discrete}
 use mathlib.Core.Path.{_≡_}
 use mathlib.Core.Bool.{true, false, and-eq-true-iff}
 use mathlib.Core.List.{List}
-use mathlib.Core.Logic.{_≢_}
+use mathlib.Core.Logic.{_≢_, by-cases}
+use lib.ListN.{length}
 use borrow.Author.Tests.{ltb-true, eqb-true, lt-ltb, eq-eqb}
 use Rattle.temporal.specs.Bytes.{contactAt, records}
 use Rattle.temporal.proofs.ListLaws.{not-both}
-use Rattle.plan.specs.Record.{inSlot}
+use Rattle.plan.specs.Record.{inSlot, SlotRecords}
 
 module _ (bs : List ℕ) (j u : ℕ) where
   -- a record of the slot is there
@@ -23,3 +26,33 @@ module _ (bs : List ℕ) (j u : ℕ) where
   in-slot-none e there same =
       let both : inSlot bs j u ≡ true = rw (lt-ltb j (records bs) there, eq-eqb (contactAt bs j .slot) u same) in
       not-both both e
+
+-- the records from position j to before i are in slot u
+pub record Counting (bs : List ℕ) (u j i : ℕ) : Type 0 where
+  pub from : j ≤ i
+  pub inside : i ≤ records bs
+  pub here : (k : ℕ) → j ≤ k → k < i → inSlot bs k u ≡ true
+
+-- a position is below the number of bytes
+pub position-small : (bs : List ℕ) (i : ℕ) → i < records bs → i < length bs
+unfolding records
+position-small bs i h = omega arith
+
+module _ (bs : List ℕ) (u j : ℕ) where
+  pub counting-none : j * 6 ≤ length bs → Counting bs u j j
+  unfolding records
+  counting-none h =
+      record { from = omega arith; inside = omega arith; here = λ k low high. absurd (omega arith) }
+
+  pub counting-more : (i : ℕ) → inSlot bs i u ≡ true → Counting bs u j i → Counting bs u j (i + 1)
+  counting-more i e c =
+      let (there, slot) = in-slot-inv bs i u e in
+      let f = c .from in
+      record {
+        from = omega arith;
+        inside = omega arith;
+        here = λ k low high. by-cases (ℕ-discrete k i) (λ same. rw same e) (λ other. c .here k low (omega arith));
+      }
+
+  pub counting-all : (i : ℕ) → inSlot bs i u ≡ false → Counting bs u j i → SlotRecords bs u j i
+  counting-all i e c = record { from = c .from; here = c .here; past = e }

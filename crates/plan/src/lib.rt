@@ -1,13 +1,13 @@
 // Plan bytes: the faults with their numbers, reading a record, operation 1, `check`, which rests on these, and the slots that a contact may
 // follow.
 ghost use mathlib.Core.Path.{_≡_};
-ghost use Prim.Native.Nat.{_+_, _*_, _<_};
+ghost use Prim.Native.Nat.{_+_, _*_, _<_, _≤_};
 ghost use lib.ListN.{length};
 ghost use Rattle.temporal.specs.Plan.{windowFirst, windowEnd};
 ghost use Rattle.temporal.specs.Bytes.{wordAt, contactAt};
 ghost use Rattle.temporal.specs.Cause.{first, isAbove, recordCauses, planFault};
 ghost use Rattle.plan.specs.Fault.{planNumber, callNumber, faultNumber, checkNumber};
-ghost use Rattle.plan.specs.Record.{contactOf, inSlot};
+ghost use Rattle.plan.specs.Record.{contactOf, inSlot, SlotRecords};
 
 // A fault of the plan, document 01's causes 1 to 5 in turn.
 pub enum PlanFault {
@@ -29,6 +29,8 @@ pub enum CallFault {
     Turnaround,
     Sources,
     Keeping,
+    Channels,
+    Untaken,
 }
 
 // Why an operation refuses.
@@ -70,6 +72,8 @@ pub fn call_number(fault: CallFault) -> usize
         CallFault::Turnaround => 12,
         CallFault::Sources => 13,
         CallFault::Keeping => 14,
+        CallFault::Channels => 15,
+        CallFault::Untaken => 16,
     }
 }
 
@@ -138,6 +142,18 @@ pub fn in_slot(plan: &[u8], j: usize, u: usize) -> bool
     } else {
         false
     }
+}
+
+// The position past the records of slot u that stand from j on. It is no operation either.
+pub fn slot_end(plan: &[u8], j: usize, u: usize) -> usize
+    requires { ⌜ j * 6 ≤ length (now plan) ⌝ }
+    ensures { λ r. ⌜ SlotRecords (now (plan .entry)) u j r ⌝ }
+{
+    let mut i = j;
+    while in_slot(plan, i, u) {
+        i += 1;
+    }
+    i
 }
 
 // Whether d is above c, compared by slot, then sender, then hearer.

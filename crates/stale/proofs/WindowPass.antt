@@ -28,6 +28,7 @@ use Rattle.counting.proofs.Recurrence.{arrivals, arrivals-all, arrivals-same, h
 use Rattle.entries.proofs.EntryLaws.{Entry, Small}
 use Rattle.entries.proofs.HopLaws.{few-slots}
 use Rattle.memory.proofs.FillLaws.{filled-length, filled-other, filled-at}
+use Rattle.plan.specs.Record.{SlotRecords}
 use Rattle.plan.proofs.SlotLaws.{in-slot-inv, in-slot-none}
 use Rattle.pass.specs.declared.Ended.{Ended}
 use Rattle.pass.specs.declared.Ended.the-variants as ended
@@ -48,7 +49,7 @@ use Rattle.pass.proofs.PassLaws.{drop-same}
 use Rattle.stale.specs.Depth.{heardBefore, heardRecords}
 use Rattle.stale.specs.Size.{windowSize}
 use Rattle.stale.specs.Window.{ringAt, markAt, windowsOf, sentRecords, windowSlot, begunWindow, WindowArea, RecordsFit}
-use Rattle.stale.specs.Window.{SlotRecords, WindowReady}
+use Rattle.stale.specs.Window.{WindowReady}
 use Rattle.stale.proofs.DepthLaws.{rises, heard-most}
 use Rattle.stale.proofs.RingPlaces.{area-same, mark-behind, mark-at, mark-inside, first-parts, ring-first, parts-end}
 use Rattle.stale.proofs.WindowSteps.{counters-fit}

@@ -1,13 +1,12 @@
 -- The functions of the pass where readings go stale: what they leave, from what the functions that they call leave, and their loops.
 -- Assumes nothing.
-use Prim.Native.Nat.{ℕ, suc, _+_, _-_, _*_, _%_, _^_, _<_, _≤_, min}
+use Prim.Native.Nat.{ℕ, suc, _+_, _-_, _%_, _^_, _<_, _≤_, min}
 use native.Mathlib.Omega.{arith}
 use native.Mathlib.Nat.{mod-lt}
-use native.Mathlib.Decide.{ℕ-discrete}
 use mathlib.Core.Path.{_≡_, refl, sym, ap, _∙_}
 use mathlib.Core.Bool.{Bool, true, false, or-true, or-false}
 use mathlib.Core.List.{List}
-use mathlib.Core.Logic.{_≢_, by-cases}
+use mathlib.Core.Logic.{_≢_}
 use borrow.Author.Tests.{lt-ltb, le-ltb, eq-eqb, ne-eqb}
 use lib.ListN.{length, getD, set}
 use Rattle.temporal.specs.Plan.{Terms, units, windowFirst, windowEnd}
@@ -15,15 +14,14 @@ use Rattle.temporal.specs.Bytes.{contactAt, records}
 use Rattle.memory.specs.Fill.{filled}
 use Rattle.temporal.specs.Plan as temporal
 use Rattle.plan.specs.declared.Contact.{Contact}
-use Rattle.plan.specs.Record.{inSlot, contactOf}
-use Rattle.plan.proofs.SlotLaws.{in-slot-inv}
+use Rattle.plan.specs.Record.{contactOf}
 use Rattle.entries.proofs.CountLaws.{overflows-some, overflows-none}
 use Rattle.pass.specs.Row.{partSize, rowAt}
 use Rattle.pass.specs.Entry.{absorbed, Absorbable}
 use Rattle.pass.specs.Sweep.{Sweep, sweepOf, emptied, begunArea}
 use Rattle.stale.specs.Window.{ringAt, markAt, takenCell, openedCell, emptiedCell, maskedRow, keptCell, gatheredCell, keptCells}
 use Rattle.stale.specs.Window.{windowCell, windowNext, windowsOf, sentRecords, pushedAt, pushedCell, keptOne, keptNext, keptFrom}
-use Rattle.stale.specs.Window.{windowSlot, begunWindow, TwoParts, WindowArea, SlotRecords}
+use Rattle.stale.specs.Window.{windowSlot, begunWindow, TwoParts, WindowArea}
 use Rattle.pass.proofs.PlaceLaws.{row-inside}
 use Rattle.stale.proofs.RingPlaces.{ring-next, mark-next, mark-at, ring-fits, mark-fits}
 
@@ -358,37 +356,6 @@ module _ (n block d u : ℕ) (old : List ℕ) where
   keeping-all v over now h x =
       let none : n - v ≡ 0 = omega arith in
       sym (ap (keptFrom n block d u (sweepOf over now) v) none) ∙ x .rest
-
--- ---- the records of a slot
-
-pub record Counting (bs : List ℕ) (u j i : ℕ) : Type 0 where
-  pub from : j ≤ i
-  pub inside : i ≤ records bs
-  pub here : (k : ℕ) → j ≤ k → k < i → inSlot bs k u ≡ true
-
--- a position is below the number of bytes
-pub position-small : (bs : List ℕ) (i : ℕ) → i < records bs → i < length bs
-unfolding records
-position-small bs i h = omega arith
-
-module _ (bs : List ℕ) (u j : ℕ) where
-  pub counting-none : j * 6 ≤ length bs → Counting bs u j j
-  unfolding records
-  counting-none h =
-      record { from = omega arith; inside = omega arith; here = λ k low high. absurd (omega arith) }
-
-  pub counting-more : (i : ℕ) → inSlot bs i u ≡ true → Counting bs u j i → Counting bs u j (i + 1)
-  counting-more i e c =
-      let (there, slot) = in-slot-inv bs i u e in
-      let f = c .from in
-      record {
-        from = omega arith;
-        inside = omega arith;
-        here = λ k low high. by-cases (ℕ-discrete k i) (λ same. rw same e) (λ other. c .here k low (omega arith));
-      }
-
-  pub counting-all : (i : ℕ) → inSlot bs i u ≡ false → Counting bs u j i → SlotRecords bs u j i
-  counting-all i e c = record { from = c .from; here = c .here; past = e }
 
 -- ---- a slot
 

@@ -6,7 +6,7 @@
 -- Assumes nothing.
 use Prim.Native.Nat.{ℕ, zero, suc, _+_, _-_, _*_, _%_, _^_, _<_, _≤_, min}
 use mathlib.Core.Path.{_≡_}
-use mathlib.Core.Bool.{true, false, cond, _||_}
+use mathlib.Core.Bool.{false, cond, _||_}
 use mathlib.Core.List.{List}
 use lib.Dec.{ltb, eqb}
 use lib.ListN.{length, getD, set}
@@ -14,7 +14,6 @@ use Rattle.temporal.specs.Plan.{Terms, Allowed, windowFirst, windowEnd}
 use Rattle.temporal.specs.Bytes.{contactAt}
 use Rattle.temporal.specs.Cause.{planFault}
 use Rattle.memory.specs.Fill.{filled}
-use Rattle.plan.specs.Record.{inSlot}
 use Rattle.pass.specs.Row.{partSize, rowAt}
 use Rattle.pass.specs.Entry.{absorbed, areaOverflows}
 use Rattle.pass.specs.Sweep.{Sweep, sweepOf, emptied, begunArea}
@@ -151,12 +150,6 @@ pub record RecordsFit (bs : List ℕ) (n j e : ℕ) : Type 0 where
   pub inside : (i : ℕ) → j ≤ i → i < e → i * 6 + 5 < length bs
   pub sender-station : (i : ℕ) → j ≤ i → i < e → contactAt bs i .sender < n
   pub hearer-station : (i : ℕ) → j ≤ i → i < e → contactAt bs i .hearer < n
-
--- the records from position j to before e are those of slot u from j on
-pub record SlotRecords (bs : List ℕ) (u j e : ℕ) : Type 0 where
-  pub from : j ≤ e
-  pub here : (i : ℕ) → j ≤ i → i < e → inSlot bs i u ≡ true
-  pub past : inSlot bs e u ≡ false
 
 -- what the pass asks: an accepted plan, units whose terms no cause refuses, rings that are deep enough, a source, and a work area that is
 -- long enough

@@ -35,7 +35,6 @@ ghost use Rattle.stale.specs.Window.{
   TwoParts,
   WindowArea,
   RecordsFit,
-  SlotRecords,
   WindowReady,
 };
 use pass::Columns;
@@ -387,18 +386,6 @@ fn keep_all(work: &mut [u64], n: usize, block: usize, depth: usize, u: usize) ->
     over
 }
 
-// The position past the records of slot u that stand from j on.
-fn slot_end(plan: &[u8], j: usize, u: usize) -> usize
-    requires { ⌜ j * 6 ≤ length (now plan) ⌝ }
-    ensures { λ r. ⌜ SlotRecords (now (plan .entry)) u j r ⌝ }
-{
-    let mut i = j;
-    while plan::in_slot(plan, i, u) {
-        i += 1;
-    }
-    i
-}
-
 // Slot u, with the records from j to before end. True where a count is over 2^64 - 1.
 fn window_slot(
     work: &mut [u64],
@@ -474,7 +461,7 @@ pub fn pass_window(
     let mut j = 0;
     let mut u = 1;
     while u <= t {
-        let end = slot_end(plan, j, u);
+        let end = plan::slot_end(plan, j, u);
         if window_slot(
             work,
             plan,

@@ -2,6 +2,8 @@
 pub mod Adequacy
 -- figures of small plans by computation; public, so that they are checked before the laws of sets
 pub mod Figures
+-- plans that share a band
+pub mod BandFigures
 -- readings that go stale
 pub mod FreshFigures
 -- the busiest station

@@ -58,7 +58,7 @@ length-select-less t u (x ∷ l) h =
     go false false f less = less
 
 -- all members pass
-select-all : {A : Type 0} (t : A → Bool) (l : List A) → ((x : A) → List·Memᴰ x l → t x ≡ true) → select t l ≡ l
+pub select-all : {A : Type 0} (t : A → Bool) (l : List A) → ((x : A) → List·Memᴰ x l → t x ≡ true) → select t l ≡ l
 unfolding select
 select-all t [] h = refl
 select-all t (x ∷ l) h =

@@ -16,6 +16,7 @@ pub mod OutcomeForemost
 pub mod Cursor
 pub mod Verdict
 pub mod OutcomeVerdict
+pub mod Band
 pub mod FirstNext
 pub mod Trace
 pub mod TraceGiven

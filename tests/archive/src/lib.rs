@@ -1,6 +1,7 @@
 //! The functions of libjoftaki_c.a, as include/joftaki.h declares them, and each with slices in the
 //! place of pointers and lengths.
 
+use lister::band::Taking;
 use lister::plan::{Ends, PlanInput};
 use lister::reach::ReachTables;
 use lister::ways::Way;
@@ -166,6 +167,23 @@ extern "C" {
         list_length: usize,
         work: *mut u64,
         work_length: usize,
+    ) -> u32;
+    fn joftaki_take_in(
+        plan: *const u8,
+        plan_length: usize,
+        n: usize,
+        t: usize,
+        c: u16,
+        table: *mut u16,
+        table_length: usize,
+    ) -> u32;
+    fn joftaki_take_out(
+        plan: *const u8,
+        plan_length: usize,
+        n: usize,
+        t: usize,
+        table: *mut u16,
+        table_length: usize,
     ) -> u32;
     way_function!(joftaki_first_way);
     way_function!(joftaki_next_way);
@@ -374,6 +392,19 @@ pub fn verdict(
         work.as_mut_ptr(),
         work.len()
     )
+}
+
+/// Document 02's taking of a plan into a band or out of it, on the plan, n and T of an input.
+pub fn take(taking: Taking, input: PlanInput, table: &mut [u16]) -> u32 {
+    let (plan, n, t) = (input.bytes, input.stations, input.slots);
+    let (plan, plan_length) = (plan.as_ptr(), plan.len());
+    let (table, length) = (table.as_mut_ptr(), table.len());
+    match taking {
+        // SAFETY: as above.
+        Taking::In(c) => unsafe { joftaki_take_in(plan, plan_length, n, t, c, table, length) },
+        // SAFETY: as above.
+        Taking::Out => unsafe { joftaki_take_out(plan, plan_length, n, t, table, length) },
+    }
 }
 
 /// Operations 7 and 8.

@@ -22,6 +22,8 @@ pub fn function(operation: Operation) -> &'static str {
         Operation::Foremost => "joftaki_foremost",
         Operation::PartialLoads => "joftaki_partial_loads",
         Operation::Verdict => "joftaki_verdict",
+        Operation::TakeIn => "joftaki_take_in",
+        Operation::TakeOut => "joftaki_take_out",
     }
 }
 
@@ -30,7 +32,8 @@ pub fn function(operation: Operation) -> &'static str {
 pub struct Call<'a> {
     pub operation: Operation,
     pub input: PlanInput<'a>,
-    /// The numbers behind g and h: the one station, source and destination, or k; further ones are not given.
+    /// The numbers behind n, T, g and h: the one station, source and destination, k, or c; further ones are not
+    /// given.
     pub arguments: [usize; 2],
     pub lent: Lent,
     /// The places for the values beside the number.
@@ -77,6 +80,7 @@ impl fmt::Display for Call<'_> {
         let given = &self.arguments[..self.operation.arguments()];
         let name = match self.operation {
             Operation::PartialLoads => "k",
+            Operation::TakeIn => "c",
             _ => "stations",
         };
         write!(to, "{}, {name} {given:?}", function(self.operation))?;
@@ -90,6 +94,9 @@ impl fmt::Display for Call<'_> {
         }
         if self.operation.takes_way_buffer() {
             writeln!(to, "way buffer before: {:?}", self.lent.narrow[0])?;
+        }
+        if self.operation.takes_band() {
+            writeln!(to, "table before: {:?}", self.lent.narrow[0])?;
         }
         Ok(())
     }

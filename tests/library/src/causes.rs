@@ -9,6 +9,7 @@ use lister::plans::Owned;
 use lister::random::Random;
 use lister::reach_cases::ladder;
 
+use crate::band;
 use crate::call::Call;
 use crate::compare::{Comparison, Difference};
 use crate::lend::{self, Lengths};
@@ -209,6 +210,7 @@ fn short_parts(
         }
         let mut call = lend::call(random, operation, owned.input(), arguments, Lengths::Named);
         call.lent = lend::of_lengths(random, &lengths, owned.stations);
+        band::draw(random, &mut call);
         if let [set] = &mut call.lent.sets[..] {
             set[0] = [1, 2][random.below(2)];
         }

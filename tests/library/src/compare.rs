@@ -16,8 +16,8 @@ use crate::native::{self, Seen};
 pub type Difference = String;
 
 /// The comparisons so far: how often each operation answered each number, how often its through counts were
-/// added up, how often they were fewer than the hops' stations, how often each verdict was given, and how often
-/// partial loads were held to the loads and to those of fewer sources.
+/// added up, how often they were fewer than the hops' stations, how often each verdict was given, how often
+/// partial loads were held to the loads and to those of fewer sources, and what came in runs on a band.
 #[derive(Clone, Debug, Default)]
 pub struct Comparison {
     answers: BTreeMap<(Operation, u32), u64>,
@@ -26,6 +26,9 @@ pub struct Comparison {
     called_twice: u64,
     verdicts: BTreeMap<u64, u64>,
     pub spans: [u64; 2],
+    /// The calls of runs on a band by their number, and those after which a plan was in twice.
+    runs: BTreeMap<u32, u64>,
+    in_twice: u64,
 }
 
 impl Comparison {
@@ -94,7 +97,13 @@ impl Comparison {
         self.verdicts.get(&number.into()).copied().unwrap_or(0)
     }
 
-    /// The numbers that an operation knows and never answered, and the verdicts never given.
+    /// A call of a run on a band, whose number and table are the bookkeeping's.
+    pub fn in_run(&mut self, number: u32, twice: bool) {
+        *self.runs.entry(number).or_default() += 1;
+        self.in_twice += u64::from(twice);
+    }
+
+    /// The numbers that an operation knows and never answered, also in the runs, and the verdicts never given.
     pub fn never_answered(&self) -> Vec<(&'static str, u32)> {
         let mut never = Vec::new();
         for operation in OPERATIONS {
@@ -108,6 +117,10 @@ impl Comparison {
             .filter(|number| self.given(*number) == 0);
         never.extend(unseen.map(|number| ("verdict", number)));
         never.extend((self.called_twice == 0).then_some(("walks twice at a station", 0)));
+        let numbers = Operation::TakeIn.numbers().into_iter();
+        let unseen = numbers.filter(|number| !self.runs.contains_key(number));
+        never.extend(unseen.map(|number| ("runs on a band", number)));
+        never.extend((self.in_twice == 0).then_some(("a plan in twice", 0)));
         never
     }
 
@@ -143,6 +156,12 @@ impl Comparison {
             text,
             "partial loads held to those of fewer sources: {of_fewer}"
         );
+        let _ = write!(text, "calls of runs on a band:");
+        for (number, times) in &self.runs {
+            let _ = write!(text, " {} {times}", number_name(*number));
+        }
+        let twice = self.in_twice;
+        let _ = writeln!(text, "; with a plan in twice {twice}");
         text
     }
 }

@@ -4,6 +4,7 @@ use lister::operation::{Lent, Operation};
 use lister::plan::{PlanInput, MOST_SLOTS, MOST_STATIONS};
 use lister::random::Random;
 
+use crate::band;
 use crate::call::Call;
 
 /// How many entries of a table are lent.
@@ -91,7 +92,7 @@ pub fn of_lengths(random: &mut Random, lengths: &[Vec<usize>; 3], stations: usiz
     }
 }
 
-/// A call on arbitrary contents; a list has up to 5 entries.
+/// A call on arbitrary contents; a list has up to 5 entries, and a band's table is near what fits.
 pub fn call<'a>(
     random: &mut Random,
     operation: Operation,
@@ -109,11 +110,13 @@ pub fn call<'a>(
         let length = random.below(6);
         lent.list = narrow(random, length);
     }
-    Call {
+    let mut call = Call {
         operation,
         input,
         arguments,
         lent,
         values: wide(random, operation.values().len()),
-    }
+    };
+    band::draw(random, &mut call);
+    call
 }

@@ -1,5 +1,6 @@
 //! Compares the library libjoftaki_c.a with the plain lister.
 
+mod band;
 mod call;
 mod causes;
 mod compare;
@@ -25,8 +26,8 @@ const USAGE: &str = "usage:
                              with this seed
   library round SEED         one round alone";
 
-/// What is compared: the tiny plans, some or all of their g and h; then the numbers against each other and the
-/// edges; then so many rounds. The first seed is of all of them.
+/// What is compared: the tiny plans, some or all of their g and h; then the numbers against each other, plans in a
+/// band and the edges; then so many rounds. The first seed is of all of them.
 #[derive(Clone, Copy, Debug)]
 struct Extent {
     /// None where only rounds are compared.
@@ -91,7 +92,7 @@ fn told(comparison: &mut Comparison, extent: Extent) -> ExitCode {
     ExitCode::SUCCESS
 }
 
-/// The tiny plans, the numbers against each other, the edges, then the rounds.
+/// The tiny plans, the numbers against each other, plans in a band, the edges, then the rounds.
 fn run(comparison: &mut Comparison, extent: Extent) -> Result<(), Difference> {
     let Extent { tiny, rounds, seed } = extent;
     let named = |name: String| move |text: Difference| format!("difference in {name}\n{text}");
@@ -99,6 +100,7 @@ fn run(comparison: &mut Comparison, extent: Extent) -> Result<(), Difference> {
         let tiny = tiny::compare(comparison, seed, terms);
         tiny.map_err(named(format!("tiny plans, seed {seed}")))?;
         causes::compare(comparison, seed).map_err(named(format!("causes, seed {seed}")))?;
+        band::compare(comparison, seed).map_err(named(format!("bands, seed {seed}")))?;
         edges::compare(comparison, seed).map_err(named(format!("edges, seed {seed}")))?;
     }
     for round in 0..rounds {

@@ -169,6 +169,10 @@ fn answer(
             *verdict = slot.entries()[0].into();
             number
         }
+        (Operation::TakeIn | Operation::TakeOut, [table], [], []) => {
+            let taking = call.operation.taking(s).expect("a taking");
+            archive::take(taking, input, table.lent())
+        }
         (operation, ..) => panic!("{operation:?} lends other tables"),
     }
 }

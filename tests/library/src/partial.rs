@@ -7,6 +7,7 @@ use lister::plan::MOST_STATIONS;
 use lister::plans::Owned;
 use lister::random::Random;
 
+use crate::band;
 use crate::compare::{Comparison, Difference};
 use crate::lend::{self, Lengths};
 use crate::native::Seen;
@@ -27,7 +28,8 @@ fn sources(random: &mut Random, stations: usize) -> usize {
     }
 }
 
-/// The numbers behind g and h of an operation on a plan of n stations: the stations given, or a number of sources drawn.
+/// The numbers behind n, T, g and h of an operation on a plan of n stations: the stations given, or a number of sources
+/// or channels drawn.
 pub fn arguments(
     random: &mut Random,
     operation: Operation,
@@ -36,6 +38,7 @@ pub fn arguments(
 ) -> [usize; 2] {
     match operation {
         Operation::PartialLoads => [sources(random, stations), 0],
+        Operation::TakeIn => [band::channels(random), 0],
         _ => given,
     }
 }

@@ -10,6 +10,7 @@ use lister::random::Random;
 use lister::traces::random_trace;
 use lister::ways::Way;
 
+use crate::band;
 use crate::call::Call;
 use crate::compare::{Comparison, Difference};
 use crate::lend::{self, Lengths};
@@ -17,9 +18,12 @@ use crate::lists;
 use crate::partial::{arguments, every_number};
 use crate::plans;
 
-/// One round: a plan with g and h, calls of every operation on it, and traces.
+/// One round: a plan with g and h, calls of every operation on it, and traces; in some rounds a run on a band.
 pub fn compare(comparison: &mut Comparison, seed: u64) -> Result<(), Difference> {
     let random = &mut Random::new(seed);
+    if random.below(16) == 0 {
+        band::run_of(comparison, random, 100)?;
+    }
     match random.below(64) {
         0 => {
             let owned = plans::full(random);

@@ -14,6 +14,7 @@ use lister::set_cases::all_sets;
 use lister::sets::set_of;
 use lister::turned::{rows_around, two_links, TURNED_PLANS};
 
+use crate::band;
 use crate::compare::{Comparison, Difference};
 use crate::lend::{self, Lengths};
 use crate::lists;
@@ -326,6 +327,7 @@ fn every_length(comparison: &mut Comparison, random: &mut Random) -> Result<(), 
                     let arguments = arguments(random, operation, owned.stations, [0, 4]);
                     let mut call = lend::call(random, operation, input, arguments, Lengths::Named);
                     call.lent = lend::of_lengths(random, &lengths, owned.stations);
+                    band::draw(random, &mut call);
                     comparison.compare(&call, LISTED)?;
                 }
             }

@@ -36,6 +36,10 @@ pub enum CallFault {
     Sources,
     /// 14: h is below g or above its limit.
     Keeping,
+    /// 15: after a taking in an entry would be above c.
+    Channels,
+    /// 16: after a taking out an entry would be below 0.
+    Untaken,
 }
 
 /// A refusal, of the plan or of the call.
@@ -63,6 +67,8 @@ impl Refusal {
             Refusal::Call(CallFault::Turnaround) => 12,
             Refusal::Call(CallFault::Sources) => 13,
             Refusal::Call(CallFault::Keeping) => 14,
+            Refusal::Call(CallFault::Channels) => 15,
+            Refusal::Call(CallFault::Untaken) => 16,
         }
     }
 }

@@ -1,4 +1,4 @@
-//! The causes of the call from 6 to 9 and from 11 to 14; those of the plan are in `plan`, 10 in `ways`.
+//! The causes of the call from 6 to 9 and from 11 to 16; those of the plan are in `plan`, 10 in `ways`.
 
 use crate::answer::{Answer, CallFault};
 use crate::plan::{Ends, Terms, KEPT, LEAST_TURNAROUND, MOST_TURNAROUND};
@@ -49,6 +49,17 @@ pub fn long_enough(length: usize, named: usize) -> Answer<()> {
 pub fn set_bytes(set: &[u8]) -> Answer<()> {
     let wrong = |byte: &u8| ![0, 1].contains(byte);
     unless(set.iter().any(wrong), CallFault::SetByte)
+}
+
+/// Cause 15: no entry after a taking in is above c. It is looked at after 8.
+pub fn enough_channels(channels: u16, after: &[i64]) -> Answer<()> {
+    let over = |entry: &i64| *entry > i64::from(channels);
+    unless(after.iter().any(over), CallFault::Channels)
+}
+
+/// Cause 16: no entry after a taking out is below 0. It is looked at after 8.
+pub fn none_untaken(after: &[i64]) -> Answer<()> {
+    unless(after.iter().any(|entry| *entry < 0), CallFault::Untaken)
 }
 
 /// Cause 9: none of the counts of a source is over the limit.

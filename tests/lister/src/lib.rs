@@ -14,6 +14,7 @@
 //! | sender, hearer | a, b of a contact (t, a, b), as document 02's C-16 has it |
 //! | turnaround | g, as document 02's C-17 has it |
 //! | keeping | h, as document 02's C-21 has it |
+//! | channels | c, as document 02's C-22 has it |
 //! | walk | chain |
 //! | hops | legs |
 //! | path | way |
@@ -28,6 +29,9 @@
 //! The operations keep document 01's names.
 
 pub mod answer;
+pub mod band;
+pub mod band_cases;
+pub mod band_runs;
 pub mod call_cases;
 pub mod cases;
 pub mod causes;

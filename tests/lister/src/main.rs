@@ -12,8 +12,8 @@ use lister::show::{
     foremost_text, loads_text, pair_text, partial_text, reach_text, set_text, text_of, verdict_text,
 };
 use lister::{
-    cases, foremost_cases, load_cases, pair_cases, partial_cases, program, reach_cases, set_cases,
-    verdict_cases, way_cases,
+    band_cases, cases, foremost_cases, load_cases, pair_cases, partial_cases, program, reach_cases,
+    set_cases, verdict_cases, way_cases,
 };
 
 const USAGE: &str = "usage:
@@ -28,6 +28,7 @@ const USAGE: &str = "usage:
   lister foremost-cases DIR      write DIR/stdin and DIR/stdout, cases of foremost
   lister partial-cases DIR       write DIR/stdin and DIR/stdout, cases of partial loads
   lister verdict-cases DIR       write DIR/stdin and DIR/stdout, cases of the verdict
+  lister band-cases DIR          write DIR/stdin and DIR/stdout, cases of take in and take out
   lister show n T g h s z < plan
       hops, count, through counts and shortest walks of s, z with turnaround g, where a reading is kept for h slots
   lister foremost n T g s z < plan
@@ -61,6 +62,7 @@ fn run(words: &[&str]) -> Result<(), String> {
         ["foremost-cases", directory] => write_files(directory, &foremost_cases::all_cases()),
         ["partial-cases", directory] => write_files(directory, &partial_cases::all_cases()),
         ["verdict-cases", directory] => write_files(directory, &verdict_cases::all_cases()),
+        ["band-cases", directory] => write_files(directory, &band_cases::all_cases()),
         ["show", n, t, g, h, source, destination] => {
             let ends = (decimal(source)?, decimal(destination)?);
             print_for_plan([n, t, g, h], |input| text_of(pair_text(input, ends)))

@@ -1,6 +1,7 @@
 //! The operations as calls on lists of tables: what each lends, names and answers.
 
 use crate::answer::{beside, number, Answer};
+use crate::band::{Taking, BAND_SLOTS};
 use crate::foremost::ForemostValues;
 use crate::lent::{appearances, scratch_length};
 use crate::means::Means;
@@ -27,12 +28,14 @@ pub enum Operation {
     Foremost,
     PartialLoads,
     Verdict,
+    TakeIn,
+    TakeOut,
 }
 
 use Operation::*;
 
 /// All operations.
-pub const OPERATIONS: [Operation; 13] = [
+pub const OPERATIONS: [Operation; 15] = [
     Check,
     Reach,
     Row,
@@ -46,6 +49,8 @@ pub const OPERATIONS: [Operation; 13] = [
     Foremost,
     PartialLoads,
     Verdict,
+    TakeIn,
+    TakeOut,
 ];
 
 /// The C interface's number of first way's answer "none".
@@ -66,6 +71,8 @@ impl Operation {
             NextWay => &[1, 2, 3, 4, 5, 12, 14, 6, 7, 8, 9, 10],
             ThroughSet => &[1, 2, 3, 4, 5, 12, 14, 6, 7, 8, 11, 9],
             PartialLoads => &[1, 2, 3, 4, 5, 12, 14, 13, 8, 9],
+            TakeIn => &[1, 2, 3, 4, 5, 8, 15],
+            TakeOut => &[1, 2, 3, 4, 5, 8, 16],
         }
     }
 
@@ -80,11 +87,12 @@ impl Operation {
         [0].into_iter().chain(refused).chain(further).collect()
     }
 
-    /// How many numbers a call has behind g and h: the stations that it names, or partial loads' k.
+    /// How many numbers a call has behind n, T, g and h: the stations that it names, partial loads' k, or take in's
+    /// c.
     pub fn arguments(self) -> usize {
         match self {
-            Check | Loads | Busiest => 0,
-            Reach | Row | RowNumber | PartialLoads => 1,
+            Check | Loads | Busiest | TakeOut => 0,
+            Reach | Row | RowNumber | PartialLoads | TakeIn => 1,
             Pair | FirstWay | NextWay | ThroughSet | Foremost | Verdict => 2,
         }
     }
@@ -94,6 +102,7 @@ impl Operation {
         match self {
             Reach => vec![appearances(stations, slots), stations],
             FirstWay | NextWay => vec![slots],
+            TakeIn | TakeOut => vec![BAND_SLOTS],
             _ => Vec::new(),
         }
     }
@@ -103,7 +112,7 @@ impl Operation {
         let table = appearances(stations, slots);
         let scratch = scratch_length(stations, slots);
         match self {
-            Check => Vec::new(),
+            Check | TakeIn | TakeOut => Vec::new(),
             Reach => vec![table, stations],
             Row | RowNumber => vec![table],
             Pair | Foremost => vec![stations, scratch],
@@ -130,10 +139,24 @@ impl Operation {
         matches!(self, FirstWay | NextWay)
     }
 
+    /// Whether its 16-bit table is a band's, which it reads.
+    pub fn takes_band(self) -> bool {
+        matches!(self, TakeIn | TakeOut)
+    }
+
+    /// Which taking it is of a plan shared in a band, with c where it takes one.
+    pub fn taking(self, channels: usize) -> Option<Taking> {
+        match self {
+            TakeIn => Some(Taking::In(channels.try_into().expect("c has 16 bits"))),
+            TakeOut => Some(Taking::Out),
+            _ => None,
+        }
+    }
+
     /// The names of the values beside the number.
     pub fn values(self) -> &'static [&'static str] {
         match self {
-            Check | Reach | RowNumber | Loads | PartialLoads => &[],
+            Check | Reach | RowNumber | Loads | PartialLoads | TakeIn | TakeOut => &[],
             Row => &["offset", "length"],
             Pair => &["hops", "count"],
             Busiest => &["station"],
@@ -188,7 +211,7 @@ pub fn way_hops(answer: &Answer<Found>) -> u64 {
 }
 
 impl Means {
-    /// Makes a call on lent tables. The arguments are the one station, source and destination, or k; further
+    /// Makes a call on lent tables. The arguments are the one station, source and destination, k, or c; further
     /// ones are not read.
     pub fn call(
         self,
@@ -263,6 +286,10 @@ impl Means {
             (Verdict, [], [scratch]) => {
                 let answer = self.verdict(input, ends, &lent.list, scratch);
                 Answered::new(&answer, &[verdict_beside(&answer).into()])
+            }
+            (TakeIn | TakeOut, [table], []) => {
+                let taking = operation.taking(station).expect("a taking");
+                Answered::new(&taking.take(input, table), &[])
             }
             (operation, _, _) => panic!("{operation:?} lends other tables"),
         }

@@ -13,9 +13,9 @@ pub const MOST_CONTACTS: usize = 8192;
 pub const LEAST_TURNAROUND: usize = 1;
 /// The largest g.
 pub const MOST_TURNAROUND: usize = 16;
-/// The g of a call of check or row, which take none.
+/// The g of a call of check, row, take in or take out, which take none.
 pub const NO_TURNAROUND: usize = 0;
-/// The h of a case of row, which takes none.
+/// The h of a case of row, take in or take out, which take none.
 pub const NO_KEEPING: usize = 0;
 /// The h of units that keep a reading until the plan ends, since no T is larger; also the largest h.
 pub const KEPT: usize = 255;
@@ -108,8 +108,8 @@ impl Appearance {
 /// The source and the destination of a pair.
 pub type Ends = (usize, usize);
 
-/// A plan as a call names it: its bytes, n, T, g and h, all unchecked. Check and row look at neither g nor h,
-/// and foremost not at h.
+/// A plan as a call names it: its bytes, n, T, g and h, all unchecked. Check, row, take in and take out look at
+/// neither g nor h, and foremost not at h.
 #[derive(Clone, Copy, Debug)]
 pub struct PlanInput<'a> {
     pub bytes: &'a [u8],

@@ -188,10 +188,15 @@ impl Filed for Case {
     }
 }
 
+/// A table of 16-bit entries but those of one value.
+pub fn narrow_text(table: &[u16], left_out: u16) -> String {
+    let entries: Vec<u64> = table.iter().copied().map(u64::from).collect();
+    runs_text(&entries, left_out.into())
+}
+
 /// A table of hops.
 fn hops_text(table: &[u16]) -> String {
-    let entries: Vec<u64> = table.iter().map(|hops| u64::from(*hops)).collect();
-    runs_text(&entries, NO_WALK.into())
+    narrow_text(table, NO_WALK)
 }
 
 /// A table of counts.

@@ -1,6 +1,8 @@
 //! Tests of the lister.
 
 mod asked;
+mod band;
+mod band_cases;
 mod call_files;
 mod cases;
 mod checks;

@@ -42,6 +42,8 @@ fn named_lengths_of_plan_a() {
         (Operation::Foremost, vec![], vec![5, 100], vec![]),
         (Operation::PartialLoads, vec![], vec![5, 5, 100], vec![]),
         (Operation::Verdict, vec![], vec![100], vec![]),
+        (Operation::TakeIn, vec![255], vec![], vec![]),
+        (Operation::TakeOut, vec![255], vec![], vec![]),
     ] {
         assert_eq!(operation.named(), [narrow, wide, sets], "{operation:?}");
     }
@@ -59,6 +61,10 @@ struct Arguments {
     destination: usize,
     /// Partial loads' k.
     sources: usize,
+    /// Take in's c.
+    channels: usize,
+    /// The entry of slot 1 in a band's table.
+    entry: u16,
     limit: u64,
     /// The first byte of a set.
     byte: u8,
@@ -99,6 +105,8 @@ impl Arguments {
             source,
             destination,
             sources: if has(13) { 6 } else { 5 },
+            channels: if has(15) { 1100 } else { 1300 },
+            entry: if has(16) { 3 } else { 4 },
             limit: if has(9) { 2 } else { u64::MAX },
             byte: if has(11) { 2 } else { 1 },
         }
@@ -125,8 +133,15 @@ impl Arguments {
 }
 
 /// Memory with 3 entries past each named part; `short` names a table or set that lacks one entry. A
-/// set begins with the byte given, and has a wrong byte past its named part. A list has the entries offered.
-fn lend(operation: Operation, short: Option<usize>, offered: &[u16], byte: u8) -> Lent {
+/// set begins with the byte of the arguments, and has a wrong byte past its named part; a band's table begins with
+/// their entry. A list has the entries offered.
+fn lend(
+    operation: Operation,
+    short: Option<usize>,
+    offered: &[u16],
+    arguments: &Arguments,
+) -> Lent {
+    let byte = arguments.byte;
     let [narrow, wide, sets] = operation.named();
     let length = |table: usize, named: &usize| match short {
         Some(other) if other == table => named - 1,
@@ -155,6 +170,9 @@ fn lend(operation: Operation, short: Option<usize>, offered: &[u16], byte: u8) -
     if operation.takes_way_buffer() {
         lent.narrow[0][..offered.len()].copy_from_slice(offered);
     }
+    if operation.takes_band() {
+        lent.narrow[0][0] = arguments.entry;
+    }
     lent
 }
 
@@ -162,6 +180,7 @@ fn lend(operation: Operation, short: Option<usize>, offered: &[u16], byte: u8) -
 fn run(operation: Operation, arguments: &Arguments, lent: &mut Lent) -> (u32, bool) {
     let numbers = match (operation, operation.arguments()) {
         (Operation::PartialLoads, _) => [arguments.sources, 0],
+        (Operation::TakeIn, _) => [arguments.channels, 0],
         (_, 1) => [arguments.station(), 0],
         _ => [arguments.source, arguments.destination],
     };
@@ -188,16 +207,17 @@ fn memory_after(operation: Operation, refusal: u32, before: &Lent) -> Lent {
 }
 
 /// The largest number of a cause.
-const MOST: usize = 14;
+const MOST: usize = 16;
 
-/// All sets of the numbers of causes.
-fn sets_of_causes() -> Vec<Vec<u8>> {
-    let set = |bits: u16| {
-        (1..=MOST as u8)
+/// All sets of the numbers of causes; 15 and 16 are of a band's table, which other operations are not lent.
+fn sets_of_causes(operation: Operation) -> impl Iterator<Item = Vec<u8>> {
+    let most = if operation.takes_band() { MOST } else { 14 };
+    let set = move |bits: u32| {
+        (1..=most as u8)
             .filter(|cause| bits >> (cause - 1) & 1 == 1)
             .collect()
     };
-    (0..1 << MOST).map(set).collect()
+    (0..1 << most).map(set)
 }
 
 /// The tables that may be short: each in turn with cause 8, none without.
@@ -213,19 +233,19 @@ fn short_tables(operation: Operation, causes: &[u8]) -> Vec<Option<usize>> {
 #[test]
 fn every_set_of_causes_gives_its_first() {
     let mut calls = [0; MOST + 1];
-    for causes in sets_of_causes() {
-        let arguments = Arguments::with(&causes);
-        let offered = if causes.contains(&10) {
-            [0, 5, 10]
-        } else {
-            [0, 4, 10]
-        };
-        for operation in OPERATIONS {
+    for operation in OPERATIONS {
+        for causes in sets_of_causes(operation) {
+            let arguments = Arguments::with(&causes);
+            let offered = if causes.contains(&10) {
+                [0, 5, 10]
+            } else {
+                [0, 4, 10]
+            };
             let known = operation.causes().iter();
             let holds = |cause: &u32| causes.contains(&(*cause as u8));
             let expected = known.copied().find(holds);
             for short in short_tables(operation, &causes) {
-                let before = lend(operation, short, &offered, arguments.byte);
+                let before = lend(operation, short, &offered, &arguments);
                 let mut after = before.clone();
                 let (number, zeros) = run(operation, &arguments, &mut after);
                 let place = format!("{operation:?} {causes:?} {short:?}");
@@ -246,7 +266,7 @@ fn every_set_of_causes_gives_its_first() {
 fn accepted_calls_leave_unnamed_parts() {
     let arguments = Arguments::with(&[]);
     for operation in OPERATIONS {
-        let before = lend(operation, None, &[0, 4, 10], 1);
+        let before = lend(operation, None, &[0, 4, 10], &arguments);
         let mut after = before.clone();
         assert_eq!(run(operation, &arguments, &mut after).0, 0);
         assert_eq!((&after.sets, &after.list), (&before.sets, &before.list));
@@ -340,8 +360,8 @@ const EDGES: [usize; 19] = [
     usize::MAX,
 ];
 
-/// Every operation on plan A with a turnaround: 12 outside of its limits, and nothing is written then. Check
-/// and row do not look at it.
+/// Every operation on plan A with a turnaround: 12 outside of its limits, and nothing is written then. Check,
+/// row, take in and take out do not look at it.
 #[test]
 fn turnarounds_outside_of_their_limits_are_12() {
     for turnaround in EDGES {
@@ -350,7 +370,7 @@ fn turnarounds_outside_of_their_limits_are_12() {
             ..Arguments::with(&[])
         };
         for operation in OPERATIONS {
-            let before = lend(operation, None, &[0, 4, 10], 1);
+            let before = lend(operation, None, &[0, 4, 10], &arguments);
             let mut after = before.clone();
             let (number, _) = run(operation, &arguments, &mut after);
             let takes = operation.causes().contains(&12);
@@ -362,7 +382,7 @@ fn turnarounds_outside_of_their_limits_are_12() {
 }
 
 /// Every operation on plan A with a turnaround and a keeping: 14 below g and above 255 where g is inside its
-/// limits, and nothing is written then. Check, row and foremost do not look at it.
+/// limits, and nothing is written then. Check, row, foremost, take in and take out do not look at it.
 #[test]
 fn keepings_outside_of_their_limits_are_14() {
     for turnaround in 0..=MOST_TURNAROUND + 1 {
@@ -373,7 +393,7 @@ fn keepings_outside_of_their_limits_are_14() {
                 ..Arguments::with(&[])
             };
             for operation in OPERATIONS {
-                let before = lend(operation, None, &[0, 4, 10], 1);
+                let before = lend(operation, None, &[0, 4, 10], &arguments);
                 let mut after = before.clone();
                 let (number, _) = run(operation, &arguments, &mut after);
                 let takes = operation.causes().contains(&14);
@@ -395,7 +415,7 @@ fn foremost_does_not_look_at_the_keeping() {
             keeping,
             ..Arguments::with(&[])
         };
-        let mut lent = lend(Operation::Foremost, None, &[], 1);
+        let mut lent = lend(Operation::Foremost, None, &[], &arguments);
         (run(Operation::Foremost, &arguments, &mut lent), lent)
     };
     for keeping in EDGES {
@@ -411,7 +431,7 @@ fn sources_above_n_are_13() {
             sources,
             ..Arguments::with(&[])
         };
-        let before = lend(Operation::PartialLoads, None, &[], 1);
+        let before = lend(Operation::PartialLoads, None, &[], &arguments);
         let mut after = before.clone();
         let (number, _) = run(Operation::PartialLoads, &arguments, &mut after);
         assert_eq!(number, if sources > 5 { 13 } else { 0 }, "{sources}");
@@ -433,7 +453,7 @@ fn partial_loads_alone_takes_a_number_of_sources() {
 fn operations_that_take_a_turnaround() {
     use Operation::*;
     for operation in OPERATIONS {
-        let takes = !matches!(operation, Check | Row | RowNumber);
+        let takes = !matches!(operation, Check | Row | RowNumber | TakeIn | TakeOut);
         let causes = operation.causes();
         assert_eq!(causes.contains(&12), takes, "{operation:?}");
         let place = |cause: u32| causes.iter().position(|other| *other == cause);
@@ -447,7 +467,8 @@ fn operations_that_take_a_turnaround() {
 fn operations_that_take_a_keeping() {
     use Operation::*;
     for operation in OPERATIONS {
-        let takes = !matches!(operation, Check | Row | RowNumber | Foremost);
+        let without = matches!(operation, Check | Row | RowNumber | Foremost);
+        let takes = !without && !operation.takes_band();
         let causes = operation.causes();
         assert_eq!(causes.contains(&14), takes, "{operation:?}");
         let place = |cause: u32| causes.iter().position(|other| *other == cause);

@@ -1,15 +1,14 @@
--- `stale::slot_end` meets its contract. The loop's invariant: the records from j to before i are in slot u. The measure is the number of
+-- `plan::slot_end` meets its contract. The loop's invariant: the records from j to before i are in slot u. The measure is the number of
 -- records left.
 -- Assumes nothing.
 use native.Mathlib.Omega.{arith}
 use Prim.Native.Nat.{_-_}
 use mathlib.Core.Path.{sym, _∙_}
 use Rattle.temporal.specs.Bytes.{records}
-use Rattle.plan.proofs.SlotLaws.{in-slot-inv}
-use Rattle.stale.proofs.WindowSteps.{Counting, counting-none, counting-more, counting-all, position-small}
+use Rattle.plan.proofs.SlotLaws.{in-slot-inv, Counting, counting-none, counting-more, counting-all, position-small}
 use borrow.Author.Needs.{needs}
-use Rattle.stale.proofs.slot_end.Statement.{statement}
-use Rattle.stale.proofs.slot_end.Tie as tie
+use Rattle.plan.proofs.slot_end.Statement.{statement}
+use Rattle.plan.proofs.slot_end.Tie as tie
 
 abbrev Inv-loop : tie.InvT-loop
 Inv-loop plan j u i₀ i = Counting plan u j i
@@ -24,7 +23,9 @@ in-slot-requires : tie.Need-in-slot-requires Inv-loop μ-loop
 in-slot-requires c κs = search needs
 
 add-i : tie.Need-add-i Inv-loop μ-loop
-add-i c = let (there, slot) = in-slot-inv _ _ _ (sym (c .before .in-slot .ensures) ∙ c .if1 .taken) in omega (arith, position-small _ _ there, c .before .before .before .before .good .0 .0)
+add-i c =
+    let (there, slot) = in-slot-inv _ _ _ (sym (c .before .in-slot .ensures) ∙ c .if1 .taken) in
+    omega (arith, position-small _ _ there, c .before .before .before .before .good .0 .0)
 
 loop-less : tie.Need-loop-less Inv-loop μ-loop
 loop-less c = let (there, slot) = in-slot-inv _ _ _ (sym (c .before .in-slot .ensures) ∙ c .if1 .taken) in omega arith
