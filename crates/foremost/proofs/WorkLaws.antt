@@ -36,10 +36,8 @@ use Rattle.calls.specs.declared.CallCheck.the-variants as call-check
 use Rattle.pass.specs.Column.{blockColumn}
 use Rattle.pass.specs.declared.Ended.{Ended}
 use Rattle.pass.specs.declared.Ended.the-variants as ended
-use Rattle.pass.specs.PassedColumns.{StationMet, EndedAs, ColumnsPassed, Overfull}
-use Rattle.stale.proofs.DepthLaws.{deep-all}
-use Rattle.forward.specs.Passed.{passSize, UntilReady}
-use Rattle.forward.proofs.SizeLaws.{small-fits}
+use Rattle.pass.specs.PassedColumns.{waiting, areaSize, ColumnsReady, StationMet, EndedAs, ColumnsPassed, Overfull}
+use Rattle.forward.proofs.SizeLaws.{size-kept, small-fits}
 use Rattle.forward.proofs.UseLaws.{whole-appearances}
 use Rattle.pair.specs.Answer.{pairBuffers}
 use Rattle.pair.specs.Throughs.{PairReady, ThroughsReady, Throughs}
@@ -50,24 +48,21 @@ use Rattle.foremost.specs.Work.{metAppearance, AppearancesReady, Appeara
 
 module _ (bs : List ℕ) (n t : ℕ) (terms : Terms) (s : ℕ) (old : List ℕ) (ready : AppearancesReady bs n t terms s old) where
   -- the pass can be made
-  pub appearances-pass : UntilReady bs n t terms (terms .keeping) s n 0 old
+  pub appearances-pass : ColumnsReady bs n t terms s n 0 old
   appearances-pass =
       let inside = ready .source in
-      let turns = ready .units .turns in
-      let keeps = ready .units .keeps in
       record {
         accepted = ready .accepted;
         units = ready .units;
-        deep = deep-all bs n (terms .keeping) (omega arith);
         source = ready .source;
         other = λ q. omega arith;
-        waits = inr refl;
         fits = ready .fits;
       }
 
   -- and says whether an appearance has too many
   pub appearances-met :
-      (new : List ℕ) (r : Bool) (e : Ended) → ColumnsPassed bs n t terms s n (blockColumn 0 0) 0 (passSize n t terms (terms .keeping) 0) old new e → r ≡ metAppearance e →
+      (new : List ℕ) (r : Bool) (e : Ended) →
+      ColumnsPassed bs n t terms s n (blockColumn 0 0) 0 (areaSize n (waiting t terms) 0) old new e → r ≡ metAppearance e →
       Appearances bs n t terms s old new r
   unfolding metAppearance EndedAs
   appearances-met new r e x is =
@@ -86,22 +81,30 @@ module _ (bs : List ℕ) (n t : ℕ) (terms : Terms) (s : ℕ) (old : List ℕ) 
 
 -- ---- the through counts
 
-module _ (bs : List ℕ) (n t : ℕ) (terms : Terms) (s z : ℕ) (table area : List ℕ) (ready : PairReady bs n t terms s z table area) where
-  room : passSize n t terms (terms .keeping) 0 ≤ workSize n t
+-- (kept) the operation takes no h
+module _ (bs : List ℕ) (n t : ℕ) (terms : Terms) (s z : ℕ) (table area : List ℕ) (ready : PairReady bs n t terms s z table area)
+    (keeps : Keeps t terms) where
+  room : areaSize n (waiting t terms) 0 ≤ workSize n t
   room =
       let a = accepted bs n t (ready .accepted) in
-      small-fits n t terms 0 (ready .units) (a .some-station) (a .some-slot) (a .slots) (omega arith)
+      subst (λ k. k ≤ workSize n t) (size-kept n t terms (terms .keeping) 0 keeps)
+      (small-fits n t terms 0 (ready .units) (a .some-station) (a .some-slot) (a .slots) (omega arith))
 
   -- cause 9 can be looked for
   pub whole-area : AppearancesReady bs n t terms s area
   whole-area =
       let fits = room in
       let lent = ready .area in
-      record { accepted = ready .accepted; units = ready .units; source = ready .source; fits = omega arith }
+      record {
+        accepted = ready .accepted;
+        units = record { turns = ready .units .turns; keeps = keeps };
+        source = ready .source;
+        fits = omega arith;
+      }
 
   module _ (mid : List ℕ) (b : Bool) (a : Appearances bs n t terms s area mid b) where
     area-same : drop (workSize n t) mid ≡ drop (workSize n t) area
-    area-same = later-drop (passSize n t terms (terms .keeping) 0) (workSize n t) mid area room (a .beyond)
+    area-same = later-drop (areaSize n (waiting t terms) 0) (workSize n t) mid area room (a .beyond)
 
     -- an appearance with too many
     pub foremosts-over : b ≡ true → Foremosts bs n t terms s z table area table mid 0
@@ -119,9 +122,9 @@ module _ (bs : List ℕ) (n t : ℕ) (terms : Terms) (s z : ℕ) (table area : L
           area-length = a .same-length;
         }
 
-    -- (kept) else the through counts can be counted
-    pub foremosts-ready : Keeps t terms → ThroughsReady bs n t terms s z z table mid
-    foremosts-ready keeps =
+    -- else the through counts can be counted
+    pub foremosts-ready : ThroughsReady bs n t terms s z z table mid
+    foremosts-ready =
         let same = a .same-length in
         let lent = ready .area in
         record {

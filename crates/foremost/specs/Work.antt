@@ -7,7 +7,7 @@ use mathlib.Core.List.{List}
 use mathlib.Core.Logic.{_≢_}
 use lib.Dec.{eqb}
 use lib.ListN.{length, getD, drop}
-use Rattle.temporal.specs.Plan.{Terms, Allowed}
+use Rattle.temporal.specs.Plan.{Terms, Lasting}
 use Rattle.temporal.specs.Bytes.{planOf}
 use Rattle.temporal.specs.Shortest.{hops, count}
 use Rattle.temporal.specs.Foremost.{arrival, foremostPaths}
@@ -16,7 +16,7 @@ use Rattle.temporal.specs.Outcome.{workSize}
 use Rattle.temporal.specs.OutcomeForemost.{foremostThrough}
 use Rattle.pass.specs.declared.Ended.{Ended}
 use Rattle.pass.specs.declared.Ended.the-variants as ended
-use Rattle.forward.specs.Passed.{passSize}
+use Rattle.pass.specs.PassedColumns.{waiting, areaSize}
 
 -- whether a pass met an appearance with over 2^64 - 1 shortest walks
 unfoldable pub metAppearance : Ended → Bool
@@ -24,17 +24,17 @@ metAppearance (ended.Settled e) = false
 metAppearance ended.StationTooMany = false
 metAppearance ended.AppearanceTooMany = true
 
--- an accepted plan, units that no cause refuses, a source and a work area that is long enough
+-- an accepted plan, units in whose slots nothing goes stale, a source and a work area that is long enough
 pub record AppearancesReady (bs : List ℕ) (n t : ℕ) (terms : Terms) (s : ℕ) (work : List ℕ) : Type 0 where
   pub accepted : planFault bs n t ≡ 0
-  pub units : Allowed terms
+  pub units : Lasting t terms
   pub source : s < n
-  pub fits : passSize n t terms (terms .keeping) 0 ≤ length work
+  pub fits : areaSize n (waiting t terms) 0 ≤ length work
 
 -- whether an appearance has over 2^64 - 1 shortest walks from s; nothing past the pass's part of the work area is touched
 pub record Appearances (bs : List ℕ) (n t : ℕ) (terms : Terms) (s : ℕ) (old new : List ℕ) (r : Bool) : Type 0 where
   pub met : r ≡ appearanceTooMany (planOf bs n t terms) s
-  pub beyond : drop (passSize n t terms (terms .keeping) 0) new ≡ drop (passSize n t terms (terms .keeping) 0) old
+  pub beyond : drop (areaSize n (waiting t terms) 0) new ≡ drop (areaSize n (waiting t terms) 0) old
   pub same-length : length new ≡ length old
 
 -- Whether an appearance has over 2^64 - 1 shortest walks from s, where the slot is 0; else the arrival or the last slot, every

@@ -10,6 +10,7 @@ ghost use Rattle.pair.specs.Throughs.{PairReady};
 ghost use Rattle.foremost.specs.Answer.{foremostOutcome};
 ghost use Rattle.foremost.specs.Work.{metAppearance, AppearancesReady, Appearances, Foremosts, slotValue};
 use calls::CallCheck;
+use pass::Columns;
 use pass::Ended;
 use plan::CallFault;
 use plan::CheckAnswer;
@@ -38,7 +39,8 @@ fn met_appearance(ended: Ended) -> bool
     }
 }
 
-// Whether some appearance has over 2^64 - 1 shortest walks from s: a pass through every slot, without rows.
+// Whether some appearance has over 2^64 - 1 shortest walks from s: a pass through every slot, without rows. Nothing goes stale, so it is
+// the pass of the crate pass.
 fn appearance_too_many(
     work: &mut [u64],
     plan: &[u8],
@@ -50,7 +52,19 @@ fn appearance_too_many(
     requires { ⌜ AppearancesReady (now plan) n t (turning g) s (now work) ⌝ }
     ensures { λ r. ⌜ Appearances (now (plan .entry)) n t (turning g) s (now (work .entry)) (now (work .exit)) r ⌝ }
 {
-    let ended = forward::pass_until(work, plan, n, t, g, 255, 255, s, 0, 0, n);
+    let ended = pass::pass_columns(
+        work,
+        plan,
+        n,
+        t,
+        g,
+        255,
+        s,
+        Columns::From(0),
+        &plan[0..0],
+        0,
+        n,
+    );
     met_appearance(ended)
 }
 

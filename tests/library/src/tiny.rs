@@ -32,7 +32,7 @@ pub fn compare(comparison: &mut Comparison, seed: u64, terms: Terms) -> Result<(
                 every_argument(comparison, random, &turned)?;
             }
         }
-        for owned in terms.of(plans) {
+        for owned in Terms::Every.of(plans) {
             every_argument(comparison, random, &owned)?;
         }
     }
