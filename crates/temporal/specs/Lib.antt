@@ -11,6 +11,7 @@ pub mod Bytes
 pub mod Cause
 pub mod Outcome
 pub mod OutcomePair
+pub mod Drawing
 pub mod OutcomeSet
 pub mod OutcomeForemost
 pub mod Cursor
