@@ -2,8 +2,9 @@
  * Plan A of document 01, doubled, through the C interface: check, reach from 0, the row of station 3, the pairs 0 to 4 and 0
  * to 3 with their ways one by one, 0 to 3 again where stations need two slots between hearing and sending on, and where they drop
  * a reading one slot after hearing it, how many ways of 0 to 4 stations 2 and 3 touch together, verdicts on lists of these ways,
- * the earliest ways of 0 to 3, the loads source by source and as a whole, and the busiest station. With 4 slots and a reading
- * kept for 3 or more, least chains are least ways. The callers lend all memory; the example stops at a refusal.
+ * the earliest ways of 0 to 3, the loads source by source and as a whole, the busiest station, and what the loss of a contact does
+ * to the loads. With 4 slots and a reading kept for 3 or more, least chains are least ways. The callers lend all memory; the
+ * example stops at a refusal.
  */
 #include <inttypes.h>
 #include <stdio.h>
@@ -234,6 +235,21 @@ static void print_busiest(uint64_t *work)
     printf("busiest %zu\n", station);
 }
 
+/* Struck out: how many pairs use the contact at a position, and each station's change of load without it. */
+static void print_struck_out(size_t position, uint64_t *work)
+{
+    uint64_t pairs;
+    int64_t changes[STATIONS];
+    size_t v;
+
+    accept_or_stop(joftaki_struck_out(plan, sizeof plan, STATIONS, SLOTS, ONE_SLOT, KEPT, position, &pairs,
+                                      changes, STATIONS, work, JOFTAKI_WORK_LENGTH(STATIONS, SLOTS)));
+    printf("position %zu pairs %" PRIu64 "\nchanges", position, pairs);
+    for (v = 0; v < STATIONS; v++)
+        printf(" %" PRId64, changes[v]);
+    printf("\n");
+}
+
 int main(void)
 {
     uint64_t work[JOFTAKI_WORK_LENGTH(STATIONS, SLOTS)];
@@ -256,5 +272,7 @@ int main(void)
     print_partial_loads(work);
     print_loads(work);
     print_busiest(work);
+    print_struck_out(5, work);
+    print_struck_out(10, work);
     return 0;
 }

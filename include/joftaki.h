@@ -21,17 +21,17 @@
  * kept, g to 255 (C-21); what a station hears in slot u goes out in the slots from u + g to u + h. With g = 1 the slots of a chain
  * rise strictly. With h = 255 every reading is kept until the plan ends, whatever t is. Both may be above t. The calls of one
  * listing have one g and one h. foremost takes no h: its stations keep every reading. s, z, v: stations. k: how many stations
- * partial_loads takes as sources, 0 to n: those below k. c: the channels of a band, 0 to 65,535 (C-22); only take_in has it. Every
- * function but row and row_number reads the plan anew. None trusts an earlier table; take_in and take_out go on from the use that
- * theirs holds, whatever it is.
+ * partial_loads takes as sources, 0 to n: those below k. position: that of a record; only struck_out has it. c: the channels of a
+ * band, 0 to 65,535 (C-22); only take_in has it. Every function but row and row_number reads the plan anew. None trusts an earlier
+ * table; take_in and take_out go on from the use that theirs holds, whatever it is.
  *
  * Answers. Every function gives a number: 0 where the call is accepted, else the number of the papers' first cause that
- * holds, in their order: 1, 2, then 3, 4, 5 record by record, then 12, 14, 13, 6, 7, 8, then 11, 15 or 16, then 9, 10. First way
- * and next way have two more numbers, JOFTAKI_NONE and JOFTAKI_LAST, which are acceptances. A slot (arrival, hops, count, station,
- * verdict, offset, length) is always written: its value on acceptance; 0 on every refusal, and 0 beside JOFTAKI_NONE and
+ * holds, in their order: 1, 2, then 3, 4, 5 record by record, then 12, 14, 13, 6, 7, 8, then 11, 15, 16 or 17, then 9, 10. First
+ * way and next way have two more numbers, JOFTAKI_NONE and JOFTAKI_LAST, which are acceptances. A slot (arrival, hops, count, pairs,
+ * station, verdict, offset, length) is always written: its value on acceptance; 0 on every refusal, and 0 beside JOFTAKI_NONE and
  * JOFTAKI_LAST.
  *
- * Lent memory. Tables, buffers, sets, lists and work areas may hold anything at entry. Numbers 1 to 8 and 11 to 16 leave all of them
+ * Lent memory. Tables, buffers, sets, lists and work areas may hold anything at entry. Numbers 1 to 8 and 11 to 17 leave all of them
  * as they were. 9 sets the named parts of the tables and of the work area to 0 and leaves the way buffer. 10 sets the named
  * part of the work area to 0 and leaves the way buffer. Every acceptance leaves the named part of the work area 0. The named
  * part is the length said at each prototype, whatever g and h are; entries past it are never touched, and longer is always fine.
@@ -68,7 +68,7 @@
 extern "C" {
 #endif
 
-/* The numbers. 17 is kept for a later cause; no function gives it. */
+/* The numbers. */
 #define JOFTAKI_ACCEPTED 0u
 /* A fault of the plan. */
 #define JOFTAKI_LIMITS 1u /* n or t outside its limits */
@@ -89,6 +89,7 @@ extern "C" {
 #define JOFTAKI_KEEPING 14u           /* h is below g or above 255; looked at before 13 */
 #define JOFTAKI_CHANNELS 15u          /* take_in: one of the 255 entries would be above c */
 #define JOFTAKI_UNTAKEN 16u           /* take_out: one of the 255 entries would be below 0 */
+#define JOFTAKI_POSITION 17u          /* struck_out: the position is not below the number of records */
 /* First way and next way: acceptances that give no chain. */
 #define JOFTAKI_NONE 100u /* the pair has no chain */
 #define JOFTAKI_LAST 101u /* there is no least chain after the one in the buffer */
@@ -277,6 +278,35 @@ uint32_t joftaki_partial_loads(const uint8_t *plan, size_t plan_length, size_t n
                                uint64_t *pairs, size_t pairs_length,
                                uint64_t *loads, size_t loads_length,
                                uint64_t *work, size_t work_length);
+
+/*
+ * Struck out (document 02, C-23): what the loss of one contact does to the loads. position is that of a record. In changes, at place v,
+ * the change of the load of station v: its load in the plan without the record less its load in the plan with it, negative where it
+ * falls. In *pairs the number of ordered pairs of two different stations that in the plan with the record have a least chain that uses
+ * the contact. n and t stay the same without the record; later records move down by one position.
+ *
+ * No change is larger than *pairs * 2^32, up or down. A pair uses the contact exactly if without it the pair has more legs, or none, or
+ * fewer least chains. The pair of the record's own stations always does, by a chain of this one leg, so that on acceptance *pairs is at
+ * least 1 (tested, not among the theorems). Each change is what loads gives for the bytes without the record's six less what it gives for
+ * all of them, where loads accepts both:
+ *
+ *     number = joftaki_struck_out(plan, plan_length, n, t, g, h, position, &pairs, changes, n, work, work_length);
+ *     if (number == JOFTAKI_ACCEPTED)
+ *         for (v = 0; v < n; v++)
+ *             show(v, changes[v]);              in units of 1 / 2^32, with its sign
+ *
+ * Lend: changes n entries, work JOFTAKI_WORK_LENGTH(n, t) entries.
+ * Gives 0, or the first of 1, 2, 3, 4, 5, 12, 14, 8, 17, 9. 9 comes where a source has too many in the plan with the record or in the plan
+ * without it: without a short contact the least chains may be longer and more. 9 sets the named parts of changes and work to 0.
+ * Proved: the number, the slot, and every entry of changes and work at exit. The bound, when a pair uses the contact, and the changes by
+ * loads are theorems (crates/demands/specs/Struck.antt).
+ * Not covered: each pointer is valid for its length, aligned and not null, also where its length is 0; pairs is valid, aligned and not
+ * null; the slot, changes, work and the plan do not overlap.
+ */
+uint32_t joftaki_struck_out(const uint8_t *plan, size_t plan_length, size_t n, size_t t, size_t g, size_t h, size_t position,
+                            uint64_t *pairs,
+                            int64_t *changes, size_t changes_length,
+                            uint64_t *work, size_t work_length);
 
 /*
  * Operation 6, busiest: in *station the station with the largest load, the lowest-numbered of them where several have it.

@@ -23,6 +23,7 @@
 static uint8_t plan[T * JOFTAKI_RECORD_BYTES], set[N];
 static uint16_t hops_table[TABLE], near_hops[N], way[T], list[T], band[JOFTAKI_BAND_LENGTH];
 static uint64_t counts[TABLE], near_counts[N], through[N], pairs[N], loads[N], work[WORK], count;
+static int64_t changes[N];
 static size_t keeping, offset, length, arrival, hops, station;
 static uint32_t verdict;
 
@@ -77,6 +78,15 @@ static uint32_t run_take_in(void)
 }
 static uint32_t run_take_out(void) { return joftaki_take_out(plan, sizeof plan, N, T, band, JOFTAKI_BAND_LENGTH); }
 
+/* On the first three slots too, where the tallies of both plans do not fit in the work area. */
+static uint32_t run_struck_out(void)
+{
+    uint32_t few = joftaki_struck_out(plan, 3 * JOFTAKI_RECORD_BYTES, N, 3, 1, keeping, 1, &count, changes, N, work,
+                                      JOFTAKI_WORK_LENGTH(N, 3));
+    uint32_t many = joftaki_struck_out(plan, sizeof plan, N, T, 1, keeping, 127, &count, changes, N, work, WORK);
+    return few ? few : many;
+}
+
 static const struct {
     const char *name;
     uint32_t (*run)(void);
@@ -89,7 +99,7 @@ static const struct {
     {"joftaki_next_way", run_next_way, JOFTAKI_LAST}, {"joftaki_through_set", run_through_set, 0},
     {"joftaki_foremost", run_foremost, 0},   {"joftaki_partial_loads", run_partial_loads, 0},
     {"joftaki_verdict", run_verdict, 0},    {"joftaki_take_in", run_take_in, 0},
-    {"joftaki_take_out", run_take_out, 0},
+    {"joftaki_take_out", run_take_out, 0},   {"joftaki_struck_out", run_struck_out, 0},
 };
 
 static unsigned char stack[STACK];

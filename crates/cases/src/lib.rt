@@ -40,6 +40,20 @@ fn long(buf: &[u8], k: usize) -> usize {
     word(buf, k) * 65536 + word(buf, k + 2)
 }
 
+// The 64-bit number whose first byte stands at k, high byte first; 0 where it does not lie within the buffer.
+pub fn whole(buf: &[u8], k: usize) -> usize {
+    let n = buf.len();
+    if n < 8 {
+        return 0;
+    }
+    if n - 8 < k {
+        return 0;
+    }
+    let high = word(buf, k) * 65536 + word(buf, k + 2);
+    let low = word(buf, k + 4) * 65536 + word(buf, k + 6);
+    high * 4294967296 + low
+}
+
 // The smaller of two numbers.
 pub fn least(a: usize, b: usize) -> usize
     ensures { λ r. ⌜ (r ≤ a) × (r ≤ b) ⌝ }
@@ -96,6 +110,16 @@ pub fn write_number(x: u64) {
     io::print_decimal(STDOUT_FILENO, x);
 }
 
+// Writes a space and a number in decimal, with a minus sign where it is below 0.
+pub fn write_signed(x: i64) {
+    if 0 <= x {
+        write_number(x as u64);
+        return;
+    }
+    io::write_all(STDOUT_FILENO, b" -");
+    io::print_decimal(STDOUT_FILENO, (-(x + 1)) as u64 + 1);
+}
+
 // Writes the end of a line.
 pub fn end_line() {
     io::write_all(STDOUT_FILENO, b"\n");
@@ -126,17 +150,22 @@ fn run_end64(table: &[u64], from: usize) -> usize
     end
 }
 
-// Writes the run of x from one entry to another, " i: x" or " i .. j: x", unless x is the value left out.
-pub fn write_run(from: usize, last: usize, x: u64, out: u64) {
-    if x == out {
-        return;
-    }
+// Writes the entries of a run from one to another, " i:" or " i .. j:".
+pub fn write_entries(from: usize, last: usize) {
     write_number(from as u64);
     if from < last {
         write_part(b" ..", 3);
         write_number(last as u64);
     }
     write_part(b":", 1);
+}
+
+// Writes the run of x from one entry to another, " i: x" or " i .. j: x", unless x is the value left out.
+pub fn write_run(from: usize, last: usize, x: u64, out: u64) {
+    if x == out {
+        return;
+    }
+    write_entries(from, last);
     write_number(x);
 }
 

@@ -16,13 +16,6 @@ fn write_answer(answer: LoadsAnswer) {
     }
 }
 
-// The number of sources.
-fn sources(head: &[u8]) -> usize {
-    let high = cases::word(head, 8) * 65536 + cases::word(head, 10);
-    let low = cases::word(head, 12) * 65536 + cases::word(head, 14);
-    high * 4294967296 + low
-}
-
 // Calls the operation with the numbers of the head on the lent parts.
 fn call(
     head: &[u8],
@@ -35,7 +28,7 @@ fn call(
     let t = cases::word(head, 2);
     let g = cases::word(head, 4);
     let h = cases::word(head, 6);
-    let k = sources(head);
+    let k = cases::whole(head, 8);
     loads::partial_loads(plan, n, t, g, h, k, pairs, sums, work)
 }
 

@@ -17,6 +17,8 @@ use Rattle.temporal.specs.OutcomePair.{PairBuffers, paired, pair, LoadBuffers, 
 use Rattle.temporal.specs.OutcomeSet.{setCounted, throughSet}
 use Rattle.temporal.specs.OutcomeForemost.{foremostPaired, foremost}
 use Rattle.temporal.specs.OutcomeVerdict.{judged, verdict}
+use Rattle.temporal.specs.Struck.{struckOut}
+use Rattle.temporal.specs.OutcomeStruck.{StruckBuffers, eitherTooMany, struckOff, struck}
 use Rattle.temporal.specs.Band.{takeIn, takeOut}
 use Rattle.temporal.proofs.NumberLaws.{none-has, cause-has, append-has, plan-has, ends-has, turning-other}
 use Rattle.plan.specs.Fault.{checkNumber}
@@ -38,6 +40,8 @@ use Rattle.demands.specs.Causes.{
   throughSetCauses,
   foremostCauses,
   verdictCauses,
+  struckCauses,
+  struckEmptied,
   takeInCauses,
   takeOutCauses,
   firstWayCauses,
@@ -52,6 +56,7 @@ use Rattle.demands.proofs.JudgedLaws.{
   plain-pair,
   plain-sources,
   plain-short,
+  plain-position,
   plain-set,
   plain-band,
   judged-entered,
@@ -139,6 +144,15 @@ loads-judged bs n t terms old =
     judged-without tt old (loadsEmptied n t old) (planCauses bs n t) (termsCauses terms) _ 13 (wrongSources n n) _ (le-ltb n n (omega arith))
     (partial-loads-judged bs n t terms n old)
 
+struck-judged : (bs : List ℕ) (n t : ℕ) (terms : Terms) (i : ℕ) (old : StruckBuffers)
+    → Judged (struckCauses bs n t terms i old) 0 old (struckEmptied n t old) (struck bs n t terms i old)
+unfolding struck struckOff struckCauses struckEmptied planOf struckOut termsCauses
+struck-judged bs n t terms i old =
+    subst (λ l. Judged l 0 old (struckEmptied n t old) (struck bs n t terms i old))
+    (append-assoc (planCauses bs n t) (_ ∷ _ ∷ _ ∷ _ ∷ []) (_ ∷ []))
+    (judged-entered 0 old (struckEmptied n t old) _ _ _ (plain-position bs n t terms _ _)
+    (judged-work 0 old (struckEmptied n t old) (eitherTooMany (planOf bs n t terms) i) _ refl))
+
 busiest-judged : (bs : List ℕ) (n t : ℕ) (terms : Terms) (old : List ℕ)
     → Judged (busiestCauses bs n t terms old) 0 old (cleared (workSize n t) old) (busiest bs n t terms old)
 unfolding busiest compared busiestCauses planOf termsCauses
@@ -210,6 +224,8 @@ demand1 =
           (partial-loads-judged bs n t terms k old);
       of-busiest = λ bs n t terms old x r e.
           subst (Judged (busiestCauses bs n t terms old) 0 old (cleared (workSize n t) old)) (sym e) (busiest-judged bs n t terms old);
+      of-struck = λ bs n t terms i old x r e.
+          subst (Judged (struckCauses bs n t terms i old) 0 old (struckEmptied n t old)) (sym e) (struck-judged bs n t terms i old);
       of-set = λ bs n t terms s z set old x r e.
           subst (Judged (throughSetCauses bs n t terms s z set old) 0 old (cleared (workSize n t) old)) (sym e)
           (set-judged bs n t terms s z set old);

@@ -113,6 +113,11 @@ module _ (bs : List ℕ) (n t : ℕ) (terms : Terms) (lacking : Bool) where
   pub plain-short : Plain (planCauses bs n t ++ (termsCauses terms ++ cause 8 lacking ∷ []))
   plain-short = plain-call _ (plain-cause 8 _ [] (omega arith) (omega arith) plain-none)
 
+  -- and with 17
+  pub plain-position : (b : Bool) → Plain (planCauses bs n t ++ (termsCauses terms ++ cause 8 lacking ∷ cause 17 b ∷ []))
+  plain-position b =
+      plain-call _ (plain-cause 8 _ _ (omega arith) (omega arith) (plain-cause 17 b [] (omega arith) (omega arith) plain-none))
+
 -- and with those of a call that names a pair and a set
 pub plain-set : (bs : List ℕ) (n t : ℕ) (terms : Terms) (s z : ℕ) (set old : List ℕ)
     → Plain (planCauses bs n t ++ setCauses n t terms s z set old)

@@ -31,3 +31,5 @@ pub mod Partial
 pub mod Verdicts
 -- C-22: plans that share a band
 pub mod Band
+-- C-23: a contact struck out
+pub mod Struck

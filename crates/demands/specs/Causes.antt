@@ -1,18 +1,20 @@
--- For each operation the one list of all its causes of refusal, in document 01's order with document 02's 11 to 16; a cause that does not
+-- For each operation the one list of all its causes of refusal, in document 01's order with document 02's 11 to 17; a cause that does not
 -- hold stands in it as 0. (Check's list is planCauses.) Beside it, what 9 and 10 leave in the lent buffers. Definitions only.
 -- Assumes nothing.
 use Prim.Native.Nat.{ℕ}
 use mathlib.Core.Bool.{Bool, not, _||_}
 use mathlib.Core.List.{List, [], _∷_, _++_}
-use lib.ListN.{length, take}
+use lib.IntN.{pos}
+use lib.ListN.{length, take, replicate}
 use Rattle.temporal.specs.Plan.{Terms}
 use Rattle.temporal.specs.Lists.{any}
 use Rattle.temporal.specs.Bytes.{planOf}
 use Rattle.temporal.specs.Cause.{cause, outside, termsCauses, wrongSources, planCauses, pairCauses, stationCauses}
 use Rattle.temporal.specs.Cause.{appearanceTooMany, tooMany, tooManyBelow, tooManyAnywhere}
-use Rattle.temporal.specs.Outcome.{cleared, short, places, workSize, ReachTables}
+use Rattle.temporal.specs.Outcome.{over, cleared, short, places, workSize, ReachTables}
 use Rattle.temporal.specs.OutcomePair.{PairBuffers, LoadBuffers}
 use Rattle.temporal.specs.OutcomeSet.{setCauses}
+use Rattle.temporal.specs.OutcomeStruck.{StruckBuffers, eitherTooMany, wrongPosition}
 use Rattle.temporal.specs.Band.{bandSlots, overBand, underBand}
 use Rattle.temporal.specs.Cursor.{sameNumbers}
 use Rattle.temporal.specs.FirstNext.{Question, listOf, wayCauses, overflow}
@@ -110,6 +112,20 @@ foremostCauses bs n t terms s z old =
 unfoldable pub verdictCauses : List ℕ → ℕ → ℕ → Terms → ℕ → ℕ → List ℕ → List ℕ
 verdictCauses bs n t terms s z old =
     planCauses bs n t ++ pairCauses terms n s z (short (workSize n t) old) ++ cause 9 (tooMany (planOf bs n t terms) s) ∷ []
+
+-- ---- A contact struck out (document 02, C-23): 1 to 5, 12, 14, 8, 17, then 9 of the plan with the record and of the plan without it
+
+unfoldable pub struckCauses : List ℕ → ℕ → ℕ → Terms → ℕ → StruckBuffers → List ℕ
+struckCauses bs n t terms i old =
+    planCauses bs n t ++
+    (termsCauses terms ++
+    cause 8 (short n (old .changeTable) || short (workSize n t) (old .work)) ∷
+    cause 17 (wrongPosition bs i) ∷ cause 9 (eitherTooMany (planOf bs n t terms) i) ∷ [])
+
+-- the named parts of the changes and of the work area become 0
+unfoldable pub struckEmptied : ℕ → ℕ → StruckBuffers → StruckBuffers
+struckEmptied n t old =
+    record { changeTable = over (replicate n (pos 0)) (old .changeTable); work = cleared (workSize n t) (old .work) }
 
 -- ---- Taking a plan in and taking it out (document 02, C-22): 1 to 5, 8, then 15 of the one and 16 of the other; neither 9 nor 10
 

@@ -15,6 +15,7 @@ use Rattle.temporal.specs.OutcomePair.{PairBuffers, pair, LoadBuffers, partialL
 use Rattle.temporal.specs.OutcomeSet.{throughSet}
 use Rattle.temporal.specs.OutcomeForemost.{foremost}
 use Rattle.temporal.specs.OutcomeVerdict.{verdict}
+use Rattle.temporal.specs.OutcomeStruck.{StruckBuffers, struck}
 use Rattle.temporal.specs.Band.{takeIn, takeOut}
 use Rattle.temporal.specs.Cursor.{Reply, path, no-path, last-path, refused, first-way, next-way}
 use Rattle.temporal.specs.FirstNext.{WayContract}
@@ -35,6 +36,8 @@ use Rattle.foremost.specs.Answer.{foremostOutcome}
 use Rattle.foremost.specs.declared.ForemostAnswer.{ForemostAnswer}
 use Rattle.verdicts.specs.Answer.{verdictOutcome}
 use Rattle.verdicts.specs.declared.VerdictAnswer.{VerdictAnswer}
+use Rattle.struck.specs.Answer.{struckOutcome}
+use Rattle.struck.specs.declared.StruckAnswer.{StruckAnswer}
 use Rattle.band.specs.Answer.{bandOutcome}
 use Rattle.band.specs.declared.BandAnswer.{BandAnswer}
 use Rattle.listing.specs.Answer.{replyOf, question}
@@ -53,6 +56,8 @@ use Rattle.demands.specs.Causes.{
   throughSetCauses,
   foremostCauses,
   verdictCauses,
+  struckCauses,
+  struckEmptied,
   takeInCauses,
   takeOutCauses,
   WayBuffers,
@@ -129,6 +134,9 @@ pub record Demand1 : Type 0 where
       → Judged (partialLoadsCauses bs n t terms k old) tt old (loadsEmptied n t old) (loadsOutcome r x)
   pub of-busiest : (bs : List ℕ) (n t : ℕ) (terms : Terms) (old x : List ℕ) (r : BusiestAnswer) → busiestOutcome r x ≡ busiest bs n t terms old
       → Judged (busiestCauses bs n t terms old) 0 old (cleared (workSize n t) old) (busiestOutcome r x)
+  pub of-struck : (bs : List ℕ) (n t : ℕ) (terms : Terms) (i : ℕ) (old x : StruckBuffers) (r : StruckAnswer)
+      → struckOutcome r x ≡ struck bs n t terms i old
+      → Judged (struckCauses bs n t terms i old) 0 old (struckEmptied n t old) (struckOutcome r x)
   pub of-set : (bs : List ℕ) (n t : ℕ) (terms : Terms) (s z : ℕ) (set old x : List ℕ) (r : SetAnswer) → setOutcome r x ≡ throughSet bs n t terms s z set old
       → Judged (throughSetCauses bs n t terms s z set old) 0 old (cleared (workSize n t) old) (setOutcome r x)
   pub of-foremost : (bs : List ℕ) (n t : ℕ) (terms : Terms) (s z : ℕ) (old x : PairBuffers) (r : ForemostAnswer)

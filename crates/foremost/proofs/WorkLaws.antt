@@ -19,7 +19,9 @@ use Rattle.temporal.specs.Cause.{planFault, appearanceTooMany}
 use Rattle.temporal.specs.Outcome.{Outcome, over, cleared, workSize}
 use Rattle.temporal.specs.OutcomePair.{PairBuffers}
 use Rattle.temporal.specs.OutcomeForemost.{ForemostValues, foremostThrough, foremostPaired, foremost}
+use Rattle.temporal.specs.Struck.{lackingRecord}
 use Rattle.temporal.proofs.Accepted.{accepted}
+use Rattle.temporal.proofs.LackingLaws.{lacking-nothing}
 use Rattle.temporal.proofs.BufferLaws.{over-by, fill-beyond, getD-made, length-made, later-drop}
 use Rattle.temporal.proofs.ForemostLaws.{Arrival, never, arrives, arrival-or-never, foremost-by-arrival, foremost-none, foremost-few}
 use Rattle.temporal.proofs.ListLaws.{not-both}
@@ -48,16 +50,17 @@ use Rattle.foremost.specs.Work.{metAppearance, AppearancesReady, Appeara
 
 module _ (bs : List ℕ) (n t : ℕ) (terms : Terms) (s : ℕ) (old : List ℕ) (ready : AppearancesReady bs n t terms s old) where
   -- the pass can be made
-  pub appearances-pass : ColumnsReady bs n t terms s n 0 old
+  pub appearances-pass : ColumnsReady (lackingRecord bs (length bs)) n t terms s n 0 old
   appearances-pass =
       let inside = ready .source in
-      record {
+      subst (λ l. ColumnsReady l n t terms s n 0 old) (sym (lacking-nothing bs))
+      (record {
         accepted = ready .accepted;
         units = ready .units;
         source = ready .source;
         other = λ q. omega arith;
         fits = ready .fits;
-      }
+      })
 
   -- and says whether an appearance has too many
   pub appearances-met :

@@ -55,6 +55,7 @@ fn appearance_too_many(
     let ended = pass::pass_columns(
         work,
         plan,
+        plan.len(),
         n,
         t,
         g,

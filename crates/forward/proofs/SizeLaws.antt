@@ -6,7 +6,7 @@ use native.Mathlib.Nat.{mul-le-mul-left, mul-le-mul-right, mul-assoc, mul-comm, 
 use mathlib.Core.Path.{_≡_, refl, sym, ap, subst, _∙_}
 use mathlib.Core.Logic.{by-cases, inl, inr, _⊎_}
 use borrow.Author.Tests.{le-leb, lt-leb}
-use Rattle.temporal.specs.Plan.{Terms, Keeps, Allowed}
+use Rattle.temporal.specs.Plan.{Terms, units, Keeps, Allowed}
 use Rattle.temporal.specs.Outcome.{workSize}
 use Rattle.pass.specs.Row.{partSize}
 use Rattle.pass.specs.PassedColumns.{waiting, areaSize}
@@ -152,3 +152,20 @@ pub small-fits : (n t : ℕ) (terms : Terms) (block : ℕ) → Allowed terms →
 small-fits n t terms block units some slot most few =
     let column = some-column n t terms (terms .keeping) (4 * (t + 1)) (whole-lent n t terms (terms .keeping) units slot most (omega arith)) some in
     area-fits n t terms (terms .keeping) units slot most (omega arith) block (omega arith)
+
+-- ---- as code finds the size
+
+module _ (n t g h d block : ℕ) where
+  pub kept-number : (q : ℕ) → h ≤ 255 → t ≤ h + 1 → passSize n t (units g h) d block < 18446744073709551616 → q ≡ min g t →
+      (q ≤ 256) × (areaSize n q block < 18446744073709551616)
+  kept-number q few keeps small is =
+      (omega arith, rw is (subst (λ k. k < 18446744073709551616) (size-kept n t (units g h) d block keeps) small))
+
+  pub kept-size-is : (q r : ℕ) → t ≤ h + 1 → q ≡ min g t → r ≡ areaSize n q block → r ≡ passSize n t (units g h) d block
+  kept-size-is q r keeps is found = found ∙ ap (λ k. areaSize n k block) is ∙ sym (size-kept n t (units g h) d block keeps)
+
+  pub window-number : h + 1 < t → passSize n t (units g h) d block < 18446744073709551616 → windowSize n d block < 18446744073709551616
+  window-number over small = subst (λ k. k < 18446744073709551616) (size-window n t (units g h) d block over) small
+
+  pub window-size-is : (r : ℕ) → h + 1 < t → r ≡ windowSize n d block → r ≡ passSize n t (units g h) d block
+  window-size-is r over found = found ∙ sym (size-window n t (units g h) d block over)

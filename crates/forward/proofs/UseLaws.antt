@@ -9,7 +9,7 @@ use mathlib.Core.List.{List}
 use mathlib.Core.Logic.{_⊎_, inl, inr, ⊎-elim, by-cases, _≢_}
 use borrow.Author.Tests.{lt-ltb, le-ltb, ltb-false, eq-eqb, ne-eqb}
 use lib.Dec.{eqb}
-use lib.ListN.{getD}
+use lib.ListN.{length, getD}
 use Rattle.temporal.specs.Plan.{Terms, Keeps}
 use Rattle.temporal.specs.Lists.{below}
 use Rattle.temporal.specs.Bytes.{planOf}
@@ -17,7 +17,9 @@ use Rattle.temporal.specs.Cause.{planFault, appearanceTooMany, stationTooMany, 
 use Rattle.temporal.specs.Shortest.{shortestWalksTo, hops, count, throughIn, through}
 use Rattle.temporal.specs.Set.{touchedIn, touched}
 use Rattle.temporal.specs.Foremost.{arrival, walksBy}
+use Rattle.temporal.specs.Struck.{lackingRecord}
 use Rattle.temporal.proofs.Accepted.{accepted}
+use Rattle.temporal.proofs.LackingLaws.{lacking-nothing}
 use Rattle.temporal.proofs.ListLaws.{any-false, mem-below}
 use Rattle.temporal.proofs.SetLaws.{touched-one-in}
 use Rattle.temporal.proofs.PlanLaws.{slots-within}
@@ -345,3 +347,24 @@ module _ (bs : List ℕ) (n t : ℕ) (terms : Terms) (d s until block : ℕ) (ol
       window-passed col new r x =
           subst (λ u. ColumnsPassed bs n t terms s u col block (passSize n t terms d block) old new r) (sym none-waited)
           (subst (λ k. ColumnsPassed bs n t terms s n col block k old new r) (sym (size-window n t terms d block stale)) x)
+
+-- ---- the whole plan lacks no record
+
+module _ (bs : List ℕ) (n t : ℕ) (terms : Terms) (d s : ℕ) where
+  pub until-whole : (until block : ℕ) (work : List ℕ) → UntilReady bs n t terms d s until block work →
+      UntilReady (lackingRecord bs (length bs)) n t terms d s until block work
+  until-whole until block work ready = subst (λ l. UntilReady l n t terms d s until block work) (sym (lacking-nothing bs)) ready
+
+  pub pass-whole : (low block : ℕ) (work : List ℕ) → PassReady bs n t terms d s low block work →
+      PassReady (lackingRecord bs (length bs)) n t terms d s low block work
+  pass-whole low block work ready = subst (λ l. PassReady l n t terms d s low block work) (sym (lacking-nothing bs)) ready
+
+  pub passed-whole : (low block : ℕ) (old new : List ℕ) (r : Bool) → Passed (lackingRecord bs (length bs)) n t terms d s low block old new r →
+      Passed bs n t terms d s low block old new r
+  passed-whole low block old new r x = subst (λ l. Passed l n t terms d s low block old new r) (lacking-nothing bs) x
+
+pub columns-whole : (bs : List ℕ) (n t : ℕ) (terms : Terms) (s until : ℕ) (col : ℕ → ℕ) (block size : ℕ) (old new : List ℕ) (r : Ended) →
+    ColumnsPassed (lackingRecord bs (length bs)) n t terms s until col block size old new r →
+    ColumnsPassed bs n t terms s until col block size old new r
+columns-whole bs n t terms s until col block size old new r x =
+    subst (λ l. ColumnsPassed l n t terms s until col block size old new r) (lacking-nothing bs) x

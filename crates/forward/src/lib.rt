@@ -3,9 +3,11 @@
 ghost use mathlib.Core.Path.{_≡_};
 ghost use Prim.Native.Nat.{_+_, _*_, _<_, _≤_};
 ghost use Rattle.temporal.specs.Plan.{units};
+ghost use Rattle.temporal.specs.Struck.{lackingRecord};
 ghost use Rattle.pass.specs.Column.{blockColumn, columnOf};
-ghost use Rattle.pass.specs.PassedColumns.{ColumnsPassed, overOf, slotOf};
+ghost use Rattle.pass.specs.PassedColumns.{areaSize, ColumnsPassed, overOf, slotOf};
 ghost use Rattle.stale.specs.Depth.{DepthOf};
+ghost use Rattle.stale.specs.Size.{windowSize};
 ghost use Rattle.forward.specs.Passed.{
   passSize,
   keptColumns,
@@ -40,6 +42,14 @@ fn kept_columns(n: usize, e: usize, q: usize) -> usize
     pass::smaller(n, e / (1 + q) - 2)
 }
 
+// How many entries it uses then, with blocks of so many columns.
+fn kept_size(n: usize, q: usize, block: usize) -> usize
+    requires { ⌜ (q ≤ 256) × (areaSize n q block < 18446744073709551616) ⌝ }
+    ensures { λ r. ⌜ r ≡ areaSize n q block ⌝ }
+{
+    (1 + q) * (2 * n + n * block)
+}
+
 // The most columns of a row for which the pass fits e entries a station.
 pub fn most_columns(n: usize, t: usize, g: usize, h: usize, depth: usize, e: usize) -> usize
     requires { ⌜ Lent t (units g h) depth e ⌝ }
@@ -52,10 +62,32 @@ pub fn most_columns(n: usize, t: usize, g: usize, h: usize, depth: usize, e: usi
     stale::window_columns(n, e, depth)
 }
 
-// The pass for any columns, to the slot in which the station until is reached.
+// How many entries it uses where readings go stale.
+fn window_size(n: usize, depth: usize, block: usize) -> usize
+    requires { ⌜ (depth ≤ 255) × (windowSize n depth block < 18446744073709551616) ⌝ }
+    ensures { λ r. ⌜ r ≡ windowSize n depth block ⌝ }
+{
+    (3 + depth) * (2 * n + n * block) + (depth + 1) * n
+}
+
+// How many entries of the work area the pass uses, with blocks of so many columns.
+pub fn pass_size(n: usize, t: usize, g: usize, h: usize, depth: usize, block: usize) -> usize
+    requires { ⌜ (h ≤ 255) × ((depth ≤ 255) × (passSize n t (units g h) depth block < 18446744073709551616)) ⌝ }
+    ensures { λ r. ⌜ r ≡ passSize n t (units g h) depth block ⌝ }
+{
+    if t <= h + 1 {
+        let q = pass::smaller(g, t);
+        return kept_size(n, q, block);
+    }
+    window_size(n, depth, block)
+}
+
+// The pass for any columns, to the slot in which the station until is reached. The record at position out is left out; where there is
+// none, the plan is whole.
 fn pass_slots(
     work: &mut [u64],
     plan: &[u8],
+    out: usize,
     n: usize,
     t: usize,
     g: usize,
@@ -67,14 +99,41 @@ fn pass_slots(
     block: usize,
     until: usize,
 ) -> Ended
-    requires { ⌜ UntilReady (now plan) n t (units g h) depth source until block (now work) ⌝ }
-    ensures { λ r. ⌜ ColumnsPassed (now (plan .entry)) n t (units g h) source until (columnOf columns (now (set .entry)) block) block
+    requires { ⌜ UntilReady (lackingRecord (now plan) out) n t (units g h) depth source until block (now work) ⌝ }
+    ensures { λ r. ⌜ ColumnsPassed (lackingRecord (now (plan .entry)) out) n t (units g h) source until
+        (columnOf columns (now (set .entry)) block) block
         (passSize n t (units g h) depth block) (now (work .entry)) (now (work .exit)) r ⌝ }
 {
     if t <= h + 1 {
-        return pass::pass_columns(work, plan, n, t, g, h, source, columns, set, block, until);
+        return pass::pass_columns(
+            work,
+            plan,
+            out,
+            n,
+            t,
+            g,
+            h,
+            source,
+            columns,
+            set,
+            block,
+            until,
+        );
     }
-    stale::pass_window(work, plan, n, t, g, h, depth, source, columns, set, block)
+    stale::pass_window(
+        work,
+        plan,
+        out,
+        n,
+        t,
+        g,
+        h,
+        depth,
+        source,
+        columns,
+        set,
+        block,
+    )
 }
 
 // The pass for a block of stations, to the slot in which the station until is reached: column j of a row is about station
@@ -99,6 +158,7 @@ pub fn pass_until(
     pass_slots(
         work,
         plan,
+        plan.len(),
         n,
         t,
         g,
@@ -146,7 +206,44 @@ pub fn settled_slot(ended: Ended) -> usize
     }
 }
 
-// The pass for a block of stations through every slot. True where an appearance or a station has a count over 2^64 - 1.
+// The pass for a block of stations through every slot, without the record at position out; where there is none, the plan is whole. True
+// where an appearance or a station has a count over 2^64 - 1.
+pub fn pass_without(
+    work: &mut [u64],
+    plan: &[u8],
+    out: usize,
+    n: usize,
+    t: usize,
+    g: usize,
+    h: usize,
+    depth: usize,
+    source: usize,
+    low: usize,
+    block: usize,
+) -> bool
+    requires { ⌜ PassReady (lackingRecord (now plan) out) n t (units g h) depth source low block (now work) ⌝ }
+    ensures { λ r. ⌜ Passed (lackingRecord (now (plan .entry)) out) n t (units g h) depth source low block
+        (now (work .entry)) (now (work .exit)) r ⌝ }
+{
+    let ended = pass_slots(
+        work,
+        plan,
+        out,
+        n,
+        t,
+        g,
+        h,
+        depth,
+        source,
+        Columns::From(low),
+        &plan[0..0],
+        block,
+        n,
+    );
+    over(ended)
+}
+
+// The same for the whole plan.
 pub fn pass(
     work: &mut [u64],
     plan: &[u8],
@@ -162,8 +259,19 @@ pub fn pass(
     requires { ⌜ PassReady (now plan) n t (units g h) depth source low block (now work) ⌝ }
     ensures { λ r. ⌜ Passed (now (plan .entry)) n t (units g h) depth source low block (now (work .entry)) (now (work .exit)) r ⌝ }
 {
-    let ended = pass_until(work, plan, n, t, g, h, depth, source, low, block, n);
-    over(ended)
+    pass_without(
+        work,
+        plan,
+        plan.len(),
+        n,
+        t,
+        g,
+        h,
+        depth,
+        source,
+        low,
+        block,
+    )
 }
 
 // The pass for a set of stations, one column for all members; the destination is never inside.
@@ -185,6 +293,7 @@ pub fn set_pass(
     let ended = pass_slots(
         work,
         plan,
+        plan.len(),
         n,
         t,
         g,

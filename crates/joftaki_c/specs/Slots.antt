@@ -1,4 +1,5 @@
--- What the lent slots of reach, row, pair, loads, busiest, through_set, foremost and verdict hold at exit, beside the number given.
+-- What the lent slots of reach, row, pair, loads, busiest, struck_out, through_set, foremost and verdict hold at exit, beside the number
+-- given.
 -- Definitions only.
 -- Assumes nothing.
 use Prim.Native.Nat.{ℕ, _+_, _*_}
@@ -10,6 +11,7 @@ use Rattle.temporal.specs.Cause.{unless}
 use Rattle.temporal.specs.Outcome.{Outcome, rowNumber, row}
 use Rattle.temporal.specs.OutcomePair.{PairValues, PairBuffers}
 use Rattle.temporal.specs.OutcomeForemost.{ForemostValues}
+use Rattle.temporal.specs.OutcomeStruck.{StruckBuffers}
 use Rattle.temporal.specs.Verdict.{Verdict, complete, beginning, wrong}
 
 -- a number with the lent buffers at exit
@@ -30,6 +32,10 @@ pub record RowGiven (n t v : ℕ) (table : List ℕ) (r offset size : ℕ) : Typ
 -- a number with busiest's slot and the work area at exit
 abbrev pub busiestGiven : ℕ → ℕ → List ℕ → Outcome ℕ (List ℕ)
 busiestGiven r station work = record { number = r; values = station; buffers = work }
+
+-- a number with struck_out's slot and its lent buffers at exit
+abbrev pub struckGiven : ℕ → ℕ → StruckBuffers → Outcome ℕ StruckBuffers
+struckGiven r pairs b = record { number = r; values = pairs; buffers = b }
 
 -- a number with through_set's slot and the work area at exit
 abbrev pub setGiven : ℕ → ℕ → List ℕ → Outcome ℕ (List ℕ)

@@ -8,6 +8,7 @@ ghost use Rattle.temporal.specs.Outcome.{reach, rowNumber};
 ghost use Rattle.temporal.specs.OutcomePair.{pair, partialLoads, loads, busiest};
 ghost use Rattle.temporal.specs.OutcomeSet.{throughSet};
 ghost use Rattle.temporal.specs.OutcomeForemost.{foremost};
+ghost use Rattle.temporal.specs.OutcomeStruck.{struck};
 ghost use Rattle.temporal.specs.OutcomeVerdict.{verdict};
 ghost use Rattle.temporal.specs.Band.{takeIn, takeOut};
 ghost use Rattle.temporal.specs.Cursor.{first-way, next-way};
@@ -16,6 +17,7 @@ ghost use Rattle.plan.specs.Fault.{faultNumber};
 ghost use Rattle.reach.specs.Pass.{lentTables};
 ghost use Rattle.pair.specs.Answer.{pairBuffers};
 ghost use Rattle.loads.specs.Answer.{loadsNumber, loadBuffers};
+ghost use Rattle.struck.specs.Answer.{struckBuffers};
 ghost use Rattle.band.specs.Answer.{bandNumber};
 ghost use Rattle.judging.specs.Judge.{verdictOf};
 ghost use Rattle.listing.specs.Answer.{replyOf, question};
@@ -25,6 +27,7 @@ ghost use Rattle.joftaki_c.specs.Slots.{
   RowGiven,
   busiestGiven,
   setGiven,
+  struckGiven,
   foremostGiven,
   verdictCode,
   verdictTold,
@@ -41,6 +44,7 @@ use pair::PairAnswer;
 use plan::Fault;
 use reach::ReachAnswer;
 use sets::SetAnswer;
+use struck::StruckAnswer;
 use verdicts::VerdictAnswer;
 
 // The papers' number of a fault, in 32 bits.
@@ -225,6 +229,35 @@ pub extern "C" fn joftaki_busiest(
         }
         BusiestAnswer::Refused(fault) => {
             *station = 0;
+            fault_code(fault)
+        }
+    }
+}
+
+// Document 02's operation on a contact that is struck out: its number, the number of pairs in a slot, 0 on refusal, and the lent table and
+// work area as the operation leaves them.
+#[no_mangle]
+pub extern "C" fn joftaki_struck_out(
+    plan: &[u8],
+    n: usize,
+    t: usize,
+    g: usize,
+    h: usize,
+    position: usize,
+    pairs: &mut u64,
+    changes: &mut [i64],
+    work: &mut [u64],
+) -> u32
+    ensures { λ r. ⌜ struckGiven r (now (pairs .exit)) (struckBuffers (now (changes .exit)) (now (work .exit))) ≡
+        struck (now (plan .entry)) n t (units g h) position (struckBuffers (now (changes .entry)) (now (work .entry))) ⌝ }
+{
+    match struck::struck_out(plan, n, t, g, h, position, changes, work) {
+        StruckAnswer::Pairs(k) => {
+            *pairs = k;
+            0
+        }
+        StruckAnswer::Refused(fault) => {
+            *pairs = 0;
             fault_code(fault)
         }
     }

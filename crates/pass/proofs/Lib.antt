@@ -1,5 +1,5 @@
 -- what the inner functions leave: rows, entries, places of the work area
-mod RowLaws
+pub mod RowLaws
 mod EntryLaws
 pub mod PlaceLaws
 -- an entry against sequences of numbers of walks, columns, every place after a change, and the state of the work area

@@ -8,6 +8,7 @@ ghost use lib.ListN.{length};
 ghost use Rattle.temporal.specs.Lists.{any, below};
 ghost use Rattle.temporal.specs.Plan.{units};
 ghost use Rattle.temporal.specs.Bytes.{contactAt};
+ghost use Rattle.temporal.specs.Struck.{lackingRecord};
 ghost use Rattle.pass.specs.Row.{combined, second, wrapped, mergedRow, partSize, rowAt, partAt, RowsFit};
 ghost use Rattle.pass.specs.Entry.{mergedArea, absorbed, areaOverflows, reachedEntry, Absorbable};
 ghost use Rattle.pass.specs.Sweep.{
@@ -52,7 +53,7 @@ pub fn smaller(a: usize, b: usize) -> usize
 }
 
 // Copies a row to another.
-fn copy_row(work: &mut [u64], to: usize, from: usize, size: usize)
+pub fn copy_row(work: &mut [u64], to: usize, from: usize, size: usize)
     requires { ⌜ RowsFit (now work) to from size ⌝ }
     ensures { λ _. ⌜ now (work .exit) ≡ combined second (now (work .entry)) to from size ⌝ }
 {
@@ -152,12 +153,21 @@ fn send(work: &mut [u64], n: usize, block: usize, base: usize, v: usize, x: usiz
     }
 }
 
-// Folds the record at j in.
-fn fold_record(work: &mut [u64], plan: &[u8], n: usize, block: usize, base: usize, j: usize)
-    requires { ⌜ FoldableArea (now plan) n block base j (now work) ⌝ }
-    ensures { λ _. ⌜ now (work .exit) ≡ foldedArea n block base (now (work .entry)) (contactAt (now (plan .entry)) j) ⌝ }
+// Folds the record at j in, of the plan without the record at position out.
+fn fold_record(
+    work: &mut [u64],
+    plan: &[u8],
+    out: usize,
+    n: usize,
+    block: usize,
+    base: usize,
+    j: usize,
+)
+    requires { ⌜ FoldableArea (lackingRecord (now plan) out) n block base j (now work) ⌝ }
+    ensures { λ _. ⌜ now (work .exit) ≡
+        foldedArea n block base (now (work .entry)) (contactAt (lackingRecord (now (plan .entry)) out) j) ⌝ }
 {
-    let c = plan::contact_at(plan, j);
+    let c = plan::kept_contact(plan, out, j);
     send(work, n, block, base, c.sender, c.hearer);
 }
 
@@ -350,10 +360,11 @@ pub fn end_pass(work: &[u64], n: usize, t: usize, until: usize) -> Ended
 
 // The pass: the records slot by slot, until the station until is reached or the last slot is settled. What is heard in a slot
 // waits in its part and is settled, q slots later, before that part is used again; past the last slot the parts are settled one by
-// one.
+// one. The record at position out is left out; where there is none, the plan is whole.
 pub fn pass_columns(
     work: &mut [u64],
     plan: &[u8],
+    out: usize,
     n: usize,
     t: usize,
     g: usize,
@@ -364,9 +375,9 @@ pub fn pass_columns(
     block: usize,
     until: usize,
 ) -> Ended
-    requires { ⌜ ColumnsReady (now plan) n t (units g h) source until block (now work) ⌝ }
-    ensures { λ r. ⌜ ColumnsPassed (now (plan .entry)) n t (units g h) source until (columnOf columns (now (set .entry)) block) block
-        (areaSize n (waiting t (units g h)) block)
+    requires { ⌜ ColumnsReady (lackingRecord (now plan) out) n t (units g h) source until block (now work) ⌝ }
+    ensures { λ r. ⌜ ColumnsPassed (lackingRecord (now (plan .entry)) out) n t (units g h) source until
+        (columnOf columns (now (set .entry)) block) block (areaSize n (waiting t (units g h)) block)
         (now (work .entry)) (now (work .exit)) r ⌝ }
 {
     let q = smaller(g, t);
@@ -375,8 +386,8 @@ pub fn pass_columns(
     let mut u = 1;
     let mut j = 0;
     while u < t + q {
-        if plan::in_slot(plan, j, u) {
-            fold_record(work, plan, n, block, base, j);
+        if plan::kept_in_slot(plan, out, j, u) {
+            fold_record(work, plan, out, n, block, base, j);
             j += 1;
             continue;
         }

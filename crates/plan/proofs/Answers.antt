@@ -46,6 +46,7 @@ call-number-within call-fault.Sources = (omega arith, omega arith)
 call-number-within call-fault.Keeping = (omega arith, omega arith)
 call-number-within call-fault.Channels = (omega arith, omega arith)
 call-number-within call-fault.Untaken = (omega arith, omega arith)
+call-number-within call-fault.Position = (omega arith, omega arith)
 
 pub fault-number-within : (f : Fault) → (0 < faultNumber f) × (faultNumber f ≤ 17)
 fault-number-within (fault.Plan f) = (number-positive f, omega (arith, plan-number-small f))

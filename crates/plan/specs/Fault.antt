@@ -18,7 +18,7 @@ planNumber plan-fault.Slot = 3
 planNumber plan-fault.Ends = 4
 planNumber plan-fault.Order = 5
 
--- causes 6 to 10, and 11 to 16 of document 02
+-- causes 6 to 10, and 11 to 17 of document 02
 abbrev pub callNumber : CallFault → ℕ
 callNumber call-fault.Station = 6
 callNumber call-fault.SameStation = 7
@@ -31,6 +31,7 @@ callNumber call-fault.Sources = 13
 callNumber call-fault.Keeping = 14
 callNumber call-fault.Channels = 15
 callNumber call-fault.Untaken = 16
+callNumber call-fault.Position = 17
 
 abbrev pub faultNumber : Fault → ℕ
 faultNumber (fault.Plan f) = planNumber f

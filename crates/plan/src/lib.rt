@@ -5,6 +5,7 @@ ghost use Prim.Native.Nat.{_+_, _*_, _<_, _≤_};
 ghost use lib.ListN.{length};
 ghost use Rattle.temporal.specs.Plan.{windowFirst, windowEnd};
 ghost use Rattle.temporal.specs.Bytes.{wordAt, contactAt};
+ghost use Rattle.temporal.specs.Struck.{lackingRecord, positionWith};
 ghost use Rattle.temporal.specs.Cause.{first, isAbove, recordCauses, planFault};
 ghost use Rattle.plan.specs.Fault.{planNumber, callNumber, faultNumber, checkNumber};
 ghost use Rattle.plan.specs.Record.{contactOf, inSlot, SlotRecords};
@@ -31,6 +32,7 @@ pub enum CallFault {
     Keeping,
     Channels,
     Untaken,
+    Position,
 }
 
 // Why an operation refuses.
@@ -74,6 +76,7 @@ pub fn call_number(fault: CallFault) -> usize
         CallFault::Keeping => 14,
         CallFault::Channels => 15,
         CallFault::Untaken => 16,
+        CallFault::Position => 17,
     }
 }
 
@@ -144,16 +147,54 @@ pub fn in_slot(plan: &[u8], j: usize, u: usize) -> bool
     }
 }
 
-// The position past the records of slot u that stand from j on. It is no operation either.
+// The next four functions read a plan without the record at position out, as if its bytes lacked those six; where there is no such record,
+// the whole plan. They are no operations either. First: the position, in the whole plan, of the record that has position j without it.
+fn position_with(out: usize, j: usize) -> usize
+    requires { ⌜ j < 18446744073709551615 ⌝ }
+    ensures { λ r. ⌜ r ≡ positionWith out j ⌝ }
+{
+    if j < out {
+        return j;
+    }
+    j + 1
+}
+
+// The record at position j.
+pub fn kept_contact(plan: &[u8], out: usize, j: usize) -> Contact
+    requires { ⌜ j * 6 + 5 < length (lackingRecord (now plan) out) ⌝ }
+    ensures { λ r. ⌜ contactOf r ≡ contactAt (lackingRecord (now (plan .entry)) out) j ⌝ }
+{
+    contact_at(plan, position_with(out, j))
+}
+
+// Whether there is a record at position j and it lies in slot u.
+pub fn kept_in_slot(plan: &[u8], out: usize, j: usize, u: usize) -> bool
+    ensures { λ r. ⌜ r ≡ inSlot (lackingRecord (now (plan .entry)) out) j u ⌝ }
+{
+    if j < plan.len() {
+        return in_slot(plan, position_with(out, j), u);
+    }
+    false
+}
+
+// The position past the records of slot u that stand from j on.
+pub fn kept_slot_end(plan: &[u8], out: usize, j: usize, u: usize) -> usize
+    requires { ⌜ j * 6 ≤ length (lackingRecord (now plan) out) ⌝ }
+    ensures { λ r. ⌜ SlotRecords (lackingRecord (now (plan .entry)) out) u j r ⌝ }
+{
+    let mut i = j;
+    while kept_in_slot(plan, out, i, u) {
+        i += 1;
+    }
+    i
+}
+
+// The same of the whole plan.
 pub fn slot_end(plan: &[u8], j: usize, u: usize) -> usize
     requires { ⌜ j * 6 ≤ length (now plan) ⌝ }
     ensures { λ r. ⌜ SlotRecords (now (plan .entry)) u j r ⌝ }
 {
-    let mut i = j;
-    while in_slot(plan, i, u) {
-        i += 1;
-    }
-    i
+    kept_slot_end(plan, plan.len(), j, u)
 }
 
 // Whether d is above c, compared by slot, then sender, then hearer.

@@ -30,7 +30,7 @@ module _ (bs : List ℕ) (v : ℕ) where
   unfolding heardBefore below from select
   heard-none = refl
 
-  heard-suc : (j : ℕ) → heardBefore bs v (j + 1) ≡ heardBefore bs v j + cond (eqb (contactAt bs j .hearer) v) 1 0
+  pub heard-suc : (j : ℕ) → heardBefore bs v (j + 1) ≡ heardBefore bs v j + cond (eqb (contactAt bs j .hearer) v) 1 0
   unfolding heardBefore
   heard-suc j =
       rw add-one (length-select (λ i. eqb (contactAt bs i .hearer) v) (below (suc j))

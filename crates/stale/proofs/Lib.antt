@@ -1,6 +1,8 @@
 -- the depth of the rings, and how many columns fit
 pub mod DepthLaws
 pub mod SizeLaws
+-- and without one of the records
+pub mod LackingDepth
 -- sums over cells that name numbers
 mod SpreadLaws
 -- where the parts, the slots of the cells and the counters lie

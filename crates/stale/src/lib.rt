@@ -7,6 +7,7 @@ ghost use Prim.Native.Nat.{ℕ, _+_, _-_, _*_, _%_, _^_, _<_, _≤_};
 ghost use lib.ListN.{length, getD, set};
 ghost use Rattle.temporal.specs.Plan.{units};
 ghost use Rattle.temporal.specs.Bytes.{contactAt, records};
+ghost use Rattle.temporal.specs.Struck.{lackingRecord};
 ghost use Rattle.pass.specs.Row.{partSize};
 ghost use Rattle.pass.specs.Sweep.{sweepOf};
 ghost use Rattle.pass.specs.Column.{columnOf};
@@ -220,6 +221,7 @@ fn gather_window(
 fn gather_next(
     work: &mut [u64],
     plan: &[u8],
+    out: usize,
     n: usize,
     block: usize,
     g: usize,
@@ -232,12 +234,12 @@ fn gather_next(
     last: usize,
     j: usize,
 ) -> usize
-    requires { ⌜ WindowArea n block depth (now work) × (0 < g) × (j * 6 + 5 < length (now plan)) × (contactAt (now plan) j .sender < n) ⌝ }
-    ensures { λ r. ⌜ (r ≡ contactAt (now (plan .entry)) j .sender) × (now (work .exit) ≡
+    requires { ⌜ WindowArea n block depth (now work) × (0 < g) × (j * 6 + 5 < length (lackingRecord (now plan) out)) × (contactAt (lackingRecord (now plan) out) j .sender < n) ⌝ }
+    ensures { λ r. ⌜ (r ≡ contactAt (lackingRecord (now (plan .entry)) out) j .sender) × (now (work .exit) ≡
         windowNext n block depth (units g h) source (columnOf columns (now (set .entry)) block) (now (work .entry)) last
-        (contactAt (now (plan .entry)) j .sender) u) ⌝ }
+        (contactAt (lackingRecord (now (plan .entry)) out) j .sender) u) ⌝ }
 {
-    let c = plan::contact_at(plan, j);
+    let c = plan::kept_contact(plan, out, j);
     let v = c.sender;
     if v == last {
         return v;
@@ -250,6 +252,7 @@ fn gather_next(
 fn gather_records(
     work: &mut [u64],
     plan: &[u8],
+    out: usize,
     n: usize,
     block: usize,
     g: usize,
@@ -262,9 +265,9 @@ fn gather_records(
     j: usize,
     end: usize,
 )
-    requires { ⌜ WindowArea n block depth (now work) × (0 < g) × RecordsFit (now plan) n j end ⌝ }
+    requires { ⌜ WindowArea n block depth (now work) × (0 < g) × RecordsFit (lackingRecord (now plan) out) n j end ⌝ }
     ensures { λ _. ⌜ now (work .exit) ≡
-        windowsOf (now (plan .entry)) n block depth (units g h) source (columnOf columns (now (set .entry)) block) (now (work .entry)) u n j
+        windowsOf (lackingRecord (now (plan .entry)) out) n block depth (units g h) source (columnOf columns (now (set .entry)) block) (now (work .entry)) u n j
         (end - j) ⌝ }
 {
     let mut last = n;
@@ -273,6 +276,7 @@ fn gather_records(
         last = gather_next(
             work,
             plan,
+            out,
             n,
             block,
             g,
@@ -293,18 +297,19 @@ fn gather_records(
 fn send_record(
     work: &mut [u64],
     plan: &[u8],
+    out: usize,
     n: usize,
     block: usize,
     from: usize,
     to: usize,
     j: usize,
 )
-    requires { ⌜ TwoParts n block to from (now work) × (j * 6 + 5 < length (now plan)) × (contactAt (now plan) j .sender < n) ×
-        (contactAt (now plan) j .hearer < n) ⌝ }
-    ensures { λ _. ⌜ now (work .exit) ≡ takenCell n block (now (work .entry)) to (contactAt (now (plan .entry)) j .hearer) from
-        (contactAt (now (plan .entry)) j .sender) 1 ⌝ }
+    requires { ⌜ TwoParts n block to from (now work) × (j * 6 + 5 < length (lackingRecord (now plan) out)) × (contactAt (lackingRecord (now plan) out) j .sender < n) ×
+        (contactAt (lackingRecord (now plan) out) j .hearer < n) ⌝ }
+    ensures { λ _. ⌜ now (work .exit) ≡ takenCell n block (now (work .entry)) to (contactAt (lackingRecord (now (plan .entry)) out) j .hearer) from
+        (contactAt (lackingRecord (now (plan .entry)) out) j .sender) 1 ⌝ }
 {
-    let c = plan::contact_at(plan, j);
+    let c = plan::kept_contact(plan, out, j);
     take(work, n, block, to, c.hearer, from, c.sender, 1);
 }
 
@@ -312,6 +317,7 @@ fn send_record(
 fn send_records(
     work: &mut [u64],
     plan: &[u8],
+    out: usize,
     n: usize,
     block: usize,
     from: usize,
@@ -319,12 +325,12 @@ fn send_records(
     j: usize,
     end: usize,
 )
-    requires { ⌜ TwoParts n block to from (now work) × RecordsFit (now plan) n j end ⌝ }
-    ensures { λ _. ⌜ now (work .exit) ≡ sentRecords (now (plan .entry)) n block from to (now (work .entry)) j (end - j) ⌝ }
+    requires { ⌜ TwoParts n block to from (now work) × RecordsFit (lackingRecord (now plan) out) n j end ⌝ }
+    ensures { λ _. ⌜ now (work .exit) ≡ sentRecords (lackingRecord (now (plan .entry)) out) n block from to (now (work .entry)) j (end - j) ⌝ }
 {
     let mut i = j;
     while i < end {
-        send_record(work, plan, n, block, from, to, i);
+        send_record(work, plan, out, n, block, from, to, i);
         i += 1;
     }
 }
@@ -390,6 +396,7 @@ fn keep_all(work: &mut [u64], n: usize, block: usize, depth: usize, u: usize) ->
 fn window_slot(
     work: &mut [u64],
     plan: &[u8],
+    out: usize,
     n: usize,
     block: usize,
     g: usize,
@@ -402,14 +409,15 @@ fn window_slot(
     j: usize,
     end: usize,
 ) -> bool
-    requires { ⌜ WindowArea n block depth (now work) × (0 < g) × RecordsFit (now plan) n j end ⌝ }
+    requires { ⌜ WindowArea n block depth (now work) × (0 < g) × RecordsFit (lackingRecord (now plan) out) n j end ⌝ }
     ensures { λ r. ⌜ sweepOf r (now (work .exit)) ≡
-        windowSlot (now (plan .entry)) n block depth (units g h) source (columnOf columns (now (set .entry)) block) (now (work .entry)) u j
+        windowSlot (lackingRecord (now (plan .entry)) out) n block depth (units g h) source (columnOf columns (now (set .entry)) block) (now (work .entry)) u j
         end ⌝ }
 {
     gather_records(
         work,
         plan,
+        out,
         n,
         block,
         g,
@@ -425,7 +433,7 @@ fn window_slot(
     let size = part_size(n, block);
     pass::empty_part(work, n, size);
     let base = ring_at(n, block, depth, depth);
-    send_records(work, plan, n, block, base, size, j, end);
+    send_records(work, plan, out, n, block, base, size, j, end);
     keep_all(work, n, block, depth, u)
 }
 
@@ -439,10 +447,12 @@ fn begin_window(work: &mut [u64], n: usize, block: usize, depth: usize, source: 
     memory::fill_part(work, counters, n, 0);
 }
 
-// The pass: slot by slot, what each sender may send on is gathered from what is kept.
+// The pass: slot by slot, what each sender may send on is gathered from what is kept. The record at position out is left out; where there is
+// none, the plan is whole.
 pub fn pass_window(
     work: &mut [u64],
     plan: &[u8],
+    out: usize,
     n: usize,
     t: usize,
     g: usize,
@@ -453,18 +463,19 @@ pub fn pass_window(
     set: &[u8],
     block: usize,
 ) -> Ended
-    requires { ⌜ WindowReady (now plan) n t (units g h) depth source block (now work) ⌝ }
-    ensures { λ r. ⌜ ColumnsPassed (now (plan .entry)) n t (units g h) source n (columnOf columns (now (set .entry)) block) block
+    requires { ⌜ WindowReady (lackingRecord (now plan) out) n t (units g h) depth source block (now work) ⌝ }
+    ensures { λ r. ⌜ ColumnsPassed (lackingRecord (now (plan .entry)) out) n t (units g h) source n (columnOf columns (now (set .entry)) block) block
         (windowSize n depth block) (now (work .entry)) (now (work .exit)) r ⌝ }
 {
     begin_window(work, n, block, depth, source);
     let mut j = 0;
     let mut u = 1;
     while u <= t {
-        let end = plan::slot_end(plan, j, u);
+        let end = plan::kept_slot_end(plan, out, j, u);
         if window_slot(
             work,
             plan,
+            out,
             n,
             block,
             g,

@@ -15,7 +15,7 @@ use Rattle.temporal.specs.Bytes.{planOf}
 use Rattle.temporal.specs.Cause.{tooMany}
 use Rattle.temporal.proofs.Accepted.{accepted}
 use Rattle.temporal.proofs.BufferLaws.{later-drop}
-use Rattle.forward.specs.Passed.{passSize, PassReady, Passed}
+use Rattle.forward.specs.Passed.{passSize, PassReady, Counted, Passed}
 use Rattle.forward.proofs.SizeLaws.{size-less}
 use Rattle.tallies.specs.Progress.{pairTerm, loadTerm, TallyEntry, State, Kept, Working, Workable, DestinationsAdded}
 use Rattle.tallies.specs.Sources.{BlockReady, BlockDone, SourceReady, SourceDone}
@@ -23,7 +23,7 @@ use Rattle.tallies.proofs.TermLaws.{partly-source}
 use Rattle.tallies.proofs.StateLaws.{kept-over, kept-same, working-again}
 
 -- lists that agree from a on agree at every later place
-later-same : (a i : ℕ) (x y : List ℕ) → a ≤ i → drop a x ≡ drop a y → getD x i 0 ≡ getD y i 0
+pub later-same : (a i : ℕ) (x y : List ℕ) → a ≤ i → drop a x ≡ drop a y → getD x i 0 ≡ getD y i 0
 later-same a i x y h e =
     let place : i ≡ a + (i - a) = omega arith in
     rw place (sym (getD-drop a x (i - a) 0) ∙ ap (λ l. getD l (i - a) 0) e ∙ getD-drop a y (i - a) 0)
@@ -58,6 +58,12 @@ module _ (p : Plan) (n base s low : ℕ) where
         later = λ v g l. f .later v (omega arith) l;
       }
 
+-- hops and counts do not depend on the block
+any-block : (bs : List ℕ) (n t : ℕ) (terms : Terms) (s low block : ℕ) (w : List ℕ) → Counted bs n t terms s low block w →
+    Counted bs n t terms s 0 0 w
+any-block bs n t terms s low block w c =
+    record { station-hops = c .station-hops; station-counts = c .station-counts; rows = λ z j q i. absurd (omega arith) }
+
 module _ (bs : List ℕ) (n t : ℕ) (terms : Terms) (d base s low block : ℕ) (old : List ℕ)
     (pre : BlockReady bs n t terms d base s low block old) where
   -- the pass can run
@@ -87,6 +93,7 @@ module _ (bs : List ℕ) (n t : ℕ) (terms : Terms) (d base s low block : ℕ) 
         record {
           too-many = q .too-many;
           state = λ e. absurd (let z : _≡_ {A = ℕ} 0 1 = cc in omega arith);
+          stations = λ e. absurd (let z : _≡_ {A = ℕ} 0 1 = cc in omega arith);
           kept = passed-kept true q;
         }
 
@@ -124,6 +131,7 @@ module _ (bs : List ℕ) (n t : ℕ) (terms : Terms) (d base s low block : ℕ) 
           record {
             too-many = q .too-many;
             state = λ e. state-done (planOf bs n t terms) n base s low block new (w .state);
+            stations = λ e. any-block bs n t terms s low block new (w .counted);
             kept = kept-over n base (block-working .kept) (w .kept);
           }
 
@@ -134,6 +142,7 @@ pub record Blocking (bs : List ℕ) (n t : ℕ) (terms : Terms) (base s : ℕ) (
   pub within : low ≤ n
   pub few : 0 < low → tooMany (planOf bs n t terms) s ≡ false
   pub state : State (planOf bs n t terms) n base s low 0 0 0 w
+  pub stations : 0 < low → Counted bs n t terms s 0 0 w
   pub kept : Kept n base old w
 
 module _ (bs : List ℕ) (n t : ℕ) (terms : Terms) (d base block s : ℕ) (old : List ℕ) (pre : SourceReady bs n t terms d base block s old) where
@@ -149,6 +158,7 @@ module _ (bs : List ℕ) (n t : ℕ) (terms : Terms) (d base block s : ℕ) (old
               here = λ v g l. absurd (omega arith);
               later = λ v g l. pre .summed v l;
             };
+        stations = λ h. absurd (omega arith);
         kept = kept-same n base old;
       }
 
@@ -178,6 +188,7 @@ module _ (bs : List ℕ) (n t : ℕ) (terms : Terms) (d base block s : ℕ) (old
           record {
             too-many = done .too-many;
             summed = λ e. absurd (let z : _≡_ {A = ℕ} 0 1 = cc in omega arith);
+            stations = λ e. absurd (let z : _≡_ {A = ℕ} 0 1 = cc in omega arith);
             kept = kept-over n base (f .kept) (done .kept);
           }
 
@@ -188,6 +199,7 @@ module _ (bs : List ℕ) (n t : ℕ) (terms : Terms) (d base block s : ℕ) (old
             within = omega arith;
             few = λ g. sym (done .too-many);
             state = done .state refl;
+            stations = λ g. done .stations refl;
             kept = kept-over n base (f .kept) (done .kept);
           }
 
@@ -202,5 +214,6 @@ module _ (bs : List ℕ) (n t : ℕ) (terms : Terms) (d base block s : ℕ) (old
                 pairs-there = q .pairs-there ∙ partly-source (pairTerm p v) n s;
                 load-there = q .load-there ∙ partly-source (loadTerm p v) n s;
               };
+          stations = λ e. f .stations (let g = pre .source in omega arith);
           kept = f .kept;
         }

@@ -1,11 +1,11 @@
 -- the tallies lie within the work area
 pub mod Sizes
 -- sums over sources and destinations, and what one pair adds
-mod TermLaws
+pub mod TermLaws
 mod AddLaws
 -- the work area from step to step, and the loops over stations and destinations
-mod StateLaws
+pub mod StateLaws
 mod LoopLaws
 -- blocks of stations, and sources
-mod BlockLaws
-mod SourceLaws
+pub mod BlockLaws
+pub mod SourceLaws

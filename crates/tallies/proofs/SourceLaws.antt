@@ -14,7 +14,9 @@ use Rattle.temporal.specs.Lists.{below}
 use Rattle.temporal.specs.Bytes.{planOf}
 use Rattle.temporal.specs.Cause.{tooMany, tooManyBelow}
 use Rattle.temporal.specs.Outcome.{workSize}
+use Rattle.temporal.specs.Struck.{lackingRecord}
 use Rattle.temporal.proofs.Accepted.{accepted}
+use Rattle.temporal.proofs.LackingLaws.{lacking-nothing}
 use Rattle.temporal.proofs.ListLaws.{any-true, any-false, mem-below}
 use Rattle.memory.specs.Fill.{filled}
 use Rattle.memory.proofs.FillLaws.{filled-length, filled-at, filled-beyond}
@@ -78,6 +80,17 @@ module _ (bs : List ℕ) (n t g h k : ℕ) (old : List ℕ) (asked : Tallyable b
               later-drop n (workSize n t) mid old (let one = mul-le-mul-left {m = 1} {n = t + 1} n (omega arith) in omega arith) (found .beyond);
           same-length = x .same-length ∙ found .same-length;
         }
+
+-- ---- a source of the whole plan, which lacks no record
+
+pub source-whole : (bs : List ℕ) (n t : ℕ) (terms : Terms) (d base block s : ℕ) (work : List ℕ) →
+    SourceReady bs n t terms d base block s work → SourceReady (lackingRecord bs (length bs)) n t terms d base block s work
+source-whole bs n t terms d base block s work x =
+    subst (λ l. SourceReady l n t terms d base block s work) (sym (lacking-nothing bs)) x
+
+pub done-whole : (bs : List ℕ) (n t : ℕ) (terms : Terms) (base s : ℕ) (old new : List ℕ) (r : Bool) →
+    SourceDone (lackingRecord bs (length bs)) n t terms base s old new r → SourceDone bs n t terms base s old new r
+done-whole bs n t terms base s old new r x = subst (λ l. SourceDone l n t terms base s old new r) (lacking-nothing bs) x
 
 -- ---- the loop over sources
 

@@ -9,7 +9,7 @@ use Rattle.temporal.specs.Plan.{Terms, Allowed}
 use Rattle.temporal.specs.Bytes.{planOf}
 use Rattle.temporal.specs.Cause.{planFault, tooMany}
 use Rattle.stale.specs.Depth.{Deep}
-use Rattle.forward.specs.Passed.{passSize}
+use Rattle.forward.specs.Passed.{passSize, Counted}
 use Rattle.tallies.specs.Tally.{blockOf, tallyBase, Tallyable}
 use Rattle.tallies.specs.Progress.{TallyEntry, State, Room, Kept}
 
@@ -24,10 +24,11 @@ pub record BlockReady (bs : List ℕ) (n t : ℕ) (terms : Terms) (d base s low 
   pub room : Room n base block work
   pub state : State (planOf bs n t terms) n base s low 0 0 0 work
 
--- what a block promises: whether a count is over 2^64 - 1, and where none is, the block done too
+-- what a block promises: whether a count is over 2^64 - 1, and where none is, the block done too, and hops and counts of the stations
 pub record BlockDone (bs : List ℕ) (n t : ℕ) (terms : Terms) (base s low block : ℕ) (old new : List ℕ) (r : Bool) : Type 0 where
   pub too-many : r ≡ tooMany (planOf bs n t terms) s
   pub state : r ≡ false → State (planOf bs n t terms) n base s (low + block) 0 0 0 new
+  pub stations : r ≡ false → Counted bs n t terms s 0 0 new
   pub kept : Kept n base old new
 
 -- what a source asks: an accepted plan, units that no cause refuses, the source in it, a block size, and the sources before it done
@@ -41,10 +42,11 @@ pub record SourceReady (bs : List ℕ) (n t : ℕ) (terms : Terms) (d base block
   pub room : Room n base block work
   pub summed : (v : ℕ) → v < n → TallyEntry (planOf bs n t terms) n base s v 0 work
 
--- what a source promises: whether a count is over 2^64 - 1, and where none is, the source done too
+-- what a source promises: whether a count is over 2^64 - 1, and where none is, the source done too, and hops and counts of the stations
 pub record SourceDone (bs : List ℕ) (n t : ℕ) (terms : Terms) (base s : ℕ) (old new : List ℕ) (r : Bool) : Type 0 where
   pub too-many : r ≡ tooMany (planOf bs n t terms) s
   pub summed : r ≡ false → (v : ℕ) → v < n → TallyEntry (planOf bs n t terms) n base (s + 1) v 0 new
+  pub stations : r ≡ false → Counted bs n t terms s 0 0 new
   pub kept : Kept n base old new
 
 -- what the sources below k ask: what the tallies ask, with their block and base

@@ -4,6 +4,7 @@ ghost use mathlib.Core.Path.{_≡_};
 ghost use Prim.Native.Nat.{_+_, _*_, _<_, _≤_, min};
 ghost use lib.ListN.{length};
 ghost use Rattle.temporal.specs.Plan.{units};
+ghost use Rattle.temporal.specs.Struck.{lackingRecord};
 ghost use Rattle.tallies.specs.Tally.{tallyBase, Tallyable, Tallied};
 ghost use Rattle.tallies.specs.Progress.{addedAt, Addable, Workable, DestinationsAdded};
 ghost use Rattle.tallies.specs.Sources.{BlockReady, BlockDone, SourceReady, SourceDone, AllReady};
@@ -67,10 +68,12 @@ fn add_rows(work: &mut [u64], n: usize, base: usize, source: usize, low: usize, 
     }
 }
 
-// Works on one source with one block of stations: the pass, then every destination. True where a count is over 2^64 - 1.
+// Works on one source with one block of stations: the pass, then every destination. The record at position out is left out; where there is
+// none, the plan is whole. True where a count is over 2^64 - 1.
 fn tally_block(
     work: &mut [u64],
     plan: &[u8],
+    out: usize,
     n: usize,
     t: usize,
     g: usize,
@@ -81,20 +84,21 @@ fn tally_block(
     low: usize,
     block: usize,
 ) -> bool
-    requires { ⌜ BlockReady (now plan) n t (units g h) depth base source low block (now work) ⌝ }
-    ensures { λ r. ⌜ BlockDone (now (plan .entry)) n t (units g h) base source low block (now (work .entry)) (now (work .exit)) r ⌝ }
+    requires { ⌜ BlockReady (lackingRecord (now plan) out) n t (units g h) depth base source low block (now work) ⌝ }
+    ensures { λ r. ⌜ BlockDone (lackingRecord (now (plan .entry)) out) n t (units g h) base source low block (now (work .entry)) (now (work .exit)) r ⌝ }
 {
-    if forward::pass(work, plan, n, t, g, h, depth, source, low, block) {
+    if forward::pass_without(work, plan, out, n, t, g, h, depth, source, low, block) {
         return true;
     }
     add_rows(work, n, base, source, low, block);
     false
 }
 
-// Works on one source, block by block. True where a count is over 2^64 - 1.
-fn tally_source(
+// Works on one source, block by block, without the record at position out as above. True where a count is over 2^64 - 1.
+pub fn tally_source(
     work: &mut [u64],
     plan: &[u8],
+    out: usize,
     n: usize,
     t: usize,
     g: usize,
@@ -104,13 +108,13 @@ fn tally_source(
     block: usize,
     source: usize,
 ) -> bool
-    requires { ⌜ SourceReady (now plan) n t (units g h) depth base block source (now work) ⌝ }
-    ensures { λ r. ⌜ SourceDone (now (plan .entry)) n t (units g h) base source (now (work .entry)) (now (work .exit)) r ⌝ }
+    requires { ⌜ SourceReady (lackingRecord (now plan) out) n t (units g h) depth base block source (now work) ⌝ }
+    ensures { λ r. ⌜ SourceDone (lackingRecord (now (plan .entry)) out) n t (units g h) base source (now (work .entry)) (now (work .exit)) r ⌝ }
 {
     let mut low = 0;
     while low < n {
         let size = pass::smaller(block, n - low);
-        if tally_block(work, plan, n, t, g, h, depth, base, source, low, size) {
+        if tally_block(work, plan, out, n, t, g, h, depth, base, source, low, size) {
             return true;
         }
         low += size;
@@ -137,7 +141,19 @@ fn tally_sources(
     memory::fill_part(work, base, 2 * n, 0);
     let mut source = 0;
     while source < k {
-        if tally_source(work, plan, n, t, g, h, depth, base, block, source) {
+        if tally_source(
+            work,
+            plan,
+            plan.len(),
+            n,
+            t,
+            g,
+            h,
+            depth,
+            base,
+            block,
+            source,
+        ) {
             return true;
         }
         source += 1;

@@ -18,7 +18,7 @@ use Rattle.temporal.proofs.ListLaws.{any-false}
 unfoldable pub mostLists : Plan → ℕ
 mostLists p = sum (map (λ k. length (tuples (length (p .contacts)) k)) (below (p .slots + 1)))
 
-select-shorter : (t : List ℕ → Bool) (l : List (List ℕ)) → length (select t l) ≤ length l
+pub select-shorter : (t : List ℕ → Bool) (l : List (List ℕ)) → length (select t l) ≤ length l
 unfolding select
 select-shorter t [] = omega arith
 select-shorter t (w ∷ l) = go (t w) (select-shorter t l)

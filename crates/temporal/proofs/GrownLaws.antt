@@ -3,8 +3,8 @@
 -- Assumes nothing.
 use Prim.Native.Nat.{ℕ, zero, suc, _+_, _*_, _/_, _^_}
 use mathlib.Core.Path.{_≡_, refl, sym, ap, _∙_, fun-ext}
-use mathlib.Core.Bool.{Bool, true, false, not, cond, _&&_}
-use mathlib.Core.List.{List, [], _∷_, _++_, map, flatMap}
+use mathlib.Core.Bool.{Bool, true, false, _&&_}
+use mathlib.Core.List.{List, [], _∷_, map, flatMap}
 use mathlib.Core.Option.{Option, none, some}
 use lib.Dec.{ltb, eqb}
 use lib.ListN.{length}
@@ -14,7 +14,7 @@ use Rattle.temporal.specs.Walk.{step, holds, endsIn, isAt, isWalkTo, isA
 use Rattle.temporal.specs.Shortest.{firstNonempty, ofHops, shortest, shortestWalks, shortestWalksTo}
 use Rattle.temporal.specs.Shortest.{count, throughIn, through}
 use Rattle.temporal.specs.Load.{Ends, endsBelow, pairsBelow, partialPairs, pairs, share, partialLoad, load, pairsBy, loadBy}
-use Rattle.temporal.proofs.ListLaws.{select-append, select-none, select-select}
+use Rattle.temporal.proofs.ListLaws.{select-none, select-select, select-map, select-flatMap}
 use Rattle.temporal.proofs.WalkLaws.{ends-cons, ends-inv, ends-intro, ends-nil}
 
 -- what follows where there is a next appearance; nothing where there is none
@@ -32,25 +32,6 @@ grown p x (suc k) =
 unfoldable pub grownShortest : Plan → ℕ → (List ℕ → Bool) → List (List ℕ)
 grownShortest p s t = firstNonempty (λ k. select t (grown p (start s) k)) (below (p .slots + 1))
 
--- ---- selection
-
-module _ {A : Type 0} (t : List ℕ → Bool) where
-  select-flatMap : (f : A → List (List ℕ)) (l : List A) → select t (flatMap f l) ≡ flatMap (λ x. select t (f x)) l
-  unfolding select flatMap
-  select-flatMap f [] = refl
-  select-flatMap f (x ∷ l) = select-append t (f x) (flatMap f l) ∙ ap (λ m. select t (f x) ++ m) (select-flatMap f l)
-
-select-map : (t : List ℕ → Bool) (i : ℕ) (l : List (List ℕ)) → select t (map (_∷_ i) l) ≡ map (_∷_ i) (select (λ w. t (i ∷ w)) l)
-unfolding select
-select-map t i [] = refl
-select-map t i (w ∷ l) = go (t (i ∷ w)) (select-map t i l)
-  where
-    go : (b : Bool) → select t (map (_∷_ i) l) ≡ map (_∷_ i) (select (λ w. t (i ∷ w)) l)
-        → cond b ((i ∷ w) ∷ select t (map (_∷_ i) l)) (select t (map (_∷_ i) l))
-        ≡ map (_∷_ i) (cond b (w ∷ select (λ w. t (i ∷ w)) l) (select (λ w. t (i ∷ w)) l))
-    go true e = ap (_∷_ (i ∷ w)) e
-    go false e = e
-
 -- ---- the walks among all lists of positions
 
 -- whether w is a walk from x
@@ -65,7 +46,7 @@ module _ (p : Plan) where
       ≡ onward (step p x i) (λ y. map (_∷_ i) (grown p y k))
   unfolding holds onward
   grown-first x k i ih =
-      select-map (runs p x) i (tuples (length (p .contacts)) k)
+      select-map (runs p x) (_∷_ i) (tuples (length (p .contacts)) k)
       ∙ ap (λ t. map (_∷_ i) (select t (tuples (length (p .contacts)) k))) (fun-ext (λ w. ends-cons p x (λ y. true) i w))
       ∙ go (step p x i)
     where

@@ -4,12 +4,18 @@ pub mod Adequacy
 pub mod Figures
 -- plans that share a band
 pub mod BandFigures
+-- a contact struck out
+pub mod StruckFigures
 -- readings that go stale
 pub mod FreshFigures
 -- the busiest station
 pub mod BusiestLaws
 -- a set of stations
 pub mod SetLaws
+-- a plan without one of its records: positions, walks, loads
+pub mod LackingPositions
+pub mod StruckLaws
+pub mod StruckLoads
 -- shortest foremost paths
 pub mod ForemostLaws
 -- every hop accounted: what the through counts of a pair add up to; the figures stand first by their name, and so do those that
@@ -36,3 +42,6 @@ pub mod WalkLaws
 pub mod PathLaws
 pub mod ReturnLaws
 pub mod PlanLaws
+-- bytes that keep every rule are accepted; plan bytes that lack a record
+pub mod RulesKept
+pub mod LackingLaws

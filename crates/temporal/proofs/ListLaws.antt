@@ -202,6 +202,24 @@ module _ {A : Type 0} where
     λ h. not-true-false (any t l) (λ p. let r = any-true t l .0 p in not-both (r .2) (h (r .0) (r .1))),
   )
 
+-- a selection from a mapped list is the mapped selection of what passes when mapped
+pub select-map : {A B : Type 0} (t : B → Bool) (f : A → B) (l : List A) → select t (map f l) ≡ map f (select (λ x. t (f x)) l)
+unfolding select
+select-map t f [] = refl
+select-map t f (x ∷ l) = rw (select-map t f l) (step (t (f x)))
+  where
+    step : (c : Bool) → cond c (f x ∷ map f (select (λ x. t (f x)) l)) (map f (select (λ x. t (f x)) l))
+        ≡ map f (cond c (x ∷ select (λ x. t (f x)) l) (select (λ x. t (f x)) l))
+    step true = refl
+    step false = refl
+
+-- a selection from joined lists is the selections joined
+pub select-flatMap : {A B : Type 0} (t : B → Bool) (f : A → List B) (l : List A)
+    → select t (flatMap f l) ≡ flatMap (λ x. select t (f x)) l
+unfolding select flatMap
+select-flatMap t f [] = refl
+select-flatMap t f (x ∷ l) = select-append t (f x) (flatMap f l) ∙ ap (λ m. select t (f x) ++ m) (select-flatMap t f l)
+
 -- member is true for the members of a list
 pub member-true : (v : ℕ) (l : List ℕ) → (member v l ≡ true) ↔ List·Memᴰ v l
 unfolding member

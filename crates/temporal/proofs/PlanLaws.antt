@@ -28,7 +28,7 @@ getElem-map-from f i (suc k) (suc j) h =
     getElem-map-from f (suc i) k j (omega arith) ∙ ap (λ x. some (f x)) same
 
 -- a record above another has no smaller slot
-above-slots : (c d : Contact) → isAbove c d ≡ true → c .slot ≤ d .slot
+pub above-slots : (c d : Contact) → isAbove c d ≡ true → c .slot ≤ d .slot
 unfolding isAbove
 above-slots c d e =
     by-cases (decLt (c .slot) (d .slot)) (λ h. omega arith)

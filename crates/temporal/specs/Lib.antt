@@ -7,6 +7,7 @@ pub mod Shortest
 pub mod Set
 pub mod Foremost
 pub mod Load
+pub mod Struck
 pub mod Bytes
 pub mod Cause
 pub mod Outcome
@@ -14,6 +15,7 @@ pub mod OutcomePair
 pub mod Drawing
 pub mod OutcomeSet
 pub mod OutcomeForemost
+pub mod OutcomeStruck
 pub mod Cursor
 pub mod Verdict
 pub mod OutcomeVerdict

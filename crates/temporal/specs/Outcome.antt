@@ -23,7 +23,7 @@ unfoldable pub entered : {Values Buffers : Type 0} → List ℕ → Values → B
 entered causes zeros old work = unless (first causes) (λ k. record { number = k; values = zeros; buffers = old }) work
 
 -- new entries written to the beginning of a buffer; the entries past them are untouched
-unfoldable pub over : List ℕ → List ℕ → List ℕ
+unfoldable pub over : {A : Type 0} → List A → List A → List A
 over new old = new ++ drop (length new) old
 
 -- a buffer whose first k entries are 0
@@ -31,7 +31,7 @@ unfoldable pub cleared : ℕ → List ℕ → List ℕ
 cleared k old = over (replicate k 0) old
 
 -- whether a lent buffer has fewer than k entries
-abbrev pub short : ℕ → List ℕ → Bool
+abbrev pub short : {A : Type 0} → ℕ → List A → Bool
 short k l = ltb (length l) k
 
 -- the entries of a table of appearances, n (T + 1), and of the work area, 4 n (T + 1)

@@ -185,6 +185,20 @@ extern "C" {
         table: *mut u16,
         table_length: usize,
     ) -> u32;
+    fn joftaki_struck_out(
+        plan: *const u8,
+        plan_length: usize,
+        n: usize,
+        t: usize,
+        g: usize,
+        h: usize,
+        position: usize,
+        pairs: *mut u64,
+        changes: *mut i64,
+        changes_length: usize,
+        work: *mut u64,
+        work_length: usize,
+    ) -> u32;
     way_function!(joftaki_first_way);
     way_function!(joftaki_next_way);
 }
@@ -405,6 +419,26 @@ pub fn take(taking: Taking, input: PlanInput, table: &mut [u16]) -> u32 {
         // SAFETY: as above.
         Taking::Out => unsafe { joftaki_take_out(plan, plan_length, n, t, table, length) },
     }
+}
+
+/// Document 02's contact that is struck out; the value is the number of pairs that use it.
+pub fn struck_out(
+    input: PlanInput,
+    position: usize,
+    pairs: &mut u64,
+    changes: &mut [i64],
+    work: &mut [u64],
+) -> u32 {
+    on_terms!(
+        joftaki_struck_out,
+        input,
+        position,
+        pairs,
+        changes.as_mut_ptr(),
+        changes.len(),
+        work.as_mut_ptr(),
+        work.len()
+    )
 }
 
 /// Operations 7 and 8.

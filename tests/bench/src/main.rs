@@ -1,5 +1,5 @@
 //! Times loads, pair, whole listings and verdicts of libjoftaki_c.a beside the same passes in Rust, or beside
-//! another archive, and prints the tables of docs/PERFORMANCE.md.
+//! another archive, and struck out beside loads, and prints the tables of docs/PERFORMANCE.md.
 
 mod against;
 mod clock;
@@ -11,6 +11,7 @@ mod native;
 mod plans;
 mod question;
 mod side;
+mod struck;
 mod tables;
 
 use std::process::ExitCode;

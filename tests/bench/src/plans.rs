@@ -53,12 +53,21 @@ impl Plan {
         self.bytes.len() / RECORD_BYTES
     }
 
+    /// The plan without the record at a position.
+    pub fn without(&self, position: usize) -> Plan {
+        let mut plan = self.clone();
+        let from = RECORD_BYTES * position;
+        plan.bytes.drain(from..from + RECORD_BYTES);
+        plan
+    }
+
     /// A pair with as many shortest paths as some pair has, among those with at most `most`; its
     /// number of paths beside it.
     pub fn pair_with_paths(&self, most: u64) -> (Ends, u64) {
         let mut best = ((0, 0), 0);
         for source in 0..self.stations {
-            for (destination, count) in self.counts_from(source).into_iter().enumerate() {
+            let entries = self.entries_from(source).into_iter().enumerate();
+            for (destination, (_, count)) in entries {
                 if destination != source && count <= most && count > best.1 {
                     best = ((source, destination), count);
                 }
@@ -67,8 +76,8 @@ impl Plan {
         best
     }
 
-    /// The count of shortest paths from a source to each station.
-    fn counts_from(&self, source: usize) -> Vec<u64> {
+    /// Hops and count of the shortest paths from a source to each station.
+    pub fn entries_from(&self, source: usize) -> Vec<(u64, u64)> {
         let task = Task {
             source,
             low: 0,
@@ -76,7 +85,8 @@ impl Plan {
         };
         let mut work = vec![0; pass_entries(self.input(), 0)];
         let area = pass(&mut work, self.input(), task).expect("counts within 64 bits");
-        area.counts.to_vec()
+        let hops = area.hops.iter().copied();
+        hops.zip(area.counts.iter().copied()).collect()
     }
 }
 

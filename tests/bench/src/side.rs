@@ -7,6 +7,9 @@ use lister::ways::Way;
 
 use crate::{library, native};
 
+/// Loads: the number.
+pub type LoadsOf = fn(PlanInput, &mut [u64], &mut [u64], &mut [u64]) -> u32;
+
 /// Pair: the number, the hops and the count.
 type PairOf = fn(PlanInput, Ends, &mut [u64], &mut [u64]) -> (u32, u64, u64);
 
@@ -20,7 +23,7 @@ type VerdictOf = fn(PlanInput, Ends, &[u16], &mut [u64]) -> (u32, u32);
 #[derive(Clone, Copy, Debug)]
 pub struct Side {
     pub name: &'static str,
-    pub loads: fn(PlanInput, &mut [u64], &mut [u64], &mut [u64]) -> u32,
+    pub loads: LoadsOf,
     pub pair: PairOf,
     pub way: WayOf,
     pub verdict: VerdictOf,

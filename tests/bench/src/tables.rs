@@ -7,6 +7,7 @@ use lister::plan::Ends;
 use crate::measure::{measure, measure_plans, measure_verdict, Effort, Times, WHOLE};
 use crate::plans::{by_records, by_slots, by_stations, named, turned, Plan};
 use crate::question::{question_of, timed_pair, Question, QUESTIONS};
+use crate::struck;
 
 /// The questions of the named plans.
 fn questions(effort: Effort) {
@@ -14,6 +15,7 @@ fn questions(effort: Effort) {
     of_pairs("Pair", effort, &named(), Question::Pair);
     of_pairs("A whole listing", effort, &named(), Question::Listing);
     verdicts(effort, &named());
+    struck::table(effort, &named());
 }
 
 /// All tables.

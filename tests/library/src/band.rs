@@ -49,6 +49,7 @@ fn call<'a>(taking: Taking, input: PlanInput<'a>, table: &[u16]) -> Call<'a> {
         lent: Lent {
             narrow: vec![table.to_vec()],
             wide: Vec::new(),
+            signed: Vec::new(),
             sets: Vec::new(),
             list: Vec::new(),
         },

@@ -24,6 +24,7 @@ pub fn function(operation: Operation) -> &'static str {
         Operation::Verdict => "joftaki_verdict",
         Operation::TakeIn => "joftaki_take_in",
         Operation::TakeOut => "joftaki_take_out",
+        Operation::StruckOut => "joftaki_struck_out",
     }
 }
 
@@ -32,8 +33,8 @@ pub fn function(operation: Operation) -> &'static str {
 pub struct Call<'a> {
     pub operation: Operation,
     pub input: PlanInput<'a>,
-    /// The numbers behind n, T, g and h: the one station, source and destination, k, or c; further ones are not
-    /// given.
+    /// The numbers behind n, T, g and h: the one station, source and destination, k, c, or the position; further ones
+    /// are not given.
     pub arguments: [usize; 2],
     pub lent: Lent,
     /// The places for the values beside the number.
@@ -81,11 +82,13 @@ impl fmt::Display for Call<'_> {
         let name = match self.operation {
             Operation::PartialLoads => "k",
             Operation::TakeIn => "c",
+            Operation::StruckOut => "position",
             _ => "stations",
         };
         write!(to, "{}, {name} {given:?}", function(self.operation))?;
         write!(to, ", 16-bit tables {:?}", lengths(&self.lent.narrow))?;
-        writeln!(to, ", 64-bit tables {:?}", lengths(&self.lent.wide))?;
+        write!(to, ", 64-bit tables {:?}", lengths(&self.lent.wide))?;
+        writeln!(to, ", with a sign {:?}", lengths(&self.lent.signed))?;
         for set in &self.lent.sets {
             writeln!(to, "set: {set:?}")?;
         }

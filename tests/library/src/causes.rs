@@ -1,5 +1,6 @@
 //! Numbers against each other: every number of through set, of foremost and of the verdict against every other, 12
-//! and 14 against every other number of each operation, and 13 against every other number of partial loads.
+//! and 14 against every other number of each operation, 13 against every other number of partial loads, and 17 against
+//! every other number of struck out.
 
 use lister::cases::{plan_bytes, Record};
 use lister::means::COUNTED;
@@ -19,7 +20,10 @@ pub fn compare(comparison: &mut Comparison, seed: u64) -> Result<(), Difference>
     let random = &mut Random::new(seed);
     every_two_causes(comparison, random)?;
     terms_and_another_cause(comparison, random)?;
-    sources_and_another_cause(comparison, random)
+    let sources = [0, 1, 131, 132, 300, usize::MAX];
+    number_and_another_cause(comparison, random, Operation::PartialLoads, &sources)?;
+    let positions = [0, 2, 3, 515, 516, 65535, usize::MAX];
+    number_and_another_cause(comparison, random, Operation::StruckOut, &positions)
 }
 
 /// A ladder of 65 layers, which gives 9 from its source; plans of its sizes, accepted or with one of the
@@ -171,20 +175,21 @@ fn terms_and_another_cause(
     Ok(())
 }
 
-/// Partial loads with 13 alone and with every other of its numbers: 1 to 5 by the plan, 12, 14, 8 by each lent part, 9
-/// by the ladder; and all of these with k up to n.
-fn sources_and_another_cause(
+/// An operation with one number behind g and h, which is k or the position. With 13 or 17 alone and with every other of
+/// its numbers: 1 to 5 by the plan, 12, 14, 8 by each lent part, 9 by the ladder; and all of these with k up to n, or
+/// with a position of the plan. The ladder has 131 stations and 516 records, the accepted plan 3 records.
+fn number_and_another_cause(
     comparison: &mut Comparison,
     random: &mut Random,
+    operation: Operation,
+    numbers: &[usize],
 ) -> Result<(), Difference> {
     let (plans, _) = plans_with_causes();
-    let stations = plans[0].stations;
     for owned in &plans {
         for (turnaround, keeping) in [(1, KEPT), (17, KEPT), (1, 0), (16, 15), (1, 256), (17, 0)] {
             let owned = owned.clone().turning(turnaround).keeping_for(keeping);
-            for sources in [0, 1, stations, stations + 1, 300, usize::MAX] {
-                let (operation, arguments) = (Operation::PartialLoads, [sources, 0]);
-                short_parts(comparison, random, &owned, operation, arguments)?;
+            for number in numbers {
+                short_parts(comparison, random, &owned, operation, [*number, 0])?;
             }
         }
     }

@@ -17,7 +17,8 @@ pub type Difference = String;
 
 /// The comparisons so far: how often each operation answered each number, how often its through counts were
 /// added up, how often they were fewer than the hops' stations, how often each verdict was given, how often
-/// partial loads were held to the loads and to those of fewer sources, and what came in runs on a band.
+/// partial loads were held to the loads and to those of fewer sources, what came in runs on a band, and how often changes
+/// of load were held to the loads.
 #[derive(Clone, Debug, Default)]
 pub struct Comparison {
     answers: BTreeMap<(Operation, u32), u64>,
@@ -29,6 +30,9 @@ pub struct Comparison {
     /// The calls of runs on a band by their number, and those after which a plan was in twice.
     runs: BTreeMap<u32, u64>,
     in_twice: u64,
+    /// The calls of struck out whose changes were held to the loads; those with a change above 0, with one below 0, and
+    /// with one as large as can be.
+    pub changes: [u64; 4],
 }
 
 impl Comparison {
@@ -40,6 +44,7 @@ impl Comparison {
         told += &tables_text("16-bit", &lent.narrow, &seen.lent.narrow);
         told += &tables_text("64-bit", &lent.wide, &seen.lent.wide);
         told += &tables_text("8-bit", &lent.sets, &seen.lent.sets);
+        told += &tables_text("64-bit with a sign", &lent.signed, &seen.lent.signed);
         told += &tables_text("list, 16-bit", &[lent.list], &[seen.lent.list.clone()]);
         if told.is_empty() {
             told += &self.every_hop_accounted(call, &seen);
@@ -121,6 +126,8 @@ impl Comparison {
         let unseen = numbers.filter(|number| !self.runs.contains_key(number));
         never.extend(unseen.map(|number| ("runs on a band", number)));
         never.extend((self.in_twice == 0).then_some(("a plan in twice", 0)));
+        let unseen = self.changes.iter().any(|times| *times == 0);
+        never.extend(unseen.then_some(("changes of every kind", 0)));
         never
     }
 
@@ -162,6 +169,9 @@ impl Comparison {
         }
         let twice = self.in_twice;
         let _ = writeln!(text, "; with a plan in twice {twice}");
+        let [held, up, down, largest] = self.changes;
+        let kinds = format!("above 0 {up}, below 0 {down}, as large as can be {largest}");
+        let _ = writeln!(text, "changes held to the loads: {held}; {kinds}");
         text
     }
 }

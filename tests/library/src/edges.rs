@@ -45,7 +45,7 @@ pub fn compare(comparison: &mut Comparison, seed: u64) -> Result<(), Difference>
 }
 
 /// So many records in the first slots, each slot's between the first 64 stations.
-fn packed(records: usize) -> Vec<Record> {
+pub fn packed(records: usize) -> Vec<Record> {
     let of_slot = |slot: u16| pairs(64).map(move |(a, b)| (slot, a as u16, b as u16));
     (1..=3).flat_map(of_slot).take(records).collect()
 }
@@ -136,14 +136,18 @@ fn turned_plans() -> Vec<Owned> {
     plans
 }
 
-/// Each operation from the first station to the last, on memory of exactly the named lengths; loads
-/// and busiest where they are refused or drawn. Partial loads of no source, of the first, and of one too many.
+/// Each operation from the first station to the last, on memory of exactly the named lengths; loads, busiest and
+/// struck out at the first position where they are refused or drawn. Partial loads of no source, of the first, and of one
+/// too many.
 fn ends(comparison: &mut Comparison, random: &mut Random, owned: &Owned) -> Result<(), Difference> {
     let stations = [0, owned.stations - 1];
     let mut refused = false;
     let mut way = Vec::new();
     for operation in OPERATIONS {
-        let of_all = matches!(operation, Operation::Loads | Operation::Busiest);
+        let of_all = matches!(
+            operation,
+            Operation::Loads | Operation::Busiest | Operation::StruckOut
+        );
         if of_all && !refused && !draw_loads(random, owned) {
             continue;
         }
@@ -164,7 +168,7 @@ fn ends(comparison: &mut Comparison, random: &mut Random, owned: &Owned) -> Resu
 }
 
 /// Compares a call, whose number is stated by hand too.
-fn stated(comparison: &mut Comparison, call: &Call, number: u32) -> Result<(), Difference> {
+pub fn stated(comparison: &mut Comparison, call: &Call, number: u32) -> Result<(), Difference> {
     let seen = comparison.compare(call, COUNTED)?;
     match seen.number == number {
         true => Ok(()),
@@ -234,7 +238,7 @@ fn turnarounds(comparison: &mut Comparison, random: &mut Random) -> Result<(), D
         let owned = Owned::new(4, 33, &records).turning(turnaround);
         for operation in OPERATIONS {
             for lengths in [Lengths::Named, Lengths::Any] {
-                let arguments = arguments(random, operation, owned.stations, [0, 3]);
+                let arguments = arguments(random, operation, owned.input(), [0, 3]);
                 let call = lend::call(random, operation, owned.input(), arguments, lengths);
                 if !known && operation.causes().contains(&12) {
                     stated(comparison, &call, 12)?;
@@ -273,7 +277,7 @@ fn keepings(comparison: &mut Comparison, random: &mut Random) -> Result<(), Diff
         let owned = Owned::new(4, 33, &records).turning(3).keeping_for(keeping);
         for operation in OPERATIONS {
             for lengths in [Lengths::Named, Lengths::Any] {
-                let arguments = arguments(random, operation, owned.stations, [0, 3]);
+                let arguments = arguments(random, operation, owned.input(), [0, 3]);
                 let call = lend::call(random, operation, owned.input(), arguments, lengths);
                 if !known && operation.causes().contains(&14) {
                     stated(comparison, &call, 14)?;

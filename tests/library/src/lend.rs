@@ -25,14 +25,18 @@ fn named_size(size: usize, most: usize) -> usize {
     }
 }
 
-/// The named lengths of an operation's tables, 16 bits, then 64 bits, and of its sets.
-pub fn named(operation: Operation, input: PlanInput) -> [Vec<usize>; 3] {
+/// Lengths of an operation's tables, 16 bits, then 64 bits, of its sets, and of its tables of 64 bits with a sign.
+pub type Parts = [Vec<usize>; 4];
+
+/// The named lengths of an operation.
+pub fn named(operation: Operation, input: PlanInput) -> Parts {
     let stations = named_size(input.stations, MOST_STATIONS);
     let slots = named_size(input.slots, MOST_SLOTS);
     [
         operation.narrow(stations, slots),
         operation.wide(stations, slots),
         operation.sets(stations),
+        operation.signed(stations),
     ]
 }
 
@@ -59,6 +63,11 @@ pub fn wide(random: &mut Random, length: usize) -> Vec<u64> {
     (0..length).map(|_| random.number()).collect()
 }
 
+/// Arbitrary 64-bit entries with a sign.
+pub fn signed(random: &mut Random, length: usize) -> Vec<i64> {
+    (0..length).map(|_| random.number() as i64).collect()
+}
+
 /// A set for so many stations, at any odds of members; behind them arbitrary bytes. Some sets have
 /// another byte than 0 and 1.
 pub fn set(random: &mut Random, stations: usize, length: usize) -> Vec<u8> {
@@ -76,8 +85,8 @@ pub fn set(random: &mut Random, stations: usize, length: usize) -> Vec<u8> {
 
 /// Memory of given lengths for a call, with arbitrary contents; sets are for so many stations. The list is
 /// empty.
-pub fn of_lengths(random: &mut Random, lengths: &[Vec<usize>; 3], stations: usize) -> Lent {
-    let [narrow_lengths, wide_lengths, set_lengths] = lengths;
+pub fn of_lengths(random: &mut Random, lengths: &Parts, stations: usize) -> Lent {
+    let [narrow_lengths, wide_lengths, set_lengths, signed_lengths] = lengths;
     Lent {
         narrow: (narrow_lengths.iter())
             .map(|length| narrow(random, *length))
@@ -87,6 +96,9 @@ pub fn of_lengths(random: &mut Random, lengths: &[Vec<usize>; 3], stations: usiz
             .collect(),
         sets: (set_lengths.iter())
             .map(|length| set(random, stations, *length))
+            .collect(),
+        signed: (signed_lengths.iter())
+            .map(|length| signed(random, *length))
             .collect(),
         list: Vec::new(),
     }

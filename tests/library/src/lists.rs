@@ -129,8 +129,8 @@ pub fn draw(random: &mut Random, call: &mut Call, means: Means) {
         operation: Operation::FirstWay,
         ..call.clone()
     };
-    let [narrow, wide, sets] = lend::named(Operation::FirstWay, call.input);
-    offered.lent = lend::of_lengths(random, &[narrow, wide, sets], call.input.stations);
+    let named = lend::named(Operation::FirstWay, call.input);
+    offered.lent = lend::of_lengths(random, &named, call.input.stations);
     let mut paths = Vec::new();
     for _ in 0..random.below(MOST_PATHS) {
         let (given, lent) = offered.expected(means);

@@ -12,6 +12,7 @@ mod partial;
 mod plans;
 mod rounds;
 mod stale;
+mod struck;
 mod tiny;
 
 use std::env;
@@ -27,7 +28,7 @@ const USAGE: &str = "usage:
   library round SEED         one round alone";
 
 /// What is compared: the tiny plans, some or all of their g and h; then the numbers against each other, plans in a
-/// band and the edges; then so many rounds. The first seed is of all of them.
+/// band, contacts that are struck out and the edges; then so many rounds. The first seed is of all of them.
 #[derive(Clone, Copy, Debug)]
 struct Extent {
     /// None where only rounds are compared.
@@ -92,7 +93,8 @@ fn told(comparison: &mut Comparison, extent: Extent) -> ExitCode {
     ExitCode::SUCCESS
 }
 
-/// The tiny plans, the numbers against each other, plans in a band, the edges, then the rounds.
+/// The tiny plans, the numbers against each other, plans in a band, contacts that are struck out, the edges, then the
+/// rounds.
 fn run(comparison: &mut Comparison, extent: Extent) -> Result<(), Difference> {
     let Extent { tiny, rounds, seed } = extent;
     let named = |name: String| move |text: Difference| format!("difference in {name}\n{text}");
@@ -101,6 +103,7 @@ fn run(comparison: &mut Comparison, extent: Extent) -> Result<(), Difference> {
         tiny.map_err(named(format!("tiny plans, seed {seed}")))?;
         causes::compare(comparison, seed).map_err(named(format!("causes, seed {seed}")))?;
         band::compare(comparison, seed).map_err(named(format!("bands, seed {seed}")))?;
+        struck::compare(comparison, seed).map_err(named(format!("struck out, seed {seed}")))?;
         edges::compare(comparison, seed).map_err(named(format!("edges, seed {seed}")))?;
     }
     for round in 0..rounds {

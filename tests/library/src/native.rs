@@ -68,6 +68,10 @@ pub fn run(call: &Call) -> Seen {
         .collect();
     let sets = call.lent.sets.iter();
     let mut sets: Vec<Guarded<u8>> = sets.map(|set| Guarded::new(set, 1)).collect();
+    let signed = call.lent.signed.iter();
+    let mut signed: Vec<Guarded<i64>> = signed
+        .map(|table| Guarded::new(table, -0x5A3C_F096_E1D2_4B78))
+        .collect();
     let mut values = Guarded::new(&call.values, 0x5A3C_F096);
     let mut plan = Guarded::new(call.input.bytes, 0xA5);
     let input = PlanInput {
@@ -75,7 +79,12 @@ pub fn run(call: &Call) -> Seen {
         ..call.input
     };
     let mut list = Guarded::new(&call.lent.list, 0x5AC3);
-    let tables = (&mut narrow[..], &mut wide[..], &mut sets[..]);
+    let tables = Tables {
+        narrow: &mut narrow,
+        wide: &mut wide,
+        sets: &mut sets,
+        signed: &mut signed,
+    };
     let number = answer(call, input, tables, list.lent(), values.lent());
     let outside_kept = plan.entries() == call.input.bytes
         && plan.kept()
@@ -83,6 +92,7 @@ pub fn run(call: &Call) -> Seen {
         && narrow.iter().all(Guarded::kept)
         && wide.iter().all(Guarded::kept)
         && sets.iter().all(Guarded::kept)
+        && signed.iter().all(Guarded::kept)
         && list.kept();
     Seen {
         number,
@@ -90,6 +100,7 @@ pub fn run(call: &Call) -> Seen {
             narrow: entries_of(&narrow),
             wide: entries_of(&wide),
             sets: entries_of(&sets),
+            signed: entries_of(&signed),
             list: list.entries().to_vec(),
         },
         values: values.entries().to_vec(),
@@ -103,21 +114,22 @@ fn entries_of<N: Copy + PartialEq>(tables: &[Guarded<N>]) -> Vec<Vec<N>> {
     entries.collect()
 }
 
-/// The lent parts: 16-bit tables, 64-bit tables and sets.
-type Tables<'a> = (
-    &'a mut [Guarded<u16>],
-    &'a mut [Guarded<u64>],
-    &'a mut [Guarded<u8>],
-);
+/// The lent parts: 16-bit tables, 64-bit tables, sets, and tables of 64 bits with a sign.
+struct Tables<'a> {
+    narrow: &'a mut [Guarded<u16>],
+    wide: &'a mut [Guarded<u64>],
+    sets: &'a mut [Guarded<u8>],
+    signed: &'a mut [Guarded<i64>],
+}
 
 /// The number that the library answers.
-fn answer(
-    call: &Call,
-    input: PlanInput,
-    (narrow, wide, sets): Tables,
-    list: &[u16],
-    values: &mut [u64],
-) -> u32 {
+fn answer(call: &Call, input: PlanInput, tables: Tables, list: &[u16], values: &mut [u64]) -> u32 {
+    let Tables {
+        narrow,
+        wide,
+        sets,
+        signed,
+    } = tables;
     let [s, z] = call.arguments;
     match (call.operation, narrow, wide, values) {
         (Operation::Check, [], [], []) => archive::check(input),
@@ -172,6 +184,10 @@ fn answer(
         (Operation::TakeIn | Operation::TakeOut, [table], [], []) => {
             let taking = call.operation.taking(s).expect("a taking");
             archive::take(taking, input, table.lent())
+        }
+        (Operation::StruckOut, [], [work], [pairs]) => {
+            let [position, _] = call.arguments;
+            archive::struck_out(input, position, pairs, signed[0].lent(), work.lent())
         }
         (operation, ..) => panic!("{operation:?} lends other tables"),
     }

@@ -3,7 +3,7 @@
 
 use lister::means::{Means, LISTED};
 use lister::operation::Operation;
-use lister::plan::MOST_STATIONS;
+use lister::plan::{PlanInput, MOST_STATIONS};
 use lister::plans::Owned;
 use lister::random::Random;
 
@@ -12,6 +12,7 @@ use crate::compare::{Comparison, Difference};
 use crate::lend::{self, Lengths};
 use crate::native::Seen;
 use crate::plans;
+use crate::struck;
 
 /// The two tables, and the most that one pair gives an entry.
 const TABLES: [(&str, u64); 2] = [("pairs", 1), ("load", 1 << 32)];
@@ -28,17 +29,18 @@ fn sources(random: &mut Random, stations: usize) -> usize {
     }
 }
 
-/// The numbers behind n, T, g and h of an operation on a plan of n stations: the stations given, or a number of sources
-/// or channels drawn.
+/// The numbers behind n, T, g and h of an operation on a plan: the stations given, or a number of sources, channels or a
+/// position drawn.
 pub fn arguments(
     random: &mut Random,
     operation: Operation,
-    stations: usize,
+    input: PlanInput,
     given: [usize; 2],
 ) -> [usize; 2] {
     match operation {
-        Operation::PartialLoads => [sources(random, stations), 0],
+        Operation::PartialLoads => [sources(random, input.stations), 0],
         Operation::TakeIn => [band::channels(random), 0],
+        Operation::StruckOut => [struck::position(random, input.bytes), 0],
         _ => given,
     }
 }

@@ -17,6 +17,7 @@ use crate::lend::{self, Lengths};
 use crate::lists;
 use crate::partial::{arguments, every_number};
 use crate::plans;
+use crate::struck::every_position;
 
 /// One round: a plan with g and h, calls of every operation on it, and traces; in some rounds a run on a band.
 pub fn compare(comparison: &mut Comparison, seed: u64) -> Result<(), Difference> {
@@ -75,8 +76,8 @@ fn taking(arguments: usize) -> impl Iterator<Item = Operation> {
     operations.filter(move |operation| operation.arguments() == arguments)
 }
 
-/// A small plan: every pair, with the verdict on what its listing gives, and every number of sources if the plan is
-/// accepted, and traces.
+/// A small plan: every pair, with the verdict on what its listing gives, every number of sources and every position if
+/// the plan is accepted, and traces.
 fn small_plan(
     comparison: &mut Comparison,
     random: &mut Random,
@@ -104,6 +105,7 @@ fn small_plan(
         }
     }
     every_number(comparison, random, owned)?;
+    every_position(comparison, random, owned)?;
     trace(comparison, random, owned)?;
     trace(comparison, random, owned)
 }
@@ -123,18 +125,18 @@ fn station(random: &mut Random, stations: usize) -> usize {
     }
 }
 
-/// Loads, partial loads and busiest are rarer on plans with more than so many records for all pairs together.
+/// Loads, partial loads, busiest and struck out are rarer on plans with more than so many records for all pairs together.
 const EVERY_PAIR: usize = 1_000_000;
 
-/// Whether loads, partial loads or busiest is drawn for a plan: the more work it is, the rarer.
+/// Whether loads, partial loads, busiest or struck out is drawn for a plan: the more work it is, the rarer.
 pub fn draw_loads(random: &mut Random, owned: &Owned) -> bool {
     let records = owned.bytes.len() / RECORD_BYTES;
     let work = owned.stations.min(MOST_STATIONS).pow(2) * records;
     random.below(1 + work / EVERY_PAIR) == 0
 }
 
-/// Each operation so many times, with stations or a number of sources drawn; check, loads, partial loads and
-/// busiest once at most.
+/// Each operation so many times, with stations, a number of sources or a position drawn; check, loads, partial loads,
+/// busiest and struck out once at most.
 pub fn some_calls(
     comparison: &mut Comparison,
     random: &mut Random,
@@ -145,14 +147,15 @@ pub fn some_calls(
     for operation in OPERATIONS {
         let times = match operation {
             Operation::Check => 1,
-            Operation::Loads | Operation::PartialLoads | Operation::Busiest => {
-                draw_loads(random, owned).into()
-            }
+            Operation::Loads
+            | Operation::PartialLoads
+            | Operation::Busiest
+            | Operation::StruckOut => draw_loads(random, owned).into(),
             _ => times,
         };
         for _ in 0..times {
             let stations = [0; 2].map(|_| station(random, owned.stations));
-            let arguments = arguments(random, operation, owned.stations, stations);
+            let arguments = arguments(random, operation, owned.input(), stations);
             one_call(comparison, random, owned, operation, arguments, means)?;
         }
     }
@@ -234,11 +237,8 @@ fn trace(
             }
             Step::Call(way, call) => (*way, call),
         };
-        let lengths = [
-            vec![call.buffer_length],
-            vec![call.scratch_length],
-            Vec::new(),
-        ];
+        let (buffer_length, scratch_length) = (call.buffer_length, call.scratch_length);
+        let lengths = [vec![buffer_length], vec![scratch_length], vec![], vec![]];
         let operation = match way {
             Way::First => Operation::FirstWay,
             Way::Next => Operation::NextWay,

@@ -20,6 +20,7 @@ use crate::lend::{self, Lengths};
 use crate::lists;
 use crate::partial::{arguments, every_number};
 use crate::stale::{self, Terms};
+use crate::struck::every_position;
 
 /// Compares all of them; the seed is of what the tables hold before.
 pub fn compare(comparison: &mut Comparison, seed: u64, terms: Terms) -> Result<(), Difference> {
@@ -124,7 +125,7 @@ fn every_argument(
     every_set(comparison, random, owned)
 }
 
-/// Every operation that reads a plan, from every station, for every pair; next way is offered the
+/// Every operation that reads a plan, from every station, for every pair, at every position; next way is offered the
 /// first walk, and the verdict is on the complete list.
 pub fn every_pair(
     comparison: &mut Comparison,
@@ -133,6 +134,7 @@ pub fn every_pair(
 ) -> Result<(), Difference> {
     let input = owned.input();
     every_number(comparison, random, owned)?;
+    every_position(comparison, random, owned)?;
     for operation in [Operation::Check, Operation::Busiest] {
         let call = lend::call(random, operation, input, [0, 0], Lengths::Named);
         comparison.compare(&call, LISTED)?;
@@ -160,15 +162,19 @@ pub fn every_pair(
     Ok(())
 }
 
-/// Every operation, with every station up to n and every number of sources up to n + 1.
+/// Every operation, with every station up to n, every number of sources up to n + 1, and every position.
 pub fn every_call(
     comparison: &mut Comparison,
     random: &mut Random,
     owned: &Owned,
 ) -> Result<(), Difference> {
     every_number(comparison, random, owned)?;
+    every_position(comparison, random, owned)?;
     for operation in OPERATIONS {
-        if matches!(operation, Operation::Loads | Operation::PartialLoads) {
+        if matches!(
+            operation,
+            Operation::Loads | Operation::PartialLoads | Operation::StruckOut
+        ) {
             continue;
         }
         let named = |place: usize| match operation.arguments() > place {
@@ -235,14 +241,14 @@ fn any_keeping(random: &mut Random) -> usize {
     [KEPT, KEPT, KEPT, KEPT, 1, 2, 3, 0, 256][random.below(9)]
 }
 
-/// The operations, from 0 to 1 and with a number of sources drawn.
+/// The operations, from 0 to 1 and with a number of sources or a position drawn.
 fn each_operation(
     comparison: &mut Comparison,
     random: &mut Random,
     input: PlanInput,
 ) -> Result<(), Difference> {
     for operation in OPERATIONS {
-        let arguments = arguments(random, operation, input.stations, [0, 1]);
+        let arguments = arguments(random, operation, input, [0, 1]);
         let call = lend::call(random, operation, input, arguments, Lengths::Named);
         comparison.compare(&call, LISTED)?;
     }
@@ -324,7 +330,7 @@ fn every_length(comparison: &mut Comparison, random: &mut Random) -> Result<(), 
                     let mut lengths = named.clone();
                     lengths[width][table] = length;
                     let input = owned.input();
-                    let arguments = arguments(random, operation, owned.stations, [0, 4]);
+                    let arguments = arguments(random, operation, input, [0, 4]);
                     let mut call = lend::call(random, operation, input, arguments, Lengths::Named);
                     call.lent = lend::of_lengths(random, &lengths, owned.stations);
                     band::draw(random, &mut call);

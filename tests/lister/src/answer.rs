@@ -40,6 +40,8 @@ pub enum CallFault {
     Channels,
     /// 16: after a taking out an entry would be below 0.
     Untaken,
+    /// 17: the position is not below the number of records.
+    Position,
 }
 
 /// A refusal, of the plan or of the call.
@@ -69,6 +71,7 @@ impl Refusal {
             Refusal::Call(CallFault::Keeping) => 14,
             Refusal::Call(CallFault::Channels) => 15,
             Refusal::Call(CallFault::Untaken) => 16,
+            Refusal::Call(CallFault::Position) => 17,
         }
     }
 }

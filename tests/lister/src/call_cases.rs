@@ -3,6 +3,8 @@
 use crate::files::case_bytes;
 use crate::means::Counting;
 use crate::plan::PlanInput;
+use crate::random::Random;
+use crate::reach_cases::other_length;
 
 /// What a case runs.
 pub trait Called: Copy {
@@ -15,11 +17,17 @@ pub trait Called: Copy {
     }
 
     /// The numbers behind g and h in the head of a case: stations, 0 for one that the operation does not name, or
-    /// the four parts of 16 bits of partial loads' k, the high one first.
+    /// the parts of partial loads' k or of struck out's position.
     fn words(self) -> Vec<u16>;
 
     /// The places, among the lengths, of the operation's tables.
     fn tables(self) -> Vec<usize>;
+}
+
+/// The four parts of 16 bits of a number, the high one first.
+pub fn parts(number: u64) -> Vec<u16> {
+    let part = |bits: u32| (number >> bits) as u16;
+    [48, 32, 16, 0].map(part).to_vec()
 }
 
 /// One call on lent tables.
@@ -55,6 +63,17 @@ impl<O: Called, const TABLES: usize> CallCase<O, TABLES> {
     pub fn with_length(mut self, table: usize, length: usize) -> Self {
         self.lengths[table] = length;
         self
+    }
+
+    /// The case of an index; every fourth has other lengths, some of them too short.
+    pub fn lent_near(self, random: &mut Random, index: usize) -> Self {
+        match index % 4 {
+            3 => {
+                let lengths = self.lengths.map(|named| other_length(random, named));
+                self.lent(lengths)
+            }
+            _ => self,
+        }
     }
 
     /// The case with entries behind those of the tables that the operation has.

@@ -1,4 +1,4 @@
-//! The causes of the call from 6 to 9 and from 11 to 16; those of the plan are in `plan`, 10 in `ways`.
+//! The causes of the call from 6 to 9 and from 11 to 17; those of the plan are in `plan`, 10 in `ways`.
 
 use crate::answer::{Answer, CallFault};
 use crate::plan::{Ends, Terms, KEPT, LEAST_TURNAROUND, MOST_TURNAROUND};
@@ -60,6 +60,11 @@ pub fn enough_channels(channels: u16, after: &[i64]) -> Answer<()> {
 /// Cause 16: no entry after a taking out is below 0. It is looked at after 8.
 pub fn none_untaken(after: &[i64]) -> Answer<()> {
     unless(after.iter().any(|entry| *entry < 0), CallFault::Untaken)
+}
+
+/// Cause 17: the position is that of a record. It is looked at after 8 and before 9.
+pub fn known_position(records: usize, position: usize) -> Answer<()> {
+    unless(position >= records, CallFault::Position)
 }
 
 /// Cause 9: none of the counts of a source is over the limit.

@@ -3,8 +3,8 @@
 //!
 //! Every walk from a source is listed, hop by hop; the shortest are picked by comparing lengths;
 //! a count is the length of a list. It serves as the other side of comparisons on small plans. The
-//! modules `fast`, `fast_pairs`, `fast_avoiding`, `fast_sets` and `fast_ways` alone list no walk; they
-//! serve plans with too many.
+//! modules `fast`, `fast_pairs`, `fast_avoiding`, `fast_sets`, `fast_struck` and `fast_ways` alone list no
+//! walk; they serve plans with too many.
 //!
 //! The words here, and document 01's where they differ:
 //!
@@ -40,6 +40,7 @@ pub mod fast;
 pub mod fast_avoiding;
 pub mod fast_pairs;
 pub mod fast_sets;
+pub mod fast_struck;
 pub mod fast_ways;
 pub mod files;
 pub mod foremost;
@@ -68,6 +69,8 @@ pub mod sets;
 pub mod shortest;
 pub mod show;
 pub mod stale;
+pub mod struck;
+pub mod struck_cases;
 pub mod traces;
 pub mod turned;
 pub mod verdict_cases;

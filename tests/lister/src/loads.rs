@@ -30,7 +30,7 @@ fn lowest_of_the_largest(loads: &[Load]) -> usize {
 impl Means {
     /// Pairs and load of every station of an accepted plan over the ordered pairs whose source is below a
     /// number, or cause 9 of such a source.
-    fn loads_from(self, plan: &Plan, sources: usize) -> Answer<Vec<Load>> {
+    pub fn loads_from(self, plan: &Plan, sources: usize) -> Answer<Vec<Load>> {
         let mut loads = vec![Load::default(); plan.stations];
         let mut pairs_from = self.pairs_from(plan);
         for source in 0..sources {

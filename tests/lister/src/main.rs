@@ -9,11 +9,12 @@ use lister::load_program::load_text;
 use lister::means::LISTED;
 use lister::plan::{PlanInput, KEPT};
 use lister::show::{
-    foremost_text, loads_text, pair_text, partial_text, reach_text, set_text, text_of, verdict_text,
+    foremost_text, loads_text, pair_text, partial_text, reach_text, set_text, struck_text, text_of,
+    verdict_text,
 };
 use lister::{
     band_cases, cases, foremost_cases, load_cases, pair_cases, partial_cases, program, reach_cases,
-    set_cases, verdict_cases, way_cases,
+    set_cases, struck_cases, verdict_cases, way_cases,
 };
 
 const USAGE: &str = "usage:
@@ -29,6 +30,7 @@ const USAGE: &str = "usage:
   lister partial-cases DIR       write DIR/stdin and DIR/stdout, cases of partial loads
   lister verdict-cases DIR       write DIR/stdin and DIR/stdout, cases of the verdict
   lister band-cases DIR          write DIR/stdin and DIR/stdout, cases of take in and take out
+  lister struck-cases DIR        write DIR/stdin and DIR/stdout, cases of struck out
   lister show n T g h s z < plan
       hops, count, through counts and shortest walks of s, z with turnaround g, where a reading is kept for h slots
   lister foremost n T g s z < plan
@@ -37,6 +39,8 @@ const USAGE: &str = "usage:
   lister loads n T g h < plan    pairs and load of each station
   lister partial n T g h k < plan
       the same over the sources below k, and what the loads may be more
+  lister struck n T g h position < plan
+      how many pairs use the contact at the position, and the changes of load without it
   lister set n T g h s z V.. < plan
       how many shortest walks of s, z have one of the stations V interior
   lister verdict n T g h s z P.. < plan
@@ -63,6 +67,7 @@ fn run(words: &[&str]) -> Result<(), String> {
         ["partial-cases", directory] => write_files(directory, &partial_cases::all_cases()),
         ["verdict-cases", directory] => write_files(directory, &verdict_cases::all_cases()),
         ["band-cases", directory] => write_files(directory, &band_cases::all_cases()),
+        ["struck-cases", directory] => write_files(directory, &struck_cases::all_cases()),
         ["show", n, t, g, h, source, destination] => {
             let ends = (decimal(source)?, decimal(destination)?);
             print_for_plan([n, t, g, h], |input| text_of(pair_text(input, ends)))
@@ -80,6 +85,10 @@ fn run(words: &[&str]) -> Result<(), String> {
         ["partial", n, t, g, h, sources] => {
             let sources = decimal(sources)?;
             print_for_plan([n, t, g, h], |input| text_of(partial_text(input, sources)))
+        }
+        ["struck", n, t, g, h, position] => {
+            let position = decimal(position)?;
+            print_for_plan([n, t, g, h], |input| text_of(struck_text(input, position)))
         }
         [word @ ("set" | "verdict"), n, t, g, h, source, destination, further @ ..] => {
             let ends = (decimal(source)?, decimal(destination)?);

@@ -30,12 +30,13 @@ pub enum Operation {
     Verdict,
     TakeIn,
     TakeOut,
+    StruckOut,
 }
 
 use Operation::*;
 
 /// All operations.
-pub const OPERATIONS: [Operation; 15] = [
+pub const OPERATIONS: [Operation; 16] = [
     Check,
     Reach,
     Row,
@@ -51,6 +52,7 @@ pub const OPERATIONS: [Operation; 15] = [
     Verdict,
     TakeIn,
     TakeOut,
+    StruckOut,
 ];
 
 /// The C interface's number of first way's answer "none".
@@ -73,6 +75,7 @@ impl Operation {
             PartialLoads => &[1, 2, 3, 4, 5, 12, 14, 13, 8, 9],
             TakeIn => &[1, 2, 3, 4, 5, 8, 15],
             TakeOut => &[1, 2, 3, 4, 5, 8, 16],
+            StruckOut => &[1, 2, 3, 4, 5, 12, 14, 8, 17, 9],
         }
     }
 
@@ -87,12 +90,12 @@ impl Operation {
         [0].into_iter().chain(refused).chain(further).collect()
     }
 
-    /// How many numbers a call has behind n, T, g and h: the stations that it names, partial loads' k, or take in's
-    /// c.
+    /// How many numbers a call has behind n, T, g and h: the stations that it names, partial loads' k, take in's c, or
+    /// struck out's position.
     pub fn arguments(self) -> usize {
         match self {
             Check | Loads | Busiest | TakeOut => 0,
-            Reach | Row | RowNumber | PartialLoads | TakeIn => 1,
+            Reach | Row | RowNumber | PartialLoads | TakeIn | StruckOut => 1,
             Pair | FirstWay | NextWay | ThroughSet | Foremost | Verdict => 2,
         }
     }
@@ -117,7 +120,15 @@ impl Operation {
             Row | RowNumber => vec![table],
             Pair | Foremost => vec![stations, scratch],
             Loads | PartialLoads => vec![stations, stations, scratch],
-            Busiest | FirstWay | NextWay | ThroughSet | Verdict => vec![scratch],
+            Busiest | FirstWay | NextWay | ThroughSet | Verdict | StruckOut => vec![scratch],
+        }
+    }
+
+    /// The named lengths of its 64-bit tables of entries with a sign.
+    pub fn signed(self, stations: usize) -> Vec<usize> {
+        match self {
+            StruckOut => vec![stations],
+            _ => Vec::new(),
         }
     }
 
@@ -164,6 +175,7 @@ impl Operation {
             ThroughSet => &["count"],
             Foremost => &["slot", "hops", "count"],
             Verdict => &["verdict"],
+            StruckOut => &["pairs"],
         }
     }
 }
@@ -173,6 +185,8 @@ impl Operation {
 pub struct Lent {
     pub narrow: Vec<Vec<u16>>,
     pub wide: Vec<Vec<u64>>,
+    /// The tables of 64-bit entries with a sign.
+    pub signed: Vec<Vec<i64>>,
     /// The sets of stations, which are only read.
     pub sets: Vec<Vec<u8>>,
     /// The list of positions, which is only read; empty where the operation takes none.
@@ -211,8 +225,8 @@ pub fn way_hops(answer: &Answer<Found>) -> u64 {
 }
 
 impl Means {
-    /// Makes a call on lent tables. The arguments are the one station, source and destination, k, or c; further
-    /// ones are not read.
+    /// Makes a call on lent tables. The arguments are the one station, source and destination, k, c, or the position;
+    /// further ones are not read.
     pub fn call(
         self,
         operation: Operation,
@@ -290,6 +304,11 @@ impl Means {
             (TakeIn | TakeOut, [table], []) => {
                 let taking = operation.taking(station).expect("a taking");
                 Answered::new(&taking.take(input, table), &[])
+            }
+            (StruckOut, [], [scratch]) => {
+                let [position, _] = arguments;
+                let answer = self.struck_out(input, position, &mut lent.signed[0], scratch);
+                Answered::new(&answer, &[beside(&answer)])
             }
             (operation, _, _) => panic!("{operation:?} lends other tables"),
         }

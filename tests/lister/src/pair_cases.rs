@@ -29,7 +29,7 @@ mod turnarounds;
 use std::mem;
 
 use crate::answer::{beside, number};
-use crate::call_cases::{CallCase, Called};
+use crate::call_cases::{parts, CallCase, Called};
 use crate::cases::{plan_bytes, Record};
 use crate::files::Filed;
 use crate::foremost::ForemostValues;
@@ -41,7 +41,7 @@ use crate::reach_cases::{counts_text, Builder};
 
 pub use ladders::cases as ladder_cases;
 pub use limits::{cases as limit_cases, counted_where_large, dense, BLOCKS};
-pub use refusals::cases as refusal_cases;
+pub use refusals::{cases as refusal_cases, faulty_plans, near_lengths};
 pub use shares::{cases as share_cases, mixed_ladders, MixedLadder};
 pub use small::{cases as small_cases, checked_plans, small_plans};
 pub use ties::{TiedPlan, TIED_PLANS};
@@ -108,10 +108,7 @@ impl Called for Operation {
                 vec![source, destination]
             }
             Operation::Loads | Operation::Busiest => vec![0, 0],
-            Operation::PartialLoads(sources) => {
-                let part = |bits: u32| (sources >> bits) as u16;
-                [48, 32, 16, 0].map(part).to_vec()
-            }
+            Operation::PartialLoads(sources) => parts(sources),
         }
     }
 
@@ -271,11 +268,16 @@ impl LabelledPlan {
         }
     }
 
-    /// A case of an operation, on memory of exactly the named lengths.
-    pub fn case(&self, operation: Operation) -> Case {
+    /// A case of an operation, with words behind the label, on memory of some lengths.
+    pub fn called<O, const TABLES: usize>(
+        &self,
+        operation: O,
+        words: &str,
+        lengths: [usize; TABLES],
+    ) -> CallCase<O, TABLES> {
         let (stations, slots) = self.sizes;
-        Case {
-            label: format!("{}, {}", self.label, operation.text()),
+        CallCase {
+            label: format!("{}, {words}", self.label),
             operation,
             stations,
             slots,
@@ -283,10 +285,15 @@ impl LabelledPlan {
             keeping: self.keeping,
             bytes: self.bytes.clone(),
             mark: 999,
-            lengths: operation.named(self.sizes),
+            lengths,
             counting: self.counting,
             stated: None,
         }
+    }
+
+    /// A case of an operation, on memory of exactly the named lengths.
+    pub fn case(&self, operation: Operation) -> Case {
+        self.called(operation, &operation.text(), operation.named(self.sizes))
     }
 
     fn pair(&self, source: u16, destination: u16) -> Case {

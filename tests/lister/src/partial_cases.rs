@@ -16,6 +16,9 @@ mod small;
 mod stale;
 mod too_many;
 
+pub use examples::plans_by_hand;
+pub use limits::loads_of_blocks;
+
 use crate::pair_cases::{
     ladder_cases, limit_cases, refusal_cases, share_cases, Case, LabelledPlan, Operation,
 };

@@ -3,7 +3,7 @@
 use crate::cases::{doubled, plan_bytes, Record};
 use crate::lent;
 use crate::means::COUNT_LIMIT;
-use crate::plan::{Ends, PlanInput, KEPT, LEAST_TURNAROUND};
+use crate::plan::{Ends, PlanInput, KEPT, LEAST_TURNAROUND, RECORD_BYTES};
 use crate::random::Random;
 use crate::reach_cases::Builder;
 use crate::ways::{walks_of_call, WayCall};
@@ -69,6 +69,19 @@ impl Owned {
     /// The plan of units that drop a reading so many slots after hearing it.
     pub fn keeping_for(self, keeping: usize) -> Owned {
         Owned { keeping, ..self }
+    }
+
+    /// The plan without the six bytes of the record at a position.
+    pub fn without(&self, position: usize) -> Owned {
+        let mut owned = self.clone();
+        let from = RECORD_BYTES * position;
+        owned.bytes.drain(from..from + RECORD_BYTES);
+        owned
+    }
+
+    /// The number of records.
+    pub fn records(&self) -> usize {
+        self.bytes.len() / RECORD_BYTES
     }
 
     pub fn input(&self) -> PlanInput<'_> {

@@ -21,6 +21,8 @@ mod small;
 mod stale;
 mod turnarounds;
 
+use std::fmt::Display;
+
 use crate::answer::number;
 use crate::call_cases::{CallCase, Called};
 use crate::cases::{plan_bytes, Record};
@@ -205,7 +207,7 @@ pub fn counts_text(table: &[u64]) -> String {
 }
 
 /// The runs of a table, but those of one value.
-fn runs_text(table: &[u64], left_out: u64) -> String {
+pub fn runs_text<N: Copy + Display + PartialEq>(table: &[N], left_out: N) -> String {
     let mut text = " |".to_string();
     let mut from = 0;
     for run in table.chunk_by(|one, other| one == other) {

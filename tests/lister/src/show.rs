@@ -1,4 +1,4 @@
-//! The texts of the subcommands show, foremost, loads, partial, reach, set and verdict.
+//! The texts of the subcommands show, foremost, loads, partial, struck, reach, set and verdict.
 
 use crate::answer::Answer;
 use crate::foremost::ForemostValues;
@@ -117,6 +117,18 @@ pub fn partial_text(input: PlanInput, sources: usize) -> Answer<String> {
     let (pairs, loads) = (spaced(&pairs), spaced(&loads));
     Ok(format!(
         "sources {sources} span {span}\npairs {pairs}\nloads {loads}\n"
+    ))
+}
+
+/// The position and how many pairs use its contact, then a line of the changes of load without it.
+pub fn struck_text(input: PlanInput, position: usize) -> Answer<String> {
+    let plan = read(input)?;
+    let mut changes = vec![0; plan.stations];
+    let mut scratch = vec![0; scratch_length(plan.stations, plan.slots)];
+    let pairs = LISTED.struck_out(input, position, &mut changes, &mut scratch)?;
+    let changes = spaced(&changes);
+    Ok(format!(
+        "position {position} pairs {pairs}\nchanges {changes}\n"
     ))
 }
 

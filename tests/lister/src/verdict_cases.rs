@@ -77,22 +77,13 @@ impl LabelledPlan {
     /// A case of a pair and a list, on a scratch of exactly the named length.
     fn judged(&self, (source, destination): (u16, u16), (words, list): NearList) -> Case {
         let (stations, slots) = self.sizes;
-        let call = Call {
-            label: format!("{}, {source} to {destination}, {words}", self.label),
-            operation: Judged {
-                source,
-                destination,
-            },
-            stations,
-            slots,
-            turnaround: self.turnaround,
-            keeping: self.keeping,
-            bytes: self.bytes.clone(),
-            mark: 999,
-            lengths: [scratch_length(stations.into(), slots.into())],
-            counting: self.counting,
-            stated: None,
+        let lengths = [scratch_length(stations.into(), slots.into())];
+        let operation = Judged {
+            source,
+            destination,
         };
+        let words = format!("{source} to {destination}, {words}");
+        let call = self.called(operation, &words, lengths);
         Case { call, list }
     }
 
@@ -102,7 +93,7 @@ impl LabelledPlan {
     }
 
     /// The number of records.
-    fn records(&self) -> u16 {
+    pub fn records(&self) -> u16 {
         (self.bytes.len() / RECORD_BYTES) as u16
     }
 

@@ -1,6 +1,7 @@
 -- `foremost::appearance_too_many` meets its contract.
 -- Assumes nothing.
 use Rattle.pass.specs.Column.{columnOf}
+use Rattle.forward.proofs.UseLaws.{columns-whole}
 use Rattle.foremost.proofs.WorkLaws.{appearances-pass, appearances-met}
 use borrow.Author.Needs.{needs}
 use Rattle.foremost.proofs.appearance_too_many.Statement.{statement}
@@ -26,7 +27,7 @@ same-length c = search needs
 
 returns : tie.Need-returns
 unfolding columnOf
-returns c = appearances-met _ _ _ _ _ _ (c .before .before .before .before .before .before .before .before .pre) _ _ _ (c .before .before .before .pass-columns .ensures) (c .met-appearance .ensures)
+returns c = appearances-met _ _ _ _ _ _ (c .before .before .before .before .before .before .before .before .pre) _ _ _ (columns-whole _ _ _ _ _ _ _ _ _ _ _ _ (c .before .before .before .pass-columns .ensures)) (c .met-appearance .ensures)
 
 pub appearance-too-many-spec : {M : Type 1} → statement M
 appearance-too-many-spec =

@@ -1,21 +1,18 @@
--- `forward::pass` meets its contract: the pass for a block that waits for no station.
+-- `forward::pass` meets its contract: no record is left out.
 -- Assumes nothing.
-use Rattle.forward.proofs.UseLaws.{block-passed, block-ready}
+use Rattle.forward.proofs.UseLaws.{pass-whole, passed-whole}
 use borrow.Author.Needs.{needs}
 use Rattle.forward.proofs.pass.Statement.{statement}
 use Rattle.forward.proofs.pass.Tie as tie
 
-pass-until-requires : tie.Need-pass-until-requires
-pass-until-requires c κs = block-ready _ _ _ _ _ _ _ _ _ (c .before .before .before .pre)
-
-over-requires : tie.Need-over-requires
-over-requires c κs = search needs
+pass-without-requires : tie.Need-pass-without-requires
+pass-without-requires c κs = pass-whole _ _ _ _ _ _ _ _ _ (c .before .before .before .pre)
 
 same-length : tie.Need-same-length
 same-length c = search needs
 
 returns : tie.Need-returns
-returns c = block-passed _ _ _ _ _ _ _ _ _ _ _ _ (c .before .before .before .before .before .before .before .pre) (c .before .before .before .pass-until .ensures) (c .over .ensures)
+returns c = passed-whole _ _ _ _ _ _ _ _ _ _ _ (c .before .before .pass-without .ensures)
 
 pub pass-spec : {M : Type 1} → statement M
-pass-spec = tie.close (tie.spec pass-until-requires over-requires same-length returns)
+pass-spec = tie.close (tie.spec pass-without-requires same-length returns)

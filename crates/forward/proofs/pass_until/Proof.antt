@@ -1,6 +1,7 @@
 -- `forward::pass_until` meets its contract: the pass with a column for each station of the block.
 -- Assumes nothing.
 use Rattle.pass.specs.Column.{columnOf}
+use Rattle.forward.proofs.UseLaws.{until-whole, columns-whole}
 use borrow.Author.Needs.{needs}
 use Rattle.forward.proofs.pass_until.Statement.{statement}
 use Rattle.forward.proofs.pass_until.Tie as tie
@@ -15,14 +16,14 @@ part-pass-slots-end : tie.Need-part-pass-slots-end
 part-pass-slots-end c = search needs
 
 pass-slots-requires : tie.Need-pass-slots-requires
-pass-slots-requires c κs = search needs
+pass-slots-requires c κs = until-whole _ _ _ _ _ _ _ _ _ (c .before .before .before .before .pre)
 
 same-length : tie.Need-same-length
 same-length c = search needs
 
 returns : tie.Need-returns
 unfolding columnOf
-returns c = c .before .before .pass-slots .ensures
+returns c = columns-whole _ _ _ _ _ _ _ _ _ _ _ _ (c .before .before .pass-slots .ensures)
 
 pub pass-until-spec : {M : Type 1} → statement M
 pass-until-spec =

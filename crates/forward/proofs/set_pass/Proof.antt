@@ -1,12 +1,12 @@
 -- `forward::set_pass` meets its contract: the pass with one column for the members of the set.
 -- Assumes nothing.
-use Rattle.forward.proofs.UseLaws.{set-passed, set-ready}
+use Rattle.forward.proofs.UseLaws.{set-passed, set-ready, until-whole, columns-whole}
 use borrow.Author.Needs.{needs}
 use Rattle.forward.proofs.set_pass.Statement.{statement}
 use Rattle.forward.proofs.set_pass.Tie as tie
 
 pass-slots-requires : tie.Need-pass-slots-requires
-pass-slots-requires c κs = set-ready _ _ _ _ _ _ _ (c .before .before .before .before .pre)
+pass-slots-requires c κs = until-whole _ _ _ _ _ _ _ _ _ (set-ready _ _ _ _ _ _ _ (c .before .before .before .before .pre))
 
 over-requires : tie.Need-over-requires
 over-requires c κs = search needs
@@ -15,7 +15,7 @@ same-length : tie.Need-same-length
 same-length c = search needs
 
 returns : tie.Need-returns
-returns c = set-passed _ _ _ _ _ _ _ _ _ _ _ (c .before .before .before .before .before .before .before .before .pre) (c .before .before .before .pass-slots .ensures) (c .over .ensures)
+returns c = set-passed _ _ _ _ _ _ _ _ _ _ _ (c .before .before .before .before .before .before .before .before .pre) (columns-whole _ _ _ _ _ _ _ _ _ _ _ _ (c .before .before .before .pass-slots .ensures)) (c .over .ensures)
 
 pub set-pass-spec : {M : Type 1} → statement M
 set-pass-spec = tie.close (tie.spec pass-slots-requires over-requires same-length returns)

@@ -7,6 +7,7 @@ use native.Mathlib.Omega.{arith}
 use mathlib.Core.Path.{sym, _∙_}
 use Rattle.temporal.specs.Plan.{units}
 use Rattle.temporal.specs.Bytes.{records}
+use Rattle.temporal.specs.Struck.{lackingRecord}
 use Rattle.temporal.proofs.Accepted.{accepted}
 use Rattle.plan.proofs.SlotLaws.{in-slot-inv}
 use Rattle.pass.specs.Column.{columnOf}
@@ -19,11 +20,11 @@ use Rattle.pass.proofs.pass_columns.Statement.{statement}
 use Rattle.pass.proofs.pass_columns.Tie as tie
 
 abbrev Inv-loop : tie.InvT-loop
-Inv-loop work₀ plan n t g h source columns set block until q base₀ u₀ j₀ work base u j =
-    Passing plan n t (units g h) source until (columnOf columns set block) block q work₀ base u j work
+Inv-loop work₀ plan out n t g h source columns set block until q base₀ u₀ j₀ work base u j =
+    Passing (lackingRecord plan out) n t (units g h) source until (columnOf columns set block) block q work₀ base u j work
 
 abbrev μ-loop : tie.MeasureT-loop
-μ-loop work₀ plan n t g h source columns set block until q base₀ u₀ j₀ work base u j = (t + q - u) + (records plan - j)
+μ-loop work₀ plan out n t g h source columns set block until q base₀ u₀ j₀ work base u j = (t + q - u) + (records (lackingRecord plan out) - j)
 
 smaller-requires : tie.Need-smaller-requires Inv-loop μ-loop
 smaller-requires c κs = search needs
@@ -40,20 +41,20 @@ loop-holds c = passing-begun _ _ _ _ _ _ _ _ _ _ _ (c .before .before .before .b
 add-loop : tie.Need-add-loop Inv-loop μ-loop
 add-loop c = omega (arith, accepted _ _ _ (c .before .before .before .before .before .before .before .before .before .before .pre .accepted) .slots, c .before .before .before .before .before .before .smaller .ensures)
 
-in-slot-requires : tie.Need-in-slot-requires Inv-loop μ-loop
-in-slot-requires c κs = search needs
+kept-in-slot-requires : tie.Need-kept-in-slot-requires Inv-loop μ-loop
+kept-in-slot-requires c κs = search needs
 
 fold-record-requires : tie.Need-fold-record-requires Inv-loop μ-loop
-fold-record-requires c κs = let ready = ready-begun _ _ _ _ _ _ _ _ _ _ (c .before .before .before .before .before .before .before .before .before .before .smaller .ensures) (c .before .before .before .before .before .before .before .before .before .before .before .before .before .before .pre) (c .before .before .before .before .before .before .before .before .begin .ensures) in passing-foldable _ _ _ _ _ _ _ _ _ ready _ (c .before .before .before .before .before .before .before .before .before .before .smaller .ensures) _ _ _ _ (c .before .before .before .before .loop .inv) (sym (c .before .before .in-slot .ensures) ∙ c .before .if1 .taken)
+fold-record-requires c κs = let ready = ready-begun _ _ _ _ _ _ _ _ _ _ (c .before .before .before .before .before .before .before .before .before .before .smaller .ensures) (c .before .before .before .before .before .before .before .before .before .before .before .before .before .before .pre) (c .before .before .before .before .before .before .before .before .begin .ensures) in passing-foldable _ _ _ _ _ _ _ _ _ ready _ (c .before .before .before .before .before .before .before .before .before .before .smaller .ensures) _ _ _ _ (c .before .before .before .before .loop .inv) (sym (c .before .before .kept-in-slot .ensures) ∙ c .before .if1 .taken)
 
 add-j : tie.Need-add-j Inv-loop μ-loop
-add-j c = let (there, slot) = in-slot-inv _ _ _ (sym (c .before .before .before .before .before .in-slot .ensures) ∙ c .before .before .before .before .if1 .taken) in omega (arith, accepted _ _ _ (c .before .before .before .before .before .before .before .before .before .before .before .before .before .before .before .before .before .pre .accepted) .few)
+add-j c = let (there, slot) = in-slot-inv _ _ _ (sym (c .before .before .before .before .before .kept-in-slot .ensures) ∙ c .before .before .before .before .if1 .taken) in omega (arith, accepted _ _ _ (c .before .before .before .before .before .before .before .before .before .before .before .before .before .before .before .before .before .pre .accepted) .few)
 
 loop-less : tie.Need-loop-less Inv-loop μ-loop
-loop-less c = let (there, slot) = in-slot-inv _ _ _ (sym (c .before .before .before .before .before .in-slot .ensures) ∙ c .before .before .before .before .if1 .taken) in omega arith
+loop-less c = let (there, slot) = in-slot-inv _ _ _ (sym (c .before .before .before .before .before .kept-in-slot .ensures) ∙ c .before .before .before .before .if1 .taken) in omega arith
 
 loop-again : tie.Need-loop-again Inv-loop μ-loop
-loop-again c = let ready = ready-begun _ _ _ _ _ _ _ _ _ _ (c .before .before .before .before .before .before .before .before .before .before .before .before .before .smaller .ensures) (c .before .before .before .before .before .before .before .before .before .before .before .before .before .before .before .before .before .pre) (c .before .before .before .before .before .before .before .before .before .before .before .begin .ensures) in rw (c .before .before .fold-record .ensures) (passing-fold _ _ _ _ _ _ _ _ _ ready _ (c .before .before .before .before .before .before .before .before .before .before .before .before .before .smaller .ensures) _ _ _ _ (c .before .before .before .before .before .before .before .loop .inv) (sym (c .before .before .before .before .before .in-slot .ensures) ∙ c .before .before .before .before .if1 .taken))
+loop-again c = let ready = ready-begun _ _ _ _ _ _ _ _ _ _ (c .before .before .before .before .before .before .before .before .before .before .before .before .before .smaller .ensures) (c .before .before .before .before .before .before .before .before .before .before .before .before .before .before .before .before .before .pre) (c .before .before .before .before .before .before .before .before .before .before .before .begin .ensures) in rw (c .before .before .fold-record .ensures) (passing-fold _ _ _ _ _ _ _ _ _ ready _ (c .before .before .before .before .before .before .before .before .before .before .before .before .before .smaller .ensures) _ _ _ _ (c .before .before .before .before .before .before .before .loop .inv) (sym (c .before .before .before .before .before .kept-in-slot .ensures) ∙ c .before .before .before .before .if1 .taken))
 
 add-u : tie.Need-add-u Inv-loop μ-loop
 add-u c = omega (arith, accepted _ _ _ (c .before .before .before .before .before .before .before .before .before .before .before .before .before .pre .accepted) .slots, c .before .before .before .before .before .before .before .before .before .smaller .ensures)
@@ -62,37 +63,37 @@ part-at-requires-2 : tie.Need-part-at-requires-2 Inv-loop μ-loop
 part-at-requires-2 c κs = let area = ready-area _ _ _ _ _ _ _ _ (c .before .before .before .before .before .before .before .before .before .before .before .before .before .pre) in rw (c .before .before .before .before .before .before .before .before .before .smaller .ensures) (area .parts, omega (arith, area .fits, c .before .before .before .before .before .before .before .before .before .before .before .before .before .good .0 .0))
 
 settle-requires : tie.Need-settle-requires Inv-loop μ-loop
-settle-requires c κs = let ready = ready-begun _ _ _ _ _ _ _ _ _ _ (c .before .before .before .before .before .before .before .before .before .before .before .before .smaller .ensures) (c .before .before .before .before .before .before .before .before .before .before .before .before .before .before .before .before .pre) (c .before .before .before .before .before .before .before .before .before .before .begin .ensures) in settle-part _ _ _ _ _ _ _ _ _ ready _ (c .before .before .before .before .before .before .before .before .before .before .before .before .smaller .ensures) _ _ _ _ (c .before .before .before .before .before .before .loop .inv) (sym (c .before .before .before .before .in-slot .ensures) ∙ c .before .before .before .if1 .left) _ (c .before .before .part-at2 .ensures) (c .before .if2 .taken) (c .before .before .before .before .before .loop-test .taken)
+settle-requires c κs = let ready = ready-begun _ _ _ _ _ _ _ _ _ _ (c .before .before .before .before .before .before .before .before .before .before .before .before .smaller .ensures) (c .before .before .before .before .before .before .before .before .before .before .before .before .before .before .before .before .pre) (c .before .before .before .before .before .before .before .before .before .before .begin .ensures) in settle-part _ _ _ _ _ _ _ _ _ ready _ (c .before .before .before .before .before .before .before .before .before .before .before .before .smaller .ensures) _ _ _ _ (c .before .before .before .before .before .before .loop .inv) (sym (c .before .before .before .before .kept-in-slot .ensures) ∙ c .before .before .before .if1 .left) _ (c .before .before .part-at2 .ensures) (c .before .if2 .taken) (c .before .before .before .before .before .loop-test .taken)
 
 same-length : tie.Need-same-length Inv-loop μ-loop
-same-length c = let ready = ready-begun _ _ _ _ _ _ _ _ _ _ (c .before .before .before .before .before .before .before .before .before .before .before .before .before .before .before .before .smaller .ensures) (c .before .before .before .before .before .before .before .before .before .before .before .before .before .before .before .before .before .before .before .before .pre) (c .before .before .before .before .before .before .before .before .before .before .before .before .before .before .begin .ensures) in next-length _ _ _ _ _ _ _ _ _ ready _ (c .before .before .before .before .before .before .before .before .before .before .before .before .before .before .before .before .smaller .ensures) _ _ _ _ (c .before .before .before .before .before .before .before .before .before .before .loop .inv) (sym (c .before .before .before .before .before .before .before .before .in-slot .ensures) ∙ c .before .before .before .before .before .before .before .if1 .left) _ (c .before .before .before .before .before .before .part-at2 .ensures) (c .before .before .before .before .before .if2 .taken) (c .before .before .before .before .before .before .before .before .before .loop-test .taken) _ _ (c .before .before .before .settle .ensures) ∙ c .before .before .before .before .before .before .before .before .before .before .before .before .before .before .begin .kept .0
+same-length c = let ready = ready-begun _ _ _ _ _ _ _ _ _ _ (c .before .before .before .before .before .before .before .before .before .before .before .before .before .before .before .before .smaller .ensures) (c .before .before .before .before .before .before .before .before .before .before .before .before .before .before .before .before .before .before .before .before .pre) (c .before .before .before .before .before .before .before .before .before .before .before .before .before .before .begin .ensures) in next-length _ _ _ _ _ _ _ _ _ ready _ (c .before .before .before .before .before .before .before .before .before .before .before .before .before .before .before .before .smaller .ensures) _ _ _ _ (c .before .before .before .before .before .before .before .before .before .before .loop .inv) (sym (c .before .before .before .before .before .before .before .before .kept-in-slot .ensures) ∙ c .before .before .before .before .before .before .before .if1 .left) _ (c .before .before .before .before .before .before .part-at2 .ensures) (c .before .before .before .before .before .if2 .taken) (c .before .before .before .before .before .before .before .before .before .loop-test .taken) _ _ (c .before .before .before .settle .ensures) ∙ c .before .before .before .before .before .before .before .before .before .before .before .before .before .before .begin .kept .0
 
 returns : tie.Need-returns Inv-loop μ-loop
-returns c = let ready = ready-begun _ _ _ _ _ _ _ _ _ _ (c .before .before .before .before .before .before .before .before .before .before .before .before .before .before .before .before .smaller .ensures) (c .before .before .before .before .before .before .before .before .before .before .before .before .before .before .before .before .before .before .before .before .pre) (c .before .before .before .before .before .before .before .before .before .before .before .before .before .before .begin .ensures) in passed-entry _ _ _ _ _ _ _ _ _ _ _ (c .before .before .before .before .before .before .before .before .before .before .before .before .before .before .before .before .smaller .ensures) (c .before .before .before .before .before .before .before .before .before .before .before .before .before .before .before .before .before .before .before .before .pre) (c .before .before .before .before .before .before .before .before .before .before .before .before .before .before .begin .ensures) _ _ (passed-over _ _ _ _ _ _ _ _ _ ready _ (c .before .before .before .before .before .before .before .before .before .before .before .before .before .before .before .before .smaller .ensures) _ _ _ _ (c .before .before .before .before .before .before .before .before .before .before .loop .inv) (sym (c .before .before .before .before .before .before .before .before .in-slot .ensures) ∙ c .before .before .before .before .before .before .before .if1 .left) _ (c .before .before .before .before .before .before .part-at2 .ensures) (c .before .before .before .before .before .if2 .taken) (c .before .before .before .before .before .before .before .before .before .loop-test .taken) _ _ (c .before .before .before .settle .ensures) (c .if3 .taken))
+returns c = let ready = ready-begun _ _ _ _ _ _ _ _ _ _ (c .before .before .before .before .before .before .before .before .before .before .before .before .before .before .before .before .smaller .ensures) (c .before .before .before .before .before .before .before .before .before .before .before .before .before .before .before .before .before .before .before .before .pre) (c .before .before .before .before .before .before .before .before .before .before .before .before .before .before .begin .ensures) in passed-entry _ _ _ _ _ _ _ _ _ _ _ (c .before .before .before .before .before .before .before .before .before .before .before .before .before .before .before .before .smaller .ensures) (c .before .before .before .before .before .before .before .before .before .before .before .before .before .before .before .before .before .before .before .before .pre) (c .before .before .before .before .before .before .before .before .before .before .before .before .before .before .begin .ensures) _ _ (passed-over _ _ _ _ _ _ _ _ _ ready _ (c .before .before .before .before .before .before .before .before .before .before .before .before .before .before .before .before .smaller .ensures) _ _ _ _ (c .before .before .before .before .before .before .before .before .before .before .loop .inv) (sym (c .before .before .before .before .before .before .before .before .kept-in-slot .ensures) ∙ c .before .before .before .before .before .before .before .if1 .left) _ (c .before .before .before .before .before .before .part-at2 .ensures) (c .before .before .before .before .before .if2 .taken) (c .before .before .before .before .before .before .before .before .before .loop-test .taken) _ _ (c .before .before .before .settle .ensures) (c .if3 .taken))
 
 reached-requires : tie.Need-reached-requires Inv-loop μ-loop
-reached-requires c κs = let ready = ready-begun _ _ _ _ _ _ _ _ _ _ (c .before .before .before .before .before .before .before .before .before .before .before .before .before .before .before .before .before .smaller .ensures) (c .before .before .before .before .before .before .before .before .before .before .before .before .before .before .before .before .before .before .before .before .before .pre) (c .before .before .before .before .before .before .before .before .before .before .before .before .before .before .before .begin .ensures) in let fits = first-part (next-area _ _ _ _ _ _ _ _ _ ready _ (c .before .before .before .before .before .before .before .before .before .before .before .before .before .before .before .before .before .smaller .ensures) _ _ _ _ (c .before .before .before .before .before .before .before .before .before .before .before .loop .inv) (sym (c .before .before .before .before .before .before .before .before .before .in-slot .ensures) ∙ c .before .before .before .before .before .before .before .before .if1 .left) _ (c .before .before .before .before .before .before .before .part-at2 .ensures) (c .before .before .before .before .before .before .if2 .taken) (c .before .before .before .before .before .before .before .before .before .before .loop-test .taken) _ _ (c .before .before .before .before .settle .ensures)) in omega arith
+reached-requires c κs = let ready = ready-begun _ _ _ _ _ _ _ _ _ _ (c .before .before .before .before .before .before .before .before .before .before .before .before .before .before .before .before .before .smaller .ensures) (c .before .before .before .before .before .before .before .before .before .before .before .before .before .before .before .before .before .before .before .before .before .pre) (c .before .before .before .before .before .before .before .before .before .before .before .before .before .before .before .begin .ensures) in let fits = first-part (next-area _ _ _ _ _ _ _ _ _ ready _ (c .before .before .before .before .before .before .before .before .before .before .before .before .before .before .before .before .before .smaller .ensures) _ _ _ _ (c .before .before .before .before .before .before .before .before .before .before .before .loop .inv) (sym (c .before .before .before .before .before .before .before .before .before .kept-in-slot .ensures) ∙ c .before .before .before .before .before .before .before .before .if1 .left) _ (c .before .before .before .before .before .before .before .part-at2 .ensures) (c .before .before .before .before .before .before .if2 .taken) (c .before .before .before .before .before .before .before .before .before .before .loop-test .taken) _ _ (c .before .before .before .before .settle .ensures)) in omega arith
 
-sub-t31 : tie.Need-sub-t31 Inv-loop μ-loop
-sub-t31 c = omega arith
+sub-t32 : tie.Need-sub-t32 Inv-loop μ-loop
+sub-t32 c = omega arith
 
 same-length-2 : tie.Need-same-length-2 Inv-loop μ-loop
-same-length-2 c = let ready = ready-begun _ _ _ _ _ _ _ _ _ _ (c .before .before .before .before .before .before .before .before .before .before .before .before .before .before .before .before .before .before .before .smaller .ensures) (c .before .before .before .before .before .before .before .before .before .before .before .before .before .before .before .before .before .before .before .before .before .before .before .pre) (c .before .before .before .before .before .before .before .before .before .before .before .before .before .before .before .before .before .begin .ensures) in next-length _ _ _ _ _ _ _ _ _ ready _ (c .before .before .before .before .before .before .before .before .before .before .before .before .before .before .before .before .before .before .before .smaller .ensures) _ _ _ _ (c .before .before .before .before .before .before .before .before .before .before .before .before .before .loop .inv) (sym (c .before .before .before .before .before .before .before .before .before .before .before .in-slot .ensures) ∙ c .before .before .before .before .before .before .before .before .before .before .if1 .left) _ (c .before .before .before .before .before .before .before .before .before .part-at2 .ensures) (c .before .before .before .before .before .before .before .before .if2 .taken) (c .before .before .before .before .before .before .before .before .before .before .before .before .loop-test .taken) _ _ (c .before .before .before .before .before .before .settle .ensures) ∙ c .before .before .before .before .before .before .before .before .before .before .before .before .before .before .before .before .before .begin .kept .0
+same-length-2 c = let ready = ready-begun _ _ _ _ _ _ _ _ _ _ (c .before .before .before .before .before .before .before .before .before .before .before .before .before .before .before .before .before .before .before .smaller .ensures) (c .before .before .before .before .before .before .before .before .before .before .before .before .before .before .before .before .before .before .before .before .before .before .before .pre) (c .before .before .before .before .before .before .before .before .before .before .before .before .before .before .before .before .before .begin .ensures) in next-length _ _ _ _ _ _ _ _ _ ready _ (c .before .before .before .before .before .before .before .before .before .before .before .before .before .before .before .before .before .before .before .smaller .ensures) _ _ _ _ (c .before .before .before .before .before .before .before .before .before .before .before .before .before .loop .inv) (sym (c .before .before .before .before .before .before .before .before .before .before .before .kept-in-slot .ensures) ∙ c .before .before .before .before .before .before .before .before .before .before .if1 .left) _ (c .before .before .before .before .before .before .before .before .before .part-at2 .ensures) (c .before .before .before .before .before .before .before .before .if2 .taken) (c .before .before .before .before .before .before .before .before .before .before .before .before .loop-test .taken) _ _ (c .before .before .before .before .before .before .settle .ensures) ∙ c .before .before .before .before .before .before .before .before .before .before .before .before .before .before .before .before .before .begin .kept .0
 
 returns-2 : tie.Need-returns-2 Inv-loop μ-loop
-returns-2 c = let ready = ready-begun _ _ _ _ _ _ _ _ _ _ (c .before .before .before .before .before .before .before .before .before .before .before .before .before .before .before .before .before .before .before .smaller .ensures) (c .before .before .before .before .before .before .before .before .before .before .before .before .before .before .before .before .before .before .before .before .before .before .before .pre) (c .before .before .before .before .before .before .before .before .before .before .before .before .before .before .before .before .before .begin .ensures) in passed-entry _ _ _ _ _ _ _ _ _ _ _ (c .before .before .before .before .before .before .before .before .before .before .before .before .before .before .before .before .before .before .before .smaller .ensures) (c .before .before .before .before .before .before .before .before .before .before .before .before .before .before .before .before .before .before .before .before .before .before .before .pre) (c .before .before .before .before .before .before .before .before .before .before .before .before .before .before .before .before .before .begin .ensures) _ _ (passed-reached _ _ _ _ _ _ _ _ _ ready _ (c .before .before .before .before .before .before .before .before .before .before .before .before .before .before .before .before .before .before .before .smaller .ensures) _ _ _ _ (c .before .before .before .before .before .before .before .before .before .before .before .before .before .loop .inv) (sym (c .before .before .before .before .before .before .before .before .before .before .before .in-slot .ensures) ∙ c .before .before .before .before .before .before .before .before .before .before .if1 .left) _ (c .before .before .before .before .before .before .before .before .before .part-at2 .ensures) (c .before .before .before .before .before .before .before .before .if2 .taken) (c .before .before .before .before .before .before .before .before .before .before .before .before .loop-test .taken) _ _ (c .before .before .before .before .before .before .settle .ensures) (c .before .before .before .if3 .left) (sym (c .before .reached .ensures) ∙ c .if4 .taken))
+returns-2 c = let ready = ready-begun _ _ _ _ _ _ _ _ _ _ (c .before .before .before .before .before .before .before .before .before .before .before .before .before .before .before .before .before .before .before .smaller .ensures) (c .before .before .before .before .before .before .before .before .before .before .before .before .before .before .before .before .before .before .before .before .before .before .before .pre) (c .before .before .before .before .before .before .before .before .before .before .before .before .before .before .before .before .before .begin .ensures) in passed-entry _ _ _ _ _ _ _ _ _ _ _ (c .before .before .before .before .before .before .before .before .before .before .before .before .before .before .before .before .before .before .before .smaller .ensures) (c .before .before .before .before .before .before .before .before .before .before .before .before .before .before .before .before .before .before .before .before .before .before .before .pre) (c .before .before .before .before .before .before .before .before .before .before .before .before .before .before .before .before .before .begin .ensures) _ _ (passed-reached _ _ _ _ _ _ _ _ _ ready _ (c .before .before .before .before .before .before .before .before .before .before .before .before .before .before .before .before .before .before .before .smaller .ensures) _ _ _ _ (c .before .before .before .before .before .before .before .before .before .before .before .before .before .loop .inv) (sym (c .before .before .before .before .before .before .before .before .before .before .before .kept-in-slot .ensures) ∙ c .before .before .before .before .before .before .before .before .before .before .if1 .left) _ (c .before .before .before .before .before .before .before .before .before .part-at2 .ensures) (c .before .before .before .before .before .before .before .before .if2 .taken) (c .before .before .before .before .before .before .before .before .before .before .before .before .loop-test .taken) _ _ (c .before .before .before .before .before .before .settle .ensures) (c .before .before .before .if3 .left) (sym (c .before .reached .ensures) ∙ c .if4 .taken))
 
 loop-less-2 : tie.Need-loop-less-2 Inv-loop μ-loop
 loop-less-2 c = omega arith
 
 loop-again-2 : tie.Need-loop-again-2 Inv-loop μ-loop
-loop-again-2 c = let ready = ready-begun _ _ _ _ _ _ _ _ _ _ (c .before .before .before .before .before .before .before .before .before .before .before .before .before .before .before .before .before .before .before .smaller .ensures) (c .before .before .before .before .before .before .before .before .before .before .before .before .before .before .before .before .before .before .before .before .before .before .before .pre) (c .before .before .before .before .before .before .before .before .before .before .before .before .before .before .before .before .before .begin .ensures) in passing-settle _ _ _ _ _ _ _ _ _ ready _ (c .before .before .before .before .before .before .before .before .before .before .before .before .before .before .before .before .before .before .before .smaller .ensures) _ _ _ _ (c .before .before .before .before .before .before .before .before .before .before .before .before .before .loop .inv) (sym (c .before .before .before .before .before .before .before .before .before .before .before .in-slot .ensures) ∙ c .before .before .before .before .before .before .before .before .before .before .if1 .left) _ (c .before .before .before .before .before .before .before .before .before .part-at2 .ensures) (c .before .before .before .before .before .before .before .before .if2 .taken) (c .before .before .before .before .before .before .before .before .before .before .before .before .loop-test .taken) _ _ (c .before .before .before .before .before .before .settle .ensures) (c .before .before .before .if3 .left) (sym (c .before .reached .ensures) ∙ c .if4 .left)
+loop-again-2 c = let ready = ready-begun _ _ _ _ _ _ _ _ _ _ (c .before .before .before .before .before .before .before .before .before .before .before .before .before .before .before .before .before .before .before .smaller .ensures) (c .before .before .before .before .before .before .before .before .before .before .before .before .before .before .before .before .before .before .before .before .before .before .before .pre) (c .before .before .before .before .before .before .before .before .before .before .before .before .before .before .before .before .before .begin .ensures) in passing-settle _ _ _ _ _ _ _ _ _ ready _ (c .before .before .before .before .before .before .before .before .before .before .before .before .before .before .before .before .before .before .before .smaller .ensures) _ _ _ _ (c .before .before .before .before .before .before .before .before .before .before .before .before .before .loop .inv) (sym (c .before .before .before .before .before .before .before .before .before .before .before .kept-in-slot .ensures) ∙ c .before .before .before .before .before .before .before .before .before .before .if1 .left) _ (c .before .before .before .before .before .before .before .before .before .part-at2 .ensures) (c .before .before .before .before .before .before .before .before .if2 .taken) (c .before .before .before .before .before .before .before .before .before .before .before .before .loop-test .taken) _ _ (c .before .before .before .before .before .before .settle .ensures) (c .before .before .before .if3 .left) (sym (c .before .reached .ensures) ∙ c .if4 .left)
 
 loop-less-3 : tie.Need-loop-less-3 Inv-loop μ-loop
 loop-less-3 c = omega arith
 
 loop-again-3 : tie.Need-loop-again-3 Inv-loop μ-loop
-loop-again-3 c = let ready = ready-begun _ _ _ _ _ _ _ _ _ _ (c .before .before .before .before .before .before .before .before .before .before .before .smaller .ensures) (c .before .before .before .before .before .before .before .before .before .before .before .before .before .before .before .pre) (c .before .before .before .before .before .before .before .before .before .begin .ensures) in passing-on _ _ _ _ _ _ _ _ _ ready _ (c .before .before .before .before .before .before .before .before .before .before .before .smaller .ensures) _ _ _ _ (c .before .before .before .before .before .loop .inv) (sym (c .before .before .before .in-slot .ensures) ∙ c .before .before .if1 .left) _ (c .before .part-at2 .ensures) (omega arith) (c .before .before .before .before .loop-test .taken)
+loop-again-3 c = let ready = ready-begun _ _ _ _ _ _ _ _ _ _ (c .before .before .before .before .before .before .before .before .before .before .before .smaller .ensures) (c .before .before .before .before .before .before .before .before .before .before .before .before .before .before .before .pre) (c .before .before .before .before .before .before .before .before .before .begin .ensures) in passing-on _ _ _ _ _ _ _ _ _ ready _ (c .before .before .before .before .before .before .before .before .before .before .before .smaller .ensures) _ _ _ _ (c .before .before .before .before .before .loop .inv) (sym (c .before .before .before .kept-in-slot .ensures) ∙ c .before .before .if1 .left) _ (c .before .part-at2 .ensures) (omega arith) (c .before .before .before .before .loop-test .taken)
 
 end-pass-requires : tie.Need-end-pass-requires Inv-loop μ-loop
 end-pass-requires c κs = let ready = ready-begun _ _ _ _ _ _ _ _ _ _ (c .before .before .before .before .before .before .before .before .smaller .ensures) (c .before .before .before .before .before .before .before .before .before .before .before .before .pre) (c .before .before .before .before .before .before .begin .ensures) in let fits = first-part (passing-area _ _ _ _ _ _ _ _ _ ready _ (c .before .before .before .before .before .before .before .before .smaller .ensures) _ _ _ _ (c .before .before .loop .inv)) in omega arith
@@ -114,7 +115,7 @@ pass-columns-spec =
     part-at-requires
     loop-holds
     add-loop
-    in-slot-requires
+    kept-in-slot-requires
     fold-record-requires
     add-j
     loop-less
@@ -125,7 +126,7 @@ pass-columns-spec =
     same-length
     returns
     reached-requires
-    sub-t31
+    sub-t32
     same-length-2
     returns-2
     loop-less-2

@@ -1,50 +1,14 @@
--- `plan::slot_end` meets its contract. The loop's invariant: the records from j to before i are in slot u. The measure is the number of
--- records left.
+-- `plan::slot_end` meets its contract: no record is left out.
 -- Assumes nothing.
-use native.Mathlib.Omega.{arith}
-use Prim.Native.Nat.{_-_}
-use mathlib.Core.Path.{sym, _∙_}
-use Rattle.temporal.specs.Bytes.{records}
-use Rattle.plan.proofs.SlotLaws.{in-slot-inv, Counting, counting-none, counting-more, counting-all, position-small}
-use borrow.Author.Needs.{needs}
+use Rattle.plan.proofs.SlotLaws.{whole-ready, whole-records}
 use Rattle.plan.proofs.slot_end.Statement.{statement}
 use Rattle.plan.proofs.slot_end.Tie as tie
 
-abbrev Inv-loop : tie.InvT-loop
-Inv-loop plan j u i₀ i = Counting plan u j i
+kept-slot-end-requires : tie.Need-kept-slot-end-requires
+kept-slot-end-requires c κs = whole-ready (c .before .args .plan .now) 0 _ (c .before .pre)
 
-abbrev μ-loop : tie.MeasureT-loop
-μ-loop plan j u i₀ i = records plan - i
-
-loop-holds : tie.Need-loop-holds Inv-loop μ-loop
-loop-holds c = counting-none _ _ _ (c .before .pre)
-
-in-slot-requires : tie.Need-in-slot-requires Inv-loop μ-loop
-in-slot-requires c κs = search needs
-
-add-i : tie.Need-add-i Inv-loop μ-loop
-add-i c =
-    let (there, slot) = in-slot-inv _ _ _ (sym (c .before .in-slot .ensures) ∙ c .if1 .taken) in
-    omega (arith, position-small _ _ there, c .before .before .before .before .good .0 .0)
-
-loop-less : tie.Need-loop-less Inv-loop μ-loop
-loop-less c = let (there, slot) = in-slot-inv _ _ _ (sym (c .before .in-slot .ensures) ∙ c .if1 .taken) in omega arith
-
-loop-again : tie.Need-loop-again Inv-loop μ-loop
-loop-again c = counting-more _ _ _ _ (sym (c .before .in-slot .ensures) ∙ c .if1 .taken) (c .before .before .loop .inv)
-
-returns : tie.Need-returns Inv-loop μ-loop
-returns c = counting-all _ _ _ _ (sym (c .before .in-slot .ensures) ∙ c .if1 .left) (c .before .before .loop .inv)
+returns : tie.Need-returns
+returns c = whole-records _ _ _ _ (c .kept-slot-end .ensures)
 
 pub slot-end-spec : {M : Type 1} → statement M
-slot-end-spec =
-    tie.close
-    (tie.spec
-    Inv-loop
-    μ-loop
-    loop-holds
-    in-slot-requires
-    add-i
-    loop-less
-    loop-again
-    returns)
+slot-end-spec = tie.close (tie.spec kept-slot-end-requires returns)

@@ -5,16 +5,17 @@ use native.Mathlib.Omega.{arith}
 use Prim.Native.Nat.{_-_}
 use Rattle.temporal.specs.Plan.{units}
 use Rattle.pass.specs.Column.{columnOf}
+use Rattle.temporal.specs.Struck.{lackingRecord}
 use Rattle.stale.proofs.RingPlaces.{area-same}
 use Rattle.stale.proofs.WindowSteps.{GatheringRecords, windows-none, windows-more, windows-all}
 use Rattle.stale.proofs.gather_records.Statement.{statement}
 use Rattle.stale.proofs.gather_records.Tie as tie
 
 abbrev Inv-loop : tie.InvT-loop
-Inv-loop work₀ plan n block g h depth source columns set u j end last₀ i₀ work last i = GatheringRecords plan n block depth (units g h) source (columnOf columns set block) u j end work₀ last i work
+Inv-loop work₀ plan out n block g h depth source columns set u j end last₀ i₀ work last i = GatheringRecords (lackingRecord plan out) n block depth (units g h) source (columnOf columns set block) u j end work₀ last i work
 
 abbrev μ-loop : tie.MeasureT-loop
-μ-loop work₀ plan n block g h depth source columns set u j end last₀ i₀ work last i = end - i
+μ-loop work₀ plan out n block g h depth source columns set u j end last₀ i₀ work last i = end - i
 
 loop-holds : tie.Need-loop-holds Inv-loop μ-loop
 loop-holds c = windows-none _ _ _ _ _ _ _ _ _ _ _

@@ -3,15 +3,16 @@
 -- Assumes nothing.
 use native.Mathlib.Omega.{arith}
 use Prim.Native.Nat.{_-_}
+use Rattle.temporal.specs.Struck.{lackingRecord}
 use Rattle.stale.proofs.WindowSteps.{SendingRecords, sending-none, sending-more, sending-all, two-same}
 use Rattle.stale.proofs.send_records.Statement.{statement}
 use Rattle.stale.proofs.send_records.Tie as tie
 
 abbrev Inv-loop : tie.InvT-loop
-Inv-loop work₀ plan n block from to j end i₀ work i = SendingRecords plan n block from to j end work₀ i work
+Inv-loop work₀ plan out n block from to j end i₀ work i = SendingRecords (lackingRecord plan out) n block from to j end work₀ i work
 
 abbrev μ-loop : tie.MeasureT-loop
-μ-loop work₀ plan n block from to j end i₀ work i = end - i
+μ-loop work₀ plan out n block from to j end i₀ work i = end - i
 
 loop-holds : tie.Need-loop-holds Inv-loop μ-loop
 loop-holds c = sending-none _ _ _ _ _ _ _ _

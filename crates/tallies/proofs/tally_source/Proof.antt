@@ -5,16 +5,17 @@ use Prim.Native.Nat.{_-_}
 use mathlib.Core.Path.{_∙_}
 use native.Mathlib.Omega.{arith}
 use Rattle.temporal.specs.Plan.{units}
+use Rattle.temporal.specs.Struck.{lackingRecord}
 use borrow.Author.Needs.{needs}
 use Rattle.tallies.proofs.BlockLaws.{Blocking, blocking-none, blocking-ready, blocking-over, blocking-more, blocking-all}
 use Rattle.tallies.proofs.tally_source.Statement.{statement}
 use Rattle.tallies.proofs.tally_source.Tie as tie
 
 abbrev Inv-loop : tie.InvT-loop
-Inv-loop work₀ plan n t g h depth base block source low₀ work low = Blocking plan n t (units g h) base source work₀ low work
+Inv-loop work₀ plan out n t g h depth base block source low₀ work low = Blocking (lackingRecord plan out) n t (units g h) base source work₀ low work
 
 abbrev μ-loop : tie.MeasureT-loop
-μ-loop work₀ plan n t g h depth base block source low₀ work low = n - low
+μ-loop work₀ plan out n t g h depth base block source low₀ work low = n - low
 
 loop-holds : tie.Need-loop-holds Inv-loop μ-loop
 loop-holds c = blocking-none _ _ _ _ _ _ _ _ _ (c .before .before .pre)

@@ -8,6 +8,7 @@ use Rattle.temporal.specs.Plan.{units}
 use Rattle.temporal.proofs.Accepted.{accepted}
 use Rattle.tallies.proofs.SourceLaws.{Summing, summing-none, summing-ready, summing-over, summing-more, summing-all}
 use Rattle.tallies.proofs.SourceLaws.{all-room, all-cleared, tallied-cleared}
+use Rattle.tallies.proofs.SourceLaws.{source-whole, done-whole}
 use Rattle.tallies.proofs.tally_sources.Statement.{statement}
 use Rattle.tallies.proofs.tally_sources.Tie as tie
 
@@ -29,7 +30,7 @@ loop-holds c = summing-none _ _ _ _ _ _ _ _ _ (c .before .before .before .before
 tally-source-requires : tie.Need-tally-source-requires Inv-loop μ-loop
 tally-source-requires c κs =
     let pre = all-cleared _ _ _ _ _ _ _ _ _ (c .before .before .before .before .before .before .before .before .before .pre) _ (c .before .before .before .before .before .fill-part .ensures) in
-    summing-ready _ _ _ _ _ _ _ _ _ pre _ _ (c .before .before .loop .inv) (c .before .loop-test .taken)
+    source-whole _ _ _ _ _ _ _ _ _ (summing-ready _ _ _ _ _ _ _ _ _ pre _ _ (c .before .before .loop .inv) (c .before .loop-test .taken))
 
 same-length : tie.Need-same-length Inv-loop μ-loop
 same-length c = c .before .before .before .tally-source .kept .0 ∙ c .before .before .before .before .before .before .loop .inv .kept .same-length ∙ c .before .before .before .before .before .before .before .before .before .fill-part .kept .0
@@ -39,7 +40,7 @@ returns c =
     let pre = all-cleared _ _ _ _ _ _ _ _ _ (c .before .before .before .before .before .before .before .before .before .before .before .before .before .pre) _ (c .before .before .before .before .before .before .before .before .before .fill-part .ensures) in
     tallied-cleared _ _ _ _ _ _ _ _ _ (c .before .before .before .before .before .before .before .before .before .before .before .before .before .pre) _ _ _ (c .before .before .before .before .before .before .before .before .before .fill-part .ensures)
     (summing-over _ _ _ _ _ _ _ _ _ pre _ _ (c .before .before .before .before .before .before .loop .inv) (c .before .before .before .before .before .loop-test .taken) _
-    (rw (c .if1 .taken) at (c .before .before .before .tally-source .ensures)))
+    (done-whole _ _ _ _ _ _ _ _ _ (rw (c .if1 .taken) at (c .before .before .before .tally-source .ensures))))
 
 add-source : tie.Need-add-source Inv-loop μ-loop
 add-source c = omega arith
@@ -51,7 +52,7 @@ loop-again : tie.Need-loop-again Inv-loop μ-loop
 loop-again c =
     let pre = all-cleared _ _ _ _ _ _ _ _ _ (c .before .before .before .before .before .before .before .before .before .before .before .before .before .pre) _ (c .before .before .before .before .before .before .before .before .before .fill-part .ensures) in
     summing-more _ _ _ _ _ _ _ _ _ pre _ _ (c .before .before .before .before .before .before .loop .inv) (c .before .before .before .before .before .loop-test .taken) _
-    (rw (c .if1 .left) at (c .before .before .before .tally-source .ensures))
+    (done-whole _ _ _ _ _ _ _ _ _ (rw (c .if1 .left) at (c .before .before .before .tally-source .ensures)))
 
 same-length-2 : tie.Need-same-length-2 Inv-loop μ-loop
 same-length-2 c = c .before .loop .inv .kept .same-length ∙ c .before .before .before .before .fill-part .kept .0

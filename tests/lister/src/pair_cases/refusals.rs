@@ -28,20 +28,26 @@ fn plan_a(label: &str) -> LabelledPlan {
     LabelledPlan::of_records(label, (5, 4), &PLAN_A)
 }
 
-/// Causes 1 to 5, each through every operation; where n and T have no named lengths, on those of
-/// plan A.
-fn plans() -> Vec<Case> {
-    let mut cases = Vec::new();
-    for fault in plan_faults() {
+/// The plans with causes 1 to 5, the n and T of the memory that is lent, and the numbers. Where n and T have no named
+/// lengths, those of plan A are lent.
+pub fn faulty_plans() -> impl Iterator<Item = (LabelledPlan, (u16, u16), u8)> {
+    plan_faults().into_iter().map(|fault| {
         let sizes = (fault.stations, fault.slots);
         let mut plan = LabelledPlan::new(&fault.label, sizes, fault.bytes);
         plan.counting = fault.counting;
         let limits = within_limits(sizes.0.into(), sizes.1.into());
-        let lengths = if limits.is_ok() { sizes } else { (5, 4) };
+        let lent = if limits.is_ok() { sizes } else { (5, 4) };
+        (plan, lent, fault.stated.unwrap_or(0))
+    })
+}
+
+/// Causes 1 to 5, each through every operation.
+fn plans() -> Vec<Case> {
+    let mut cases = Vec::new();
+    for (plan, lent, number) in faulty_plans() {
         for operation in OPERATIONS {
-            let case = plan.case(operation).lent(operation.named(lengths));
-            let case = case.longer([2, 1, 3]);
-            cases.push(case.stating(fault.stated.unwrap_or(0)));
+            let case = plan.case(operation).lent(operation.named(lent));
+            cases.push(case.longer([2, 1, 3]).stating(number));
         }
     }
     cases
@@ -131,6 +137,19 @@ fn two_in_the_call() -> Vec<Case> {
     cases
 }
 
+/// Lengths of a table with so many named entries: words of a label, the entries behind the named ones of the other tables,
+/// the length, and the number.
+pub fn near_lengths(named: usize) -> [(&'static str, usize, usize, u8); 6] {
+    [
+        ("8 for one entry less of", 0, named - 1, 8),
+        ("8 for others longer than", 9, named - 1, 8),
+        ("8 for no entry of", 0, 0, 8),
+        ("8 for half of", 0, named / 2, 8),
+        ("one entry more of", 0, named + 1, 0),
+        ("40 entries more of", 0, named + 40, 0),
+    ]
+}
+
 /// Cause 8: each table and the scratch one entry too short, exactly long enough, and longer.
 fn lengths() -> Vec<Case> {
     let mut cases = Vec::new();
@@ -139,17 +158,11 @@ fn lengths() -> Vec<Case> {
         for table in operation.tables() {
             let name = ["first table", "second table", "scratch"][table];
             let named = on("").lengths[table];
-            let mut push = |label: &str, longer: usize, length: usize, number: u8| {
+            for (label, longer, length, number) in near_lengths(named) {
                 let case = on(&format!("{label} {name}")).longer([longer; 3]);
                 let case = case.with_length(table, length).stating(number);
                 cases.push(case.marked(500 + table as u16));
-            };
-            push("8 for one entry less of", 0, named - 1, 8);
-            push("8 for others longer than", 9, named - 1, 8);
-            push("8 for no entry of", 0, 0, 8);
-            push("8 for half of", 0, named / 2, 8);
-            push("one entry more of", 0, named + 1, 0);
-            push("40 entries more of", 0, named + 40, 0);
+            }
         }
         cases.push(on("8 for no entry").lent([0; 3]).stating(8));
         let area = on("8 for a scratch of n(T+1) entries");

@@ -27,14 +27,11 @@ pub fn plan_a(label: &str) -> LabelledPlan {
     LabelledPlan::of_records(label, (5, 4), &PLAN_A).turning(1)
 }
 
-pub fn cases() -> Vec<Case> {
+/// P10, and plans with one direction alone, with turnarounds and without contacts.
+pub fn plans_by_hand() -> Vec<LabelledPlan> {
     let ten = doubled(&[(1, 0, 1), (1, 1, 2)]);
-    let mut plans = vec![
-        plan_a("plan A"),
-        plan_a("plan A, g 3").turning(3),
-        plan_a("plan A, g 16").turning(16),
-        LabelledPlan::of_records("P10 two contacts in slot 1", (3, 1), &ten).turning(1),
-    ];
+    let ten = LabelledPlan::of_records("P10 two contacts in slot 1", (3, 1), &ten);
+    let mut plans = vec![ten.turning(1)];
     plans.extend(ONE_WAY_PLANS.iter().map(|plan| plan.labelled().turning(1)));
     plans.extend(TURNED_PLANS.iter().map(|plan| plan.labelled()));
     plans.extend(rows_around());
@@ -42,6 +39,16 @@ pub fn cases() -> Vec<Case> {
         let label = format!("empty plan, n {n}, T 1");
         plans.push(LabelledPlan::of_records(&label, (n, 1), &[]).turning(1));
     }
+    plans
+}
+
+pub fn cases() -> Vec<Case> {
+    let mut plans = vec![
+        plan_a("plan A"),
+        plan_a("plan A, g 3").turning(3),
+        plan_a("plan A, g 16").turning(16),
+    ];
+    plans.extend(plans_by_hand());
     let mut cases: Vec<Case> = plans.iter().flat_map(LabelledPlan::every_partial).collect();
     let exact = plan_a("plan A, exactly long enough");
     cases.extend((0..=5).map(|sources| exact.partial(sources).stating(0)));

@@ -51,14 +51,19 @@ fn many_records() -> Vec<Case> {
     cases.map(|case| case.stating(0)).to_vec()
 }
 
-/// The plans of pair-cases that have most of their paths from the station in the middle, with the sources
-/// below it and with it too.
-fn blocks() -> Vec<Case> {
+/// The calls of loads in pair-cases on plans whose stations do not divide evenly into blocks. Most of their paths are
+/// from the station in the middle.
+pub fn loads_of_blocks() -> Vec<Case> {
     let mut plans = loads_among([limit_cases(), turnaround_calls()].concat());
     plans.retain(|case| case.label.starts_with("blocks "));
+    plans
+}
+
+/// Such plans with the sources below the middle, and with the middle too.
+fn blocks() -> Vec<Case> {
     let two = |case: &Case| {
         let middle = u64::from(case.stations) / 2;
         [middle, middle + 1].map(|sources| of_sources(case, sources))
     };
-    plans.iter().flat_map(two).collect()
+    loads_of_blocks().iter().flat_map(two).collect()
 }

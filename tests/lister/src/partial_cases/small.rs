@@ -2,7 +2,6 @@
 
 use crate::pair_cases::{small_plans, Case};
 use crate::random::Random;
-use crate::reach_cases::other_length;
 use crate::turned::drawn_plans;
 
 /// The seed of marks, lengths and numbers of sources.
@@ -25,13 +24,7 @@ pub fn cases() -> Vec<Case> {
         };
         for sources in sources {
             let case = plan.partial(sources as u64).marked(mark);
-            cases.push(match index % 4 {
-                3 => {
-                    let lengths = case.lengths.map(|named| other_length(&mut random, named));
-                    case.lent(lengths)
-                }
-                _ => case,
-            });
+            cases.push(case.lent_near(&mut random, index));
         }
     }
     cases

@@ -123,6 +123,18 @@ impl Builder {
         plan_bytes(&records)
     }
 
+    /// The position of a record: how many stand before it.
+    pub fn position(&self, record: Record) -> usize {
+        let before = self.records.iter().filter(|other| **other < record);
+        before.count()
+    }
+
+    /// The last record in which a station hears.
+    pub fn last_heard(&self, hearer: u16) -> Record {
+        let heard = self.records.iter().filter(|record| record.2 == hearer);
+        *heard.max().expect("a station that hears")
+    }
+
     /// The number of records.
     pub fn contacts(&self) -> usize {
         self.records.len()

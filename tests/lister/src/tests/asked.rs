@@ -46,6 +46,16 @@ impl Asked<'_> {
         Ok(pairs.into_iter().zip(loads).map(entry).collect())
     }
 
+    /// The number of pairs, and the changes.
+    pub fn struck_out(self, position: usize) -> Answer<(u64, Vec<i64>)> {
+        let Asked(means, owned) = self;
+        let mut changes = vec![7; owned.stations];
+        let mut scratch = vec![7; owned.scratch_length()];
+        let pairs = means.struck_out(owned.input(), position, &mut changes, &mut scratch)?;
+        assert!(scratch.iter().all(|entry| *entry == 0));
+        Ok((pairs, changes))
+    }
+
     pub fn busiest(self) -> Answer<usize> {
         let Asked(means, owned) = self;
         let mut scratch = vec![7; owned.scratch_length()];

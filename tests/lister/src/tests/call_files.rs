@@ -1,8 +1,11 @@
-//! What holds of each file of cases of one call on lent tables: pair-cases, foremost-cases and partial-cases.
+//! What holds of each file of cases of one call on lent tables: pair-cases, foremost-cases and partial-cases; some of it
+//! of struck-cases too.
+
+use std::fmt::Debug;
 
 use super::read_back::{entries_of, take, take_number};
-use crate::call_cases::Called;
-use crate::files::{stdin_bytes, stdout_text};
+use crate::call_cases::{CallCase, Called};
+use crate::files::{stdout_text, Filed};
 use crate::means::Counting;
 use crate::pair_cases::{Case, Outcome};
 use crate::reach_cases::LONGEST_PLAN;
@@ -81,8 +84,13 @@ pub fn assert_lines(made: &Made, lines: &[(&str, &str)]) {
 }
 
 /// Asserts that standard input, read back, has the cases; `lengths` are those in the head of a case.
-pub fn assert_stdin(made: &Made, lengths: fn(&Case) -> Vec<usize>) {
-    let stdin = stdin_bytes(&all(made));
+pub fn assert_stdin<O: Called, R, const TABLES: usize>(
+    made: &[(CallCase<O, TABLES>, R)],
+    lengths: fn(&CallCase<O, TABLES>) -> Vec<usize>,
+) where
+    CallCase<O, TABLES>: Filed,
+{
+    let stdin: Vec<u8> = made.iter().flat_map(|(case, _)| case.stdin()).collect();
     assert!(stdin.len() < 1_850_000, "{}", stdin.len());
     let mut rest = stdin.as_slice();
     for (case, _) in made {
@@ -142,16 +150,19 @@ pub fn assert_stdout(made: &Made) {
 }
 
 /// Asserts that the listed cases are answered alike by numbers of walks; gives how many there are.
-pub fn assert_counted_alike(made: &Made) -> usize {
+pub fn assert_counted_alike<O: Called, R: Debug + PartialEq, const TABLES: usize>(
+    made: &[(CallCase<O, TABLES>, R)],
+    of_case: fn(&CallCase<O, TABLES>) -> R,
+) -> usize {
     let listed = made.iter();
     let listed = listed.filter(|(case, _)| case.counting == Counting::Listed);
     let mut compared = 0;
     for (case, outcome) in listed {
-        let counted = Case {
+        let counted = CallCase {
             counting: Counting::Fast,
             ..case.clone()
         };
-        assert_eq!(counted.outcome(), *outcome, "{}", case.label);
+        assert_eq!(of_case(&counted), *outcome, "{}", case.label);
         compared += 1;
     }
     compared

@@ -20,7 +20,7 @@ use crate::verdicts::verdict_on;
 
 /// A walk by its contacts, and what C-21 says of two neighbours: the next sender is the hearer before, and its
 /// slot is t + g to t + h.
-struct Naive {
+pub struct Naive {
     terms: Terms,
     contacts: Vec<Contact>,
     stations: usize,
@@ -29,7 +29,7 @@ struct Naive {
 }
 
 impl Naive {
-    fn new(plan: &Plan) -> Naive {
+    pub fn new(plan: &Plan) -> Naive {
         let mut naive = Naive {
             terms: plan.terms,
             contacts: plan.contacts.clone(),
@@ -80,7 +80,7 @@ impl Naive {
     }
 
     /// The shortest walks of a pair in order.
-    fn list(&self, (source, destination): Ends) -> Vec<Vec<u16>> {
+    pub fn list(&self, (source, destination): Ends) -> Vec<Vec<u16>> {
         let mut list = self.walks[source].clone();
         list.retain(|walk| self.end(walk).0 == destination);
         let fewest = list.iter().map(Vec::len).min();
@@ -138,7 +138,7 @@ impl Naive {
     }
 
     /// Pairs and load of each station over the sources below a number.
-    fn loads(&self, sources: usize) -> Vec<Load> {
+    pub fn loads(&self, sources: usize) -> Vec<Load> {
         let mut loads = vec![Load::default(); self.stations];
         for ends in pairs(self.stations).filter(|ends| ends.0 < sources) {
             let list = self.list(ends);

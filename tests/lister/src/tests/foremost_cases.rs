@@ -138,7 +138,7 @@ fn cases_fit_the_program() {
 
 #[test]
 fn listed_cases_are_counted_alike() {
-    let compared = call_files::assert_counted_alike(cases());
+    let compared = call_files::assert_counted_alike(cases(), Case::outcome);
     assert!(compared > 5000, "{compared}");
 }
 

@@ -27,6 +27,8 @@ mod rows;
 mod set_cases;
 mod sets;
 mod stale;
+mod struck;
+mod struck_cases;
 mod support;
 mod tiny;
 mod too_many;

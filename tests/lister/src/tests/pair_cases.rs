@@ -248,7 +248,7 @@ fn walks_are_listed_but_for_large_plans() {
 
 #[test]
 fn listed_cases_are_counted_alike() {
-    call_files::assert_counted_alike(cases());
+    call_files::assert_counted_alike(cases(), Case::outcome);
 }
 
 #[test]

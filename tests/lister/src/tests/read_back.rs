@@ -1,6 +1,7 @@
 //! Reading the files of cases back.
 
 use std::collections::BTreeSet;
+use std::str::FromStr;
 
 use crate::files::{stdout_text, Filed};
 
@@ -47,7 +48,7 @@ pub fn take_number(bytes: &mut &[u8], length: usize) -> usize {
 }
 
 /// The entries that the runs of a table give; the others are left out.
-pub fn entries_of(runs: &str, length: usize, left_out: u64) -> Vec<u64> {
+pub fn entries_of<N: Copy + FromStr>(runs: &str, length: usize, left_out: N) -> Vec<N> {
     let mut entries = vec![left_out; length];
     let mut words = runs.split(' ').skip(1);
     while let Some(word) = words.next() {
@@ -58,7 +59,7 @@ pub fn entries_of(runs: &str, length: usize, left_out: u64) -> Vec<u64> {
                 (word, words.next().unwrap().strip_suffix(':').unwrap())
             }
         };
-        let value = words.next().unwrap().parse().unwrap();
+        let value = words.next().unwrap().parse().ok().unwrap();
         let range = from.parse::<usize>().unwrap()..=last.parse::<usize>().unwrap();
         entries[range].fill(value);
     }

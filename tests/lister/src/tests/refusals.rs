@@ -14,11 +14,12 @@ const SIZES: (usize, usize) = (5, 4);
 const CHANGED: usize = 4;
 
 impl Operation {
-    /// The named lengths of its 16-bit tables, of its 64-bit tables, and of its sets.
-    fn named(self) -> [Vec<usize>; 3] {
+    /// The named lengths of its 16-bit tables, of its 64-bit tables, of its sets, and of its tables of entries with a
+    /// sign.
+    fn named(self) -> [Vec<usize>; 4] {
         let (stations, slots) = SIZES;
         let (narrow, wide) = (self.narrow(stations, slots), self.wide(stations, slots));
-        [narrow, wide, self.sets(stations)]
+        [narrow, wide, self.sets(stations), self.signed(stations)]
     }
 
     fn takes_scratch(self) -> bool {
@@ -44,8 +45,14 @@ fn named_lengths_of_plan_a() {
         (Operation::Verdict, vec![], vec![100], vec![]),
         (Operation::TakeIn, vec![255], vec![], vec![]),
         (Operation::TakeOut, vec![255], vec![], vec![]),
+        (Operation::StruckOut, vec![], vec![100], vec![]),
     ] {
-        assert_eq!(operation.named(), [narrow, wide, sets], "{operation:?}");
+        let signed = match operation {
+            Operation::StruckOut => vec![5],
+            _ => vec![],
+        };
+        let named = [narrow, wide, sets, signed];
+        assert_eq!(operation.named(), named, "{operation:?}");
     }
 }
 
@@ -65,6 +72,8 @@ struct Arguments {
     channels: usize,
     /// The entry of slot 1 in a band's table.
     entry: u16,
+    /// Struck out's position.
+    position: usize,
     limit: u64,
     /// The first byte of a set.
     byte: u8,
@@ -107,6 +116,7 @@ impl Arguments {
             sources: if has(13) { 6 } else { 5 },
             channels: if has(15) { 1100 } else { 1300 },
             entry: if has(16) { 3 } else { 4 },
+            position: if has(17) { 12 } else { 10 },
             limit: if has(9) { 2 } else { u64::MAX },
             byte: if has(11) { 2 } else { 1 },
         }
@@ -142,7 +152,7 @@ fn lend(
     arguments: &Arguments,
 ) -> Lent {
     let byte = arguments.byte;
-    let [narrow, wide, sets] = operation.named();
+    let [narrow, wide, sets, signed] = operation.named();
     let length = |table: usize, named: &usize| match short {
         Some(other) if other == table => named - 1,
         _ => named + 3,
@@ -150,6 +160,7 @@ fn lend(
     let filled = |(table, named)| (1..=length(table, named)).map(|value| 1000 + value as u64);
     let wide_from = narrow.len();
     let sets_from = wide_from + wide.len();
+    let signed_from = sets_from + sets.len();
     let set = |length: usize| [[byte, 0, 1, 1, 0], [2; 5]].concat()[..length].to_vec();
     let mut lent = Lent {
         narrow: (narrow.iter().enumerate())
@@ -157,6 +168,10 @@ fn lend(
             .collect(),
         wide: (wide.iter().enumerate())
             .map(|(table, named)| filled((wide_from + table, named)).collect())
+            .collect(),
+        signed: (signed.iter().enumerate())
+            .map(|(table, named)| filled((signed_from + table, named)))
+            .map(|entries| entries.map(|entry| -(entry as i64)).collect())
             .collect(),
         sets: (sets.iter().enumerate())
             .map(|(table, named)| set(length(sets_from + table, named)))
@@ -181,6 +196,7 @@ fn run(operation: Operation, arguments: &Arguments, lent: &mut Lent) -> (u32, bo
     let numbers = match (operation, operation.arguments()) {
         (Operation::PartialLoads, _) => [arguments.sources, 0],
         (Operation::TakeIn, _) => [arguments.channels, 0],
+        (Operation::StruckOut, _) => [arguments.position, 0],
         (_, 1) => [arguments.station(), 0],
         _ => [arguments.source, arguments.destination],
     };
@@ -192,7 +208,7 @@ fn run(operation: Operation, arguments: &Arguments, lent: &mut Lent) -> (u32, bo
 /// The memory after a call with a cause of refusal.
 fn memory_after(operation: Operation, refusal: u32, before: &Lent) -> Lent {
     let mut after = before.clone();
-    let [narrow, wide, _] = operation.named();
+    let [narrow, wide, _, signed] = operation.named();
     if refusal == 9 || refusal == 10 {
         for (table, named) in after.wide.iter_mut().zip(wide) {
             table[..named].fill(0);
@@ -202,22 +218,32 @@ fn memory_after(operation: Operation, refusal: u32, before: &Lent) -> Lent {
         for (table, named) in after.narrow.iter_mut().zip(narrow) {
             table[..named].fill(0);
         }
+        for (table, named) in after.signed.iter_mut().zip(signed) {
+            table[..named].fill(0);
+        }
     }
     after
 }
 
 /// The largest number of a cause.
-const MOST: usize = 16;
+const MOST: usize = 17;
 
-/// All sets of the numbers of causes; 15 and 16 are of a band's table, which other operations are not lent.
+/// All sets of the numbers of causes; 15 and 16 are of a band's table, which other operations are not lent, and 17 is of
+/// struck out's position.
 fn sets_of_causes(operation: Operation) -> impl Iterator<Item = Vec<u8>> {
-    let most = if operation.takes_band() { MOST } else { 14 };
+    let mut numbers: Vec<u8> = (1..=MOST as u8).collect();
+    numbers.retain(|number| match number {
+        15 | 16 => operation.takes_band(),
+        17 => operation == Operation::StruckOut,
+        _ => true,
+    });
+    let sets = 1 << numbers.len();
     let set = move |bits: u32| {
-        (1..=most as u8)
-            .filter(|cause| bits >> (cause - 1) & 1 == 1)
-            .collect()
+        let chosen = |place: &usize| bits >> place & 1 == 1;
+        let places = (0..numbers.len()).filter(chosen);
+        places.map(|place| numbers[place]).collect()
     };
-    (0..1 << most).map(set)
+    (0..sets).map(set)
 }
 
 /// The tables that may be short: each in turn with cause 8, none without.
@@ -270,7 +296,10 @@ fn accepted_calls_leave_unnamed_parts() {
         let mut after = before.clone();
         assert_eq!(run(operation, &arguments, &mut after).0, 0);
         assert_eq!((&after.sets, &after.list), (&before.sets, &before.list));
-        let [narrow, wide, _] = operation.named();
+        let [narrow, wide, _, signed] = operation.named();
+        for (table, named) in signed.into_iter().enumerate() {
+            assert_eq!(after.signed[table][named..], before.signed[table][named..]);
+        }
         for (table, named) in narrow.into_iter().enumerate() {
             assert_eq!(after.narrow[table][named..], before.narrow[table][named..]);
         }
@@ -436,6 +465,32 @@ fn sources_above_n_are_13() {
         let (number, _) = run(Operation::PartialLoads, &arguments, &mut after);
         assert_eq!(number, if sources > 5 { 13 } else { 0 }, "{sources}");
         assert_eq!(before == after, sources > 5, "{sources}");
+    }
+}
+
+/// Struck out on plan A: 17 where the position is not below 12, and nothing is written then.
+#[test]
+fn positions_of_no_record_are_17() {
+    for position in EDGES.into_iter().chain(0..14) {
+        let arguments = Arguments {
+            position,
+            ..Arguments::with(&[])
+        };
+        let before = lend(Operation::StruckOut, None, &[], &arguments);
+        let mut after = before.clone();
+        let (number, _) = run(Operation::StruckOut, &arguments, &mut after);
+        assert_eq!(number, if position < 12 { 0 } else { 17 }, "{position}");
+        assert_eq!(before == after, position >= 12, "{position}");
+    }
+}
+
+#[test]
+fn struck_out_alone_takes_a_position() {
+    for operation in OPERATIONS {
+        let causes = operation.causes();
+        let takes = causes.contains(&17);
+        assert_eq!(takes, operation == Operation::StruckOut);
+        assert!(!takes || causes.windows(3).any(|three| three == [8, 17, 9]));
     }
 }
 

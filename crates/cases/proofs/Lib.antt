@@ -1,0 +1,2 @@
+-- a number's sign and size
+mod SignedLaws
