@@ -2,13 +2,14 @@
  * Plan A of document 01, doubled, through the C interface: check, reach from 0, the row of station 3, the pairs 0 to 4 and 0
  * to 3 with their ways one by one, 0 to 3 again where stations need two slots between hearing and sending on, and where they drop
  * a reading one slot after hearing it, how many ways of 0 to 4 stations 2 and 3 touch together, verdicts on lists of these ways,
- * the earliest ways of 0 to 3, the loads source by source and as a whole, the busiest station, and what the loss of a contact does
- * to the loads. With 4 slots and a reading kept for 3 or more, least chains are least ways. The callers lend all memory; the
- * example stops at a refusal.
+ * the earliest ways of 0 to 3, the loads source by source and as a whole, the busiest station, what the loss of a contact does to
+ * the loads, and the records of the loads for the drawing program, read back. With 4 slots and a reading kept for 3 or more, least
+ * chains are least ways. The callers lend all memory; the example stops at a refusal.
  */
 #include <inttypes.h>
 #include <stdio.h>
 #include <stdlib.h>
+#include <string.h>
 
 #include "joftaki.h"
 
@@ -21,6 +22,9 @@
 #define CONTACTS 12
 #define SOURCE 0
 #define STATION_OF_ROW 3
+#define STATION_OF_RECORD 3
+#define LOW_PLACE 2   /* of the low double in a station's record, in bytes */
+#define HIGH_PLACE 10 /* of the high double */
 
 /* Each contact of plan A is two records, one in each direction. The first number of a comment is the record's position. */
 static const uint8_t plan[CONTACTS * JOFTAKI_RECORD_BYTES] = {
@@ -250,6 +254,60 @@ static void print_struck_out(size_t position, uint64_t *work)
     printf("\n");
 }
 
+/* The double whose eight bytes stand high byte first, on a machine of either byte order. */
+static double double_at(const uint8_t *bytes)
+{
+    uint64_t bits = 0;
+    double value;
+    size_t i;
+
+    for (i = 0; i < sizeof bits; i++)
+        bits = (bits << 8) | bytes[i];
+    memcpy(&value, &bits, sizeof value);
+    return value;
+}
+
+/* Prints the station, load and pairs that a record is read back as, or that no station could have written it. */
+static void print_reading(const uint8_t *record)
+{
+    size_t station;
+    uint64_t load;
+    uint64_t pairs;
+
+    if (joftaki_read_record(record, JOFTAKI_DRAWN_BYTES, &station, &load, &pairs) == JOFTAKI_FOREIGN)
+        printf("foreign\n");
+    else
+        printf("%zu %" PRIu64 " %" PRIu64 "\n", station, load, pairs);
+}
+
+/* Loads for the drawing program: each station's record, byte by byte, and what it is read back as; its two doubles, 0 where the
+ * station is idle, else the exact sum of shares is at least the low and below the high; and a record that is foreign, since its
+ * low double has a minus sign. */
+static void print_drawn_loads(uint64_t *work)
+{
+    uint64_t pairs[STATIONS];
+    uint64_t loads[STATIONS];
+    uint8_t records[JOFTAKI_DRAWN_LENGTH(STATIONS)];
+    size_t v;
+
+    accept_or_stop(joftaki_drawn_loads(plan, sizeof plan, STATIONS, SLOTS, ONE_SLOT, KEPT, pairs, STATIONS, loads, STATIONS,
+                                       records, sizeof records, work, JOFTAKI_WORK_LENGTH(STATIONS, SLOTS)));
+    for (v = 0; v < STATIONS; v++) {
+        const uint8_t *record = records + v * JOFTAKI_DRAWN_BYTES;
+        size_t i;
+        for (i = 0; i < JOFTAKI_DRAWN_BYTES; i++)
+            printf("%02x ", (unsigned)record[i]);
+        printf(": ");
+        print_reading(record);
+    }
+    for (v = 0; v < STATIONS; v++) {
+        const uint8_t *record = records + v * JOFTAKI_DRAWN_BYTES;
+        printf("%zu low %.10f high %.10f\n", v, double_at(record + LOW_PLACE), double_at(record + HIGH_PLACE));
+    }
+    records[STATION_OF_RECORD * JOFTAKI_DRAWN_BYTES + LOW_PLACE] |= 0x80;
+    print_reading(records + STATION_OF_RECORD * JOFTAKI_DRAWN_BYTES);
+}
+
 int main(void)
 {
     uint64_t work[JOFTAKI_WORK_LENGTH(STATIONS, SLOTS)];
@@ -274,5 +332,6 @@ int main(void)
     print_busiest(work);
     print_struck_out(5, work);
     print_struck_out(10, work);
+    print_drawn_loads(work);
     return 0;
 }

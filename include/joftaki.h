@@ -22,19 +22,20 @@
  * rise strictly. With h = 255 every reading is kept until the plan ends, whatever t is. Both may be above t. The calls of one
  * listing have one g and one h. foremost takes no h: its stations keep every reading. s, z, v: stations. k: how many stations
  * partial_loads takes as sources, 0 to n: those below k. position: that of a record; only struck_out has it. c: the channels of a
- * band, 0 to 65,535 (C-22); only take_in has it. Every function but row and row_number reads the plan anew. None trusts an earlier
- * table; take_in and take_out go on from the use that theirs holds, whatever it is.
+ * band, 0 to 65,535 (C-22); only take_in has it. Every function but row, row_number and read_record reads the plan anew. None
+ * trusts an earlier table; take_in and take_out go on from the use that theirs holds, whatever it is.
  *
  * Answers. Every function gives a number: 0 where the call is accepted, else the number of the papers' first cause that
  * holds, in their order: 1, 2, then 3, 4, 5 record by record, then 12, 14, 13, 6, 7, 8, then 11, 15, 16 or 17, then 9, 10. First
  * way and next way have two more numbers, JOFTAKI_NONE and JOFTAKI_LAST, which are acceptances. A slot (arrival, hops, count, pairs,
  * station, verdict, offset, length) is always written: its value on acceptance; 0 on every refusal, and 0 beside JOFTAKI_NONE and
- * JOFTAKI_LAST.
+ * JOFTAKI_LAST. read_record alone refuses nothing and has no cause: beside JOFTAKI_FOREIGN it writes no slot.
  *
  * Lent memory. Tables, buffers, sets, lists and work areas may hold anything at entry. Numbers 1 to 8 and 11 to 17 leave all of them
- * as they were. 9 sets the named parts of the tables and of the work area to 0 and leaves the way buffer. 10 sets the named
- * part of the work area to 0 and leaves the way buffer. Every acceptance leaves the named part of the work area 0. The named
- * part is the length said at each prototype, whatever g and h are; entries past it are never touched, and longer is always fine.
+ * as they were. 9 sets the named parts of the tables, of the records and of the work area to 0 and leaves the way buffer. 10 sets
+ * the named part of the work area to 0 and leaves the way buffer. Every acceptance leaves the named part of the work area 0. The
+ * named part is the length said at each prototype, whatever g and h are; entries past it are never touched, and longer is always
+ * fine.
  *
  * Proved. For every call that lends memory as said below, the number, the slots and every lent entry at exit are those of
  * the definitions in crates/temporal/specs, and the function ends. The contracts stand in crates/joftaki_c/src/lib.rt, with
@@ -93,6 +94,8 @@ extern "C" {
 /* First way and next way: acceptances that give no chain. */
 #define JOFTAKI_NONE 100u /* the pair has no chain */
 #define JOFTAKI_LAST 101u /* there is no least chain after the one in the buffer */
+/* Read record: no station could have written the bytes. It is no refusal. */
+#define JOFTAKI_FOREIGN 102u
 
 /* The verdicts. Beside a refusal there is none: 0. */
 #define JOFTAKI_COMPLETE 1u  /* all least chains of the pair, one behind another */
@@ -117,6 +120,10 @@ extern "C" {
 /* The named length, in entries, of a band's table, whatever t is; and the place of slot u in it, u from 1 to 255. */
 #define JOFTAKI_BAND_LENGTH JOFTAKI_MOST_SLOTS
 #define JOFTAKI_BAND_PLACE(u) ((size_t)(u) - 1)
+
+/* The bytes of a station's record for the drawing program, and the named length, in bytes, of the records of n stations. */
+#define JOFTAKI_DRAWN_BYTES 18
+#define JOFTAKI_DRAWN_LENGTH(n) ((size_t)(n) * JOFTAKI_DRAWN_BYTES)
 
 /* The place of appearance (v, u) in a table of appearances. */
 #define JOFTAKI_PLACE(t, v, u) ((size_t)(v) * ((size_t)(t) + 1) + (size_t)(u))
@@ -278,6 +285,55 @@ uint32_t joftaki_partial_loads(const uint8_t *plan, size_t plan_length, size_t n
                                uint64_t *pairs, size_t pairs_length,
                                uint64_t *loads, size_t loads_length,
                                uint64_t *work, size_t work_length);
+
+/*
+ * Drawn loads (document 02, C-24): loads with a further lent buffer, for the drawing program. pairs and loads as loads gives them.
+ * records: for each station a record of 18 bytes, station 0 first, no header and nothing between them. The record of station v
+ * begins at v * JOFTAKI_DRAWN_BYTES: the station in 16 bits, the low and the high double (IEEE 754, binary64), the high byte first
+ * in all three.
+ *
+ * low is loads[v] / 2^32 and high (loads[v] + pairs[v]) / 2^32, both exactly: nothing is rounded. Where pairs[v] is 0 the station is
+ * idle and both are positive zero. For every other station the exact sum of shares is at least low and below high.
+ *
+ * A double stands in a record high byte first whatever the machine is. On either byte order it is taken by shifts, not by a cast:
+ *
+ *     uint64_t bits = 0;
+ *     double value;
+ *     for (i = 0; i < 8; i++)
+ *         bits = bits << 8 | bytes[i];          bytes: where the double begins, 2 or 10 behind the record's first byte
+ *     memcpy(&value, &bits, 8);                 a machine whose double and uint64_t have one byte order
+ *
+ * and the station is (size_t)record[0] << 8 | record[1].
+ *
+ * Lend: pairs and loads n entries each, records JOFTAKI_DRAWN_LENGTH(n) bytes, work JOFTAKI_WORK_LENGTH(n, t) entries.
+ * Gives 0, or the first of 1, 2, 3, 4, 5, 12, 14, 8, 9, as loads; 8 also where records is too short. 9 sets the named parts of all
+ * four to 0.
+ * Proved: the number, every entry of pairs, loads and work, and every byte of records at exit. That nothing is rounded and the span
+ * of the exact sum are theorems (crates/demands/specs/Drawn.antt).
+ * Not covered: each pointer is valid for its length, aligned and not null, also where its length is 0; pairs, loads, records, work
+ * and the plan do not overlap.
+ */
+uint32_t joftaki_drawn_loads(const uint8_t *plan, size_t plan_length, size_t n, size_t t, size_t g, size_t h,
+                             uint64_t *pairs, size_t pairs_length,
+                             uint64_t *loads, size_t loads_length,
+                             uint8_t *records, size_t records_length,
+                             uint64_t *work, size_t work_length);
+
+/*
+ * Read record (document 02, C-24): in *station, *load and *pairs what wrote these bytes as a station's record. A record is read by itself:
+ * nothing is said of other records, of n or of a plan.
+ *
+ * Gives 0, and writes the three slots; or JOFTAKI_FOREIGN, and writes nothing. JOFTAKI_FOREIGN comes for exactly those bytes that are not
+ * 18, or that no station below 256 with load and pairs below 2^49, load 0 where pairs are 0, could have written: a minus sign, also of
+ * a zero, an infinity, a not-a-number, a subnormal, a value finer than 2^-32, a high below its low, or equal to a low that is not 0. A load
+ * of 0 with pairs is not foreign, nor is a load larger than pairs * 2^32.
+ * Proved: the number and the three slots at exit, for all bytes. Reading what drawn_loads wrote gives the station with its load and its
+ * pairs (crates/demands/specs/Drawn.antt).
+ * Not covered: bytes is valid for its length and not null, also where its length is 0; station, load and pairs are valid, aligned and not
+ * null; the slots and the bytes do not overlap.
+ */
+uint32_t joftaki_read_record(const uint8_t *bytes, size_t length,
+                             size_t *station, uint64_t *load, uint64_t *pairs);
 
 /*
  * Struck out (document 02, C-23): what the loss of one contact does to the loads. position is that of a record. In changes, at place v,

@@ -3,7 +3,7 @@
  * with a mark, and the bytes that lost it are counted from the call on. The plan is a line: 256 stations, 255 slots, in slot
  * i station i - 1 sends and station i hears. Its one way from 0 to 255 has 255 legs, the most there can be, and is a least chain
  * for every h. Each function runs where every reading is kept and where it is dropped after one slot; the larger stack is printed.
- * Taking in runs before taking out, on one table.
+ * Taking in runs before taking out, on one table. The record that is read back is one that drawn loads wrote.
  */
 #define _XOPEN_SOURCE 600
 #include <inttypes.h>
@@ -20,9 +20,9 @@
 #define STACK 262144
 #define MARK 0xa5
 
-static uint8_t plan[T * JOFTAKI_RECORD_BYTES], set[N];
+static uint8_t plan[T * JOFTAKI_RECORD_BYTES], set[N], records[JOFTAKI_DRAWN_LENGTH(N)];
 static uint16_t hops_table[TABLE], near_hops[N], way[T], list[T], band[JOFTAKI_BAND_LENGTH];
-static uint64_t counts[TABLE], near_counts[N], through[N], pairs[N], loads[N], work[WORK], count;
+static uint64_t counts[TABLE], near_counts[N], through[N], pairs[N], loads[N], work[WORK], count, load;
 static int64_t changes[N];
 static size_t keeping, offset, length, arrival, hops, station;
 static uint32_t verdict;
@@ -87,6 +87,15 @@ static uint32_t run_struck_out(void)
     return few ? few : many;
 }
 
+static uint32_t run_drawn_loads(void)
+{
+    return joftaki_drawn_loads(plan, sizeof plan, N, T, 1, keeping, pairs, N, loads, N, records, sizeof records, work, WORK);
+}
+static uint32_t run_read_record(void)
+{
+    return joftaki_read_record(records + 127 * JOFTAKI_DRAWN_BYTES, JOFTAKI_DRAWN_BYTES, &station, &load, &count);
+}
+
 static const struct {
     const char *name;
     uint32_t (*run)(void);
@@ -100,6 +109,7 @@ static const struct {
     {"joftaki_foremost", run_foremost, 0},   {"joftaki_partial_loads", run_partial_loads, 0},
     {"joftaki_verdict", run_verdict, 0},    {"joftaki_take_in", run_take_in, 0},
     {"joftaki_take_out", run_take_out, 0},   {"joftaki_struck_out", run_struck_out, 0},
+    {"joftaki_drawn_loads", run_drawn_loads, 0}, {"joftaki_read_record", run_read_record, 0},
 };
 
 static unsigned char stack[STACK];

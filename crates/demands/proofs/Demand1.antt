@@ -5,7 +5,7 @@ use native.Mathlib.Nat.{pos-of-ne-zero}
 use mathlib.Core.Path.{_≡_, refl, sym, ap, subst, _∙_}
 use mathlib.Core.Bool.{Bool, true, false}
 use mathlib.Core.List.{List, [], _∷_, append-assoc}
-use mathlib.Core.Logic.{_↔_, _≢_}
+use mathlib.Core.Logic.{_↔_, _≢_, ⊎-elim}
 use mathlib.Core.Option.{none}
 use borrow.Author.Tests.{le-ltb}
 use lib.ListN.{length, take, drop, length-take, length-drop}
@@ -17,9 +17,11 @@ use Rattle.temporal.specs.OutcomePair.{PairBuffers, paired, pair, LoadBuffers, 
 use Rattle.temporal.specs.OutcomeSet.{setCounted, throughSet}
 use Rattle.temporal.specs.OutcomeForemost.{foremostPaired, foremost}
 use Rattle.temporal.specs.OutcomeVerdict.{judged, verdict}
+use Rattle.temporal.specs.OutcomeDrawn.{DrawnBuffers, drawnLoaded, drawnLoads}
 use Rattle.temporal.specs.Struck.{struckOut}
 use Rattle.temporal.specs.OutcomeStruck.{StruckBuffers, eitherTooMany, struckOff, struck}
 use Rattle.temporal.specs.Band.{takeIn, takeOut}
+use Rattle.temporal.proofs.ListLaws.{true-or-false}
 use Rattle.temporal.proofs.NumberLaws.{none-has, cause-has, append-has, plan-has, ends-has, turning-other}
 use Rattle.plan.specs.Fault.{checkNumber}
 use Rattle.plan.specs.declared.CheckAnswer.{CheckAnswer}
@@ -40,6 +42,8 @@ use Rattle.demands.specs.Causes.{
   throughSetCauses,
   foremostCauses,
   verdictCauses,
+  drawnCauses,
+  drawnEmptied,
   struckCauses,
   struckEmptied,
   takeInCauses,
@@ -144,6 +148,24 @@ loads-judged bs n t terms old =
     judged-without tt old (loadsEmptied n t old) (planCauses bs n t) (termsCauses terms) _ 13 (wrongSources n n) _ (le-ltb n n (omega arith))
     (partial-loads-judged bs n t terms n old)
 
+-- the number of the work is that of loads
+drawn-worked : (bs : List ℕ) (n t : ℕ) (terms : Terms) (old : DrawnBuffers)
+    → Judged (cause 9 (tooManyAnywhere (planOf bs n t terms)) ∷ []) tt old (drawnEmptied n t old) (drawnLoaded (planOf bs n t terms) old)
+unfolding drawnLoaded partlyLoaded drawnEmptied loadsEmptied planOf cause first
+drawn-worked bs n t terms old =
+    ⊎-elim
+    (λ many. rw many (judged-too-many tt old (drawnEmptied n t old) (9 ∷ []) refl))
+    (λ few. rw few (judged-accepted tt old (drawnEmptied n t old) (0 ∷ []) _ refl refl))
+    (true-or-false (tooManyAnywhere (planOf bs n t terms)))
+
+drawn-judged : (bs : List ℕ) (n t : ℕ) (terms : Terms) (old : DrawnBuffers)
+    → Judged (drawnCauses bs n t terms old) tt old (drawnEmptied n t old) (drawnLoads bs n t terms old)
+unfolding drawnLoads drawnCauses termsCauses
+drawn-judged bs n t terms old =
+    subst (λ l. Judged l tt old (drawnEmptied n t old) (drawnLoads bs n t terms old))
+    (append-assoc (planCauses bs n t) (_ ∷ _ ∷ _ ∷ []) (_ ∷ []))
+    (judged-entered tt old (drawnEmptied n t old) _ _ _ (plain-short bs n t terms _) (drawn-worked bs n t terms old))
+
 struck-judged : (bs : List ℕ) (n t : ℕ) (terms : Terms) (i : ℕ) (old : StruckBuffers)
     → Judged (struckCauses bs n t terms i old) 0 old (struckEmptied n t old) (struck bs n t terms i old)
 unfolding struck struckOff struckCauses struckEmptied planOf struckOut termsCauses
@@ -222,6 +244,8 @@ demand1 =
       of-partial-loads = λ bs n t terms k old x r e.
           subst (Judged (partialLoadsCauses bs n t terms k old) tt old (loadsEmptied n t old)) (sym e)
           (partial-loads-judged bs n t terms k old);
+      of-drawn-loads = λ bs n t terms old x r e.
+          subst (Judged (drawnCauses bs n t terms old) tt old (drawnEmptied n t old)) (sym e) (drawn-judged bs n t terms old);
       of-busiest = λ bs n t terms old x r e.
           subst (Judged (busiestCauses bs n t terms old) 0 old (cleared (workSize n t) old)) (sym e) (busiest-judged bs n t terms old);
       of-struck = λ bs n t terms i old x r e.

@@ -14,6 +14,7 @@ use Rattle.temporal.specs.Cause.{appearanceTooMany, tooMany, tooManyBelow, tooM
 use Rattle.temporal.specs.Outcome.{over, cleared, short, places, workSize, ReachTables}
 use Rattle.temporal.specs.OutcomePair.{PairBuffers, LoadBuffers}
 use Rattle.temporal.specs.OutcomeSet.{setCauses}
+use Rattle.temporal.specs.OutcomeDrawn.{DrawnBuffers, recordsSize, drawnShort}
 use Rattle.temporal.specs.OutcomeStruck.{StruckBuffers, eitherTooMany, wrongPosition}
 use Rattle.temporal.specs.Band.{bandSlots, overBand, underBand}
 use Rattle.temporal.specs.Cursor.{sameNumbers}
@@ -74,6 +75,17 @@ loadsEmptied n t old =
       loadTable = cleared n (old .loadTable);
       work = cleared (workSize n t) (old .work);
     }
+
+-- ---- Loads for the drawing program (document 02, C-24): those of loads, 8 of the records too
+
+unfoldable pub drawnCauses : List ℕ → ℕ → ℕ → Terms → DrawnBuffers → List ℕ
+drawnCauses bs n t terms old =
+    planCauses bs n t ++
+    (termsCauses terms ++ cause 8 (drawnShort n t old) ∷ cause 9 (tooManyAnywhere (planOf bs n t terms)) ∷ [])
+
+-- the named part of the records becomes 0 too
+unfoldable pub drawnEmptied : ℕ → ℕ → DrawnBuffers → DrawnBuffers
+drawnEmptied n t old = record { tables = loadsEmptied n t (old .tables); records = cleared (recordsSize n) (old .records) }
 
 unfoldable pub busiestCauses : List ℕ → ℕ → ℕ → Terms → List ℕ → List ℕ
 busiestCauses bs n t terms work =

@@ -15,6 +15,7 @@ use Rattle.temporal.specs.OutcomePair.{PairBuffers, pair, LoadBuffers, partialL
 use Rattle.temporal.specs.OutcomeSet.{throughSet}
 use Rattle.temporal.specs.OutcomeForemost.{foremost}
 use Rattle.temporal.specs.OutcomeVerdict.{verdict}
+use Rattle.temporal.specs.OutcomeDrawn.{DrawnBuffers, drawnLoads}
 use Rattle.temporal.specs.OutcomeStruck.{StruckBuffers, struck}
 use Rattle.temporal.specs.Band.{takeIn, takeOut}
 use Rattle.temporal.specs.Cursor.{Reply, path, no-path, last-path, refused, first-way, next-way}
@@ -36,6 +37,7 @@ use Rattle.foremost.specs.Answer.{foremostOutcome}
 use Rattle.foremost.specs.declared.ForemostAnswer.{ForemostAnswer}
 use Rattle.verdicts.specs.Answer.{verdictOutcome}
 use Rattle.verdicts.specs.declared.VerdictAnswer.{VerdictAnswer}
+use Rattle.drawn.specs.Answer.{drawnOutcome}
 use Rattle.struck.specs.Answer.{struckOutcome}
 use Rattle.struck.specs.declared.StruckAnswer.{StruckAnswer}
 use Rattle.band.specs.Answer.{bandOutcome}
@@ -52,6 +54,8 @@ use Rattle.demands.specs.Causes.{
   loadsCauses,
   loadsEmptied,
   partialLoadsCauses,
+  drawnCauses,
+  drawnEmptied,
   busiestCauses,
   throughSetCauses,
   foremostCauses,
@@ -132,6 +136,8 @@ pub record Demand1 : Type 0 where
   pub of-partial-loads : (bs : List ℕ) (n t : ℕ) (terms : Terms) (k : ℕ) (old x : LoadBuffers) (r : LoadsAnswer)
       → loadsOutcome r x ≡ partialLoads bs n t terms k old
       → Judged (partialLoadsCauses bs n t terms k old) tt old (loadsEmptied n t old) (loadsOutcome r x)
+  pub of-drawn-loads : (bs : List ℕ) (n t : ℕ) (terms : Terms) (old x : DrawnBuffers) (r : LoadsAnswer) → drawnOutcome r x ≡ drawnLoads bs n t terms old
+      → Judged (drawnCauses bs n t terms old) tt old (drawnEmptied n t old) (drawnOutcome r x)
   pub of-busiest : (bs : List ℕ) (n t : ℕ) (terms : Terms) (old x : List ℕ) (r : BusiestAnswer) → busiestOutcome r x ≡ busiest bs n t terms old
       → Judged (busiestCauses bs n t terms old) 0 old (cleared (workSize n t) old) (busiestOutcome r x)
   pub of-struck : (bs : List ℕ) (n t : ℕ) (terms : Terms) (i : ℕ) (old x : StruckBuffers) (r : StruckAnswer)

@@ -27,3 +27,5 @@ pub mod Verdicts
 pub mod Band
 -- C-23: a contact struck out
 pub mod Struck
+-- C-24: loads for the drawing program
+pub mod Drawn

@@ -12,3 +12,5 @@ pub mod ByteLaws
 pub mod RecordLaws
 -- reading
 pub mod ReadLaws
+-- foreign records
+pub mod ForeignLaws

@@ -3,3 +3,5 @@ mod CodeLaws
 mod RowLaws
 -- the number and the hops slot tell the reply
 pub mod Told
+-- what read_record gives
+mod ReadingLaws

@@ -8,6 +8,7 @@ ghost use Rattle.temporal.specs.Outcome.{reach, rowNumber};
 ghost use Rattle.temporal.specs.OutcomePair.{pair, partialLoads, loads, busiest};
 ghost use Rattle.temporal.specs.OutcomeSet.{throughSet};
 ghost use Rattle.temporal.specs.OutcomeForemost.{foremost};
+ghost use Rattle.temporal.specs.OutcomeDrawn.{drawnLoads};
 ghost use Rattle.temporal.specs.OutcomeStruck.{struck};
 ghost use Rattle.temporal.specs.OutcomeVerdict.{verdict};
 ghost use Rattle.temporal.specs.Band.{takeIn, takeOut};
@@ -17,6 +18,7 @@ ghost use Rattle.plan.specs.Fault.{faultNumber};
 ghost use Rattle.reach.specs.Pass.{lentTables};
 ghost use Rattle.pair.specs.Answer.{pairBuffers};
 ghost use Rattle.loads.specs.Answer.{loadsNumber, loadBuffers};
+ghost use Rattle.drawn.specs.Answer.{drawnBuffers};
 ghost use Rattle.struck.specs.Answer.{struckBuffers};
 ghost use Rattle.band.specs.Answer.{bandNumber};
 ghost use Rattle.judging.specs.Judge.{verdictOf};
@@ -34,7 +36,9 @@ ghost use Rattle.joftaki_c.specs.Slots.{
   verdictCoded,
 };
 ghost use Rattle.joftaki_c.specs.Code.{replyCode, replyHops, wayGiven, wayExit};
+ghost use Rattle.joftaki_c.specs.Reading.{readSlots, ReadGiven};
 use band::BandAnswer;
+use drawing::Reading;
 use foremost::ForemostAnswer;
 use judging::Judgement;
 use listing::WayAnswer;
@@ -206,6 +210,49 @@ pub extern "C" fn joftaki_loads(
         loads (now (plan .entry)) n t (units g h) (loadBuffers (now (pairs .entry)) (now (sums .entry)) (now (work .entry))) ⌝ }
 {
     loads_code(loads::loads(plan, n, t, g, h, pairs, sums, work))
+}
+
+// Document 02's loads for the drawing program: its number, and the two tables, the records and the work area as the operation leaves them.
+#[no_mangle]
+pub extern "C" fn joftaki_drawn_loads(
+    plan: &[u8],
+    n: usize,
+    t: usize,
+    g: usize,
+    h: usize,
+    pairs: &mut [u64],
+    sums: &mut [u64],
+    records: &mut [u8],
+    work: &mut [u64],
+) -> u32
+    ensures { λ r. ⌜ answered r (drawnBuffers (now (pairs .exit)) (now (sums .exit)) (now (records .exit)) (now (work .exit))) ≡
+        drawnLoads (now (plan .entry)) n t (units g h)
+        (drawnBuffers (now (pairs .entry)) (now (sums .entry)) (now (records .entry)) (now (work .entry))) ⌝ }
+{
+    loads_code(drawn::drawn_loads(plan, n, t, g, h, pairs, sums, records, work))
+}
+
+// Reading a record of the drawing program: 0 and the station, the load and the pairs in three slots; or 102 where the bytes are foreign,
+// and nothing is written.
+#[no_mangle]
+pub extern "C" fn joftaki_read_record(
+    bytes: &[u8],
+    station: &mut usize,
+    load: &mut u64,
+    pairs: &mut u64,
+) -> u32
+    ensures { λ r. ⌜ ReadGiven (now (bytes .entry)) r (readSlots (now (station .entry)) (now (load .entry)) (now (pairs .entry)))
+        (readSlots (now (station .exit)) (now (load .exit)) (now (pairs .exit))) ⌝ }
+{
+    match drawing::read_record(bytes) {
+        Reading::Station(v, sum, count) => {
+            *station = v;
+            *load = sum;
+            *pairs = count;
+            0
+        }
+        Reading::Foreign => 102,
+    }
 }
 
 // Operation 6, busiest: its number, and the station in a slot; 0 on refusal.

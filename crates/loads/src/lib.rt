@@ -53,7 +53,7 @@ fn largest(list: &[u64], from: usize, k: usize) -> usize
 }
 
 // Partial loads once 1 to 8, 12, 14 and 13 are excluded.
-fn partial_loads_work(
+pub fn partial_loads_work(
     pairs: &mut [u64],
     sums: &mut [u64],
     work: &mut [u64],

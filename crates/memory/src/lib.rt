@@ -46,6 +46,18 @@ pub fn clear(table: &mut [u64], k: usize)
     fill_part(table, 0, k, 0);
 }
 
+// Writes one number to the first k entries.
+pub fn fill8(table: &mut [u8], k: usize, x: u8)
+    requires { ⌜ k ≤ length (now table) ⌝ }
+    ensures { λ _. ⌜ now (table .exit) ≡ over (replicate k x) (now (table .entry)) ⌝ }
+{
+    let mut i = 0;
+    while i < k {
+        table[i] = x;
+        i += 1;
+    }
+}
+
 // Copies k entries of a list, from a place on, to the beginning of a table.
 pub fn copy(table: &mut [u64], list: &[u64], from: usize, k: usize)
     requires { ⌜ Copyable (now list) from k (now table) ⌝ }

@@ -1,8 +1,9 @@
 -- The records that the drawing program takes (C-24): 18 bytes for a station, two of them its number and eight each a low and a high
 -- double. A double is said by its 64 bits, and what they are worth in whole numbers. Definitions only.
 -- Assumes nothing.
-use Prim.Native.Nat.{ℕ, zero, suc, _+_, _-_, _*_, _/_, _%_, _^_, _<_}
+use Prim.Native.Nat.{ℕ, zero, suc, _+_, _-_, _*_, _/_, _%_, _^_, _<_, _≤_}
 use mathlib.Core.Path.{_≡_}
+use mathlib.Core.Logic.{_≢_}
 use mathlib.Core.Bool.{cond}
 use mathlib.Core.List.{List, [], _∷_, _++_}
 use lib.Dec.{eqb}
@@ -91,3 +92,15 @@ pub data ReadBack : Type 0 where
 unfoldable pub Reads : List ℕ → ReadBack → Type 0
 Reads bytes foreign = (v load pairs : ℕ) → CouldWrite v load pairs bytes → ⊥
 Reads bytes (station v load pairs) = CouldWrite v load pairs bytes
+
+-- Kinds of records of 18 bytes that are foreign, by the station and the bits of the doubles that stand in them.
+pub record ForeignKinds (s low high : ℕ) : Type 0 where
+  pub station-high : 256 ≤ s → Reads (recordOf s low high) foreign
+  -- a minus sign, of minus zero too, an infinity or a not-a-number
+  pub low-not-plain : 2047 * 2 ^ 52 ≤ low → Reads (recordOf s low high) foreign
+  pub high-not-plain : 2047 * 2 ^ 52 ≤ high → Reads (recordOf s low high) foreign
+  -- finer than 2^-32, as every subnormal is
+  pub low-finer : ((x : ℕ) → multiple low ≢ x * 2 ^ 1042) → Reads (recordOf s low high) foreign
+  pub high-finer : ((x : ℕ) → multiple high ≢ x * 2 ^ 1042) → Reads (recordOf s low high) foreign
+  pub high-below : multiple high < multiple low → Reads (recordOf s low high) foreign
+  pub high-level : multiple high ≡ multiple low → multiple low ≢ 0 → Reads (recordOf s low high) foreign

@@ -13,6 +13,7 @@ pub mod Cause
 pub mod Outcome
 pub mod OutcomePair
 pub mod Drawing
+pub mod OutcomeDrawn
 pub mod OutcomeSet
 pub mod OutcomeForemost
 pub mod OutcomeStruck

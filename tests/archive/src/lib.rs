@@ -234,6 +234,10 @@ macro_rules! on_terms {
     };
 }
 
+mod drawing;
+
+pub use drawing::{drawn_loads, read_record};
+
 /// Operation 1, on the plan, n and T of an input.
 pub fn check(input: PlanInput) -> u32 {
     let (plan, n, t) = (input.bytes, input.stations, input.slots);

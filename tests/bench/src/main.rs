@@ -1,8 +1,10 @@
 //! Times loads, pair, whole listings and verdicts of libjoftaki_c.a beside the same passes in Rust, or beside
-//! another archive, and struck out beside loads, and prints the tables of docs/PERFORMANCE.md.
+//! another archive, and struck out and drawn loads beside loads, and prints the tables of docs/PERFORMANCE.md.
 
 mod against;
+mod beside;
 mod clock;
+mod drawn;
 mod instructions;
 mod keepings;
 mod library;

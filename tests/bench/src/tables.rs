@@ -4,6 +4,7 @@ use std::time::Duration;
 
 use lister::plan::Ends;
 
+use crate::drawn;
 use crate::measure::{measure, measure_plans, measure_verdict, Effort, Times, WHOLE};
 use crate::plans::{by_records, by_slots, by_stations, named, turned, Plan};
 use crate::question::{question_of, timed_pair, Question, QUESTIONS};
@@ -16,6 +17,7 @@ fn questions(effort: Effort) {
     of_pairs("A whole listing", effort, &named(), Question::Listing);
     verdicts(effort, &named());
     struck::table(effort, &named());
+    drawn::table(effort, &named());
 }
 
 /// All tables.

@@ -50,6 +50,7 @@ fn call<'a>(taking: Taking, input: PlanInput<'a>, table: &[u16]) -> Call<'a> {
             narrow: vec![table.to_vec()],
             wide: Vec::new(),
             signed: Vec::new(),
+            bytes: Vec::new(),
             sets: Vec::new(),
             list: Vec::new(),
         },

@@ -25,6 +25,7 @@ pub fn function(operation: Operation) -> &'static str {
         Operation::TakeIn => "joftaki_take_in",
         Operation::TakeOut => "joftaki_take_out",
         Operation::StruckOut => "joftaki_struck_out",
+        Operation::DrawnLoads => "joftaki_drawn_loads",
     }
 }
 
@@ -88,7 +89,8 @@ impl fmt::Display for Call<'_> {
         write!(to, "{}, {name} {given:?}", function(self.operation))?;
         write!(to, ", 16-bit tables {:?}", lengths(&self.lent.narrow))?;
         write!(to, ", 64-bit tables {:?}", lengths(&self.lent.wide))?;
-        writeln!(to, ", with a sign {:?}", lengths(&self.lent.signed))?;
+        write!(to, ", with a sign {:?}", lengths(&self.lent.signed))?;
+        writeln!(to, ", bytes {:?}", lengths(&self.lent.bytes))?;
         for set in &self.lent.sets {
             writeln!(to, "set: {set:?}")?;
         }

@@ -11,14 +11,15 @@ use lister::verdicts::VERDICTS;
 
 use crate::call::{function, Call};
 use crate::native::{self, Seen};
+use crate::reading::Readings;
 
 /// The text of a difference.
 pub type Difference = String;
 
 /// The comparisons so far: how often each operation answered each number, how often its through counts were
 /// added up, how often they were fewer than the hops' stations, how often each verdict was given, how often
-/// partial loads were held to the loads and to those of fewer sources, what came in runs on a band, and how often changes
-/// of load were held to the loads.
+/// partial loads were held to the loads and to those of fewer sources, what came in runs on a band, how often changes of
+/// load were held to the loads, and what was read of records.
 #[derive(Clone, Debug, Default)]
 pub struct Comparison {
     answers: BTreeMap<(Operation, u32), u64>,
@@ -33,6 +34,8 @@ pub struct Comparison {
     /// The calls of struck out whose changes were held to the loads; those with a change above 0, with one below 0, and
     /// with one as large as can be.
     pub changes: [u64; 4],
+    /// The readings of records.
+    pub readings: Readings,
 }
 
 impl Comparison {
@@ -45,9 +48,11 @@ impl Comparison {
         told += &tables_text("64-bit", &lent.wide, &seen.lent.wide);
         told += &tables_text("8-bit", &lent.sets, &seen.lent.sets);
         told += &tables_text("64-bit with a sign", &lent.signed, &seen.lent.signed);
+        told += &tables_text("records, 8-bit", &lent.bytes, &seen.lent.bytes);
         told += &tables_text("list, 16-bit", &[lent.list], &[seen.lent.list.clone()]);
         if told.is_empty() {
             told += &self.every_hop_accounted(call, &seen);
+            told += &self.every_record_read_back(call, &seen);
         }
         if !told.is_empty() {
             let given = answer_text(call.operation, seen.number, &seen.values);
@@ -92,6 +97,15 @@ impl Comparison {
         }
     }
 
+    /// The text of a record of an accepted call of drawn loads that is not read back.
+    fn every_record_read_back(&mut self, call: &Call, seen: &Seen) -> String {
+        if (call.operation, seen.number) != (Operation::DrawnLoads, 0) {
+            return String::new();
+        }
+        let read = self.readings.read_back(call.input.stations, seen);
+        read.err().unwrap_or_default()
+    }
+
     /// How often an operation answered a number.
     fn answered(&self, operation: Operation, number: u32) -> u64 {
         self.answers.get(&(operation, number)).copied().unwrap_or(0)
@@ -128,6 +142,8 @@ impl Comparison {
         never.extend((self.in_twice == 0).then_some(("a plan in twice", 0)));
         let unseen = self.changes.iter().any(|times| *times == 0);
         never.extend(unseen.then_some(("changes of every kind", 0)));
+        let unseen = self.readings.lack_a_kind();
+        never.extend(unseen.then_some(("readings of every kind", 0)));
         never
     }
 
@@ -172,6 +188,14 @@ impl Comparison {
         let [held, up, down, largest] = self.changes;
         let kinds = format!("above 0 {up}, below 0 {down}, as large as can be {largest}");
         let _ = writeln!(text, "changes held to the loads: {held}; {kinds}");
+        let [foreign, known] = self.readings.bytes;
+        let _ = writeln!(
+            text,
+            "joftaki_read_record: foreign {foreign}, records {known}"
+        );
+        let [idle, unshared, loaded] = self.readings.written;
+        let kinds = format!("idle {idle}, without load {unshared}, with load {loaded}");
+        let _ = writeln!(text, "of these written by drawn loads: {kinds}");
         text
     }
 }

@@ -136,8 +136,8 @@ fn turned_plans() -> Vec<Owned> {
     plans
 }
 
-/// Each operation from the first station to the last, on memory of exactly the named lengths; loads, busiest and
-/// struck out at the first position where they are refused or drawn. Partial loads of no source, of the first, and of one
+/// Each operation from the first station to the last, on memory of exactly the named lengths; loads, busiest, drawn loads
+/// and struck out at the first position where they are refused or drawn. Partial loads of no source, of the first, and of one
 /// too many.
 fn ends(comparison: &mut Comparison, random: &mut Random, owned: &Owned) -> Result<(), Difference> {
     let stations = [0, owned.stations - 1];
@@ -146,7 +146,7 @@ fn ends(comparison: &mut Comparison, random: &mut Random, owned: &Owned) -> Resu
     for operation in OPERATIONS {
         let of_all = matches!(
             operation,
-            Operation::Loads | Operation::Busiest | Operation::StruckOut
+            Operation::Loads | Operation::Busiest | Operation::StruckOut | Operation::DrawnLoads
         );
         if of_all && !refused && !draw_loads(random, owned) {
             continue;

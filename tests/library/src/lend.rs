@@ -25,8 +25,9 @@ fn named_size(size: usize, most: usize) -> usize {
     }
 }
 
-/// Lengths of an operation's tables, 16 bits, then 64 bits, of its sets, and of its tables of 64 bits with a sign.
-pub type Parts = [Vec<usize>; 4];
+/// Lengths of an operation's tables, 16 bits, then 64 bits, of its sets, of its tables of 64 bits with a sign, and of its
+/// buffers of bytes.
+pub type Parts = [Vec<usize>; 5];
 
 /// The named lengths of an operation.
 pub fn named(operation: Operation, input: PlanInput) -> Parts {
@@ -37,6 +38,7 @@ pub fn named(operation: Operation, input: PlanInput) -> Parts {
         operation.wide(stations, slots),
         operation.sets(stations),
         operation.signed(stations),
+        operation.bytes(stations),
     ]
 }
 
@@ -68,13 +70,18 @@ pub fn signed(random: &mut Random, length: usize) -> Vec<i64> {
     (0..length).map(|_| random.number() as i64).collect()
 }
 
+/// Arbitrary bytes.
+pub fn bytes(random: &mut Random, length: usize) -> Vec<u8> {
+    (0..length).map(|_| random.number() as u8).collect()
+}
+
 /// A set for so many stations, at any odds of members; behind them arbitrary bytes. Some sets have
 /// another byte than 0 and 1.
 pub fn set(random: &mut Random, stations: usize, length: usize) -> Vec<u8> {
     let odds = random.between(1, 6);
     let inverted = random.below(2) == 0;
     let member = |random: &mut Random| u8::from((random.below(odds) == 0) != inverted);
-    let mut set: Vec<u8> = (0..length).map(|_| random.number() as u8).collect();
+    let mut set = bytes(random, length);
     let inside = stations.min(length);
     set[..inside].fill_with(|| member(random));
     if inside > 0 && random.below(12) == 0 {
@@ -86,7 +93,7 @@ pub fn set(random: &mut Random, stations: usize, length: usize) -> Vec<u8> {
 /// Memory of given lengths for a call, with arbitrary contents; sets are for so many stations. The list is
 /// empty.
 pub fn of_lengths(random: &mut Random, lengths: &Parts, stations: usize) -> Lent {
-    let [narrow_lengths, wide_lengths, set_lengths, signed_lengths] = lengths;
+    let [narrow_lengths, wide_lengths, set_lengths, signed_lengths, byte_lengths] = lengths;
     Lent {
         narrow: (narrow_lengths.iter())
             .map(|length| narrow(random, *length))
@@ -99,6 +106,9 @@ pub fn of_lengths(random: &mut Random, lengths: &Parts, stations: usize) -> Lent
             .collect(),
         signed: (signed_lengths.iter())
             .map(|length| signed(random, *length))
+            .collect(),
+        bytes: (byte_lengths.iter())
+            .map(|length| bytes(random, *length))
             .collect(),
         list: Vec::new(),
     }

@@ -4,12 +4,14 @@ mod band;
 mod call;
 mod causes;
 mod compare;
+mod drawing;
 mod edges;
 mod lend;
 mod lists;
 mod native;
 mod partial;
 mod plans;
+mod reading;
 mod rounds;
 mod stale;
 mod struck;
@@ -28,7 +30,8 @@ const USAGE: &str = "usage:
   library round SEED         one round alone";
 
 /// What is compared: the tiny plans, some or all of their g and h; then the numbers against each other, plans in a
-/// band, contacts that are struck out and the edges; then so many rounds. The first seed is of all of them.
+/// band, contacts that are struck out, loads for the drawing program, records and the edges; then so many rounds. The
+/// first seed is of all of them.
 #[derive(Clone, Copy, Debug)]
 struct Extent {
     /// None where only rounds are compared.
@@ -93,8 +96,8 @@ fn told(comparison: &mut Comparison, extent: Extent) -> ExitCode {
     ExitCode::SUCCESS
 }
 
-/// The tiny plans, the numbers against each other, plans in a band, contacts that are struck out, the edges, then the
-/// rounds.
+/// The tiny plans, the numbers against each other, plans in a band, contacts that are struck out, loads for the drawing
+/// program, records, the edges, then the rounds.
 fn run(comparison: &mut Comparison, extent: Extent) -> Result<(), Difference> {
     let Extent { tiny, rounds, seed } = extent;
     let named = |name: String| move |text: Difference| format!("difference in {name}\n{text}");
@@ -104,6 +107,9 @@ fn run(comparison: &mut Comparison, extent: Extent) -> Result<(), Difference> {
         causes::compare(comparison, seed).map_err(named(format!("causes, seed {seed}")))?;
         band::compare(comparison, seed).map_err(named(format!("bands, seed {seed}")))?;
         struck::compare(comparison, seed).map_err(named(format!("struck out, seed {seed}")))?;
+        drawing::compare(comparison, seed).map_err(named(format!("drawn loads, seed {seed}")))?;
+        let reading = reading::compare(comparison, seed, terms.into());
+        reading.map_err(named(format!("records, seed {seed}")))?;
         edges::compare(comparison, seed).map_err(named(format!("edges, seed {seed}")))?;
     }
     for round in 0..rounds {

@@ -11,13 +11,13 @@ use crate::call::Call;
 const GUARD: usize = 4;
 
 /// A lent part between entries that nothing may write.
-struct Guarded<N> {
+pub struct Guarded<N> {
     mark: N,
     all: Vec<N>,
 }
 
 impl<N: Copy + PartialEq> Guarded<N> {
-    fn new(entries: &[N], mark: N) -> Guarded<N> {
+    pub fn new(entries: &[N], mark: N) -> Guarded<N> {
         let guard = [mark; GUARD];
         Guarded {
             mark,
@@ -30,18 +30,18 @@ impl<N: Copy + PartialEq> Guarded<N> {
     }
 
     /// The lent part, for a call.
-    fn lent(&mut self) -> &mut [N] {
+    pub fn lent(&mut self) -> &mut [N] {
         let length = self.length();
         &mut self.all[GUARD..][..length]
     }
 
     /// The lent part.
-    fn entries(&self) -> &[N] {
+    pub fn entries(&self) -> &[N] {
         &self.all[GUARD..][..self.length()]
     }
 
     /// Nothing was written before and behind the lent part.
-    fn kept(&self) -> bool {
+    pub fn kept(&self) -> bool {
         let (front, rest) = self.all.split_at(GUARD);
         let behind = &rest[self.length()..];
         front.iter().chain(behind).all(|entry| *entry == self.mark)
@@ -72,6 +72,8 @@ pub fn run(call: &Call) -> Seen {
     let mut signed: Vec<Guarded<i64>> = signed
         .map(|table| Guarded::new(table, -0x5A3C_F096_E1D2_4B78))
         .collect();
+    let bytes = call.lent.bytes.iter();
+    let mut bytes: Vec<Guarded<u8>> = bytes.map(|buffer| Guarded::new(buffer, 0x7D)).collect();
     let mut values = Guarded::new(&call.values, 0x5A3C_F096);
     let mut plan = Guarded::new(call.input.bytes, 0xA5);
     let input = PlanInput {
@@ -84,6 +86,7 @@ pub fn run(call: &Call) -> Seen {
         wide: &mut wide,
         sets: &mut sets,
         signed: &mut signed,
+        bytes: &mut bytes,
     };
     let number = answer(call, input, tables, list.lent(), values.lent());
     let outside_kept = plan.entries() == call.input.bytes
@@ -93,6 +96,7 @@ pub fn run(call: &Call) -> Seen {
         && wide.iter().all(Guarded::kept)
         && sets.iter().all(Guarded::kept)
         && signed.iter().all(Guarded::kept)
+        && bytes.iter().all(Guarded::kept)
         && list.kept();
     Seen {
         number,
@@ -101,6 +105,7 @@ pub fn run(call: &Call) -> Seen {
             wide: entries_of(&wide),
             sets: entries_of(&sets),
             signed: entries_of(&signed),
+            bytes: entries_of(&bytes),
             list: list.entries().to_vec(),
         },
         values: values.entries().to_vec(),
@@ -114,12 +119,13 @@ fn entries_of<N: Copy + PartialEq>(tables: &[Guarded<N>]) -> Vec<Vec<N>> {
     entries.collect()
 }
 
-/// The lent parts: 16-bit tables, 64-bit tables, sets, and tables of 64 bits with a sign.
+/// The lent parts: 16-bit tables, 64-bit tables, sets, tables of 64 bits with a sign, and buffers of bytes.
 struct Tables<'a> {
     narrow: &'a mut [Guarded<u16>],
     wide: &'a mut [Guarded<u64>],
     sets: &'a mut [Guarded<u8>],
     signed: &'a mut [Guarded<i64>],
+    bytes: &'a mut [Guarded<u8>],
 }
 
 /// The number that the library answers.
@@ -129,6 +135,7 @@ fn answer(call: &Call, input: PlanInput, tables: Tables, list: &[u16], values: &
         wide,
         sets,
         signed,
+        bytes,
     } = tables;
     let [s, z] = call.arguments;
     match (call.operation, narrow, wide, values) {
@@ -188,6 +195,10 @@ fn answer(call: &Call, input: PlanInput, tables: Tables, list: &[u16], values: &
         (Operation::StruckOut, [], [work], [pairs]) => {
             let [position, _] = call.arguments;
             archive::struck_out(input, position, pairs, signed[0].lent(), work.lent())
+        }
+        (Operation::DrawnLoads, [], [pairs, loads, work], []) => {
+            let (pairs, loads) = (pairs.lent(), loads.lent());
+            archive::drawn_loads(input, pairs, loads, bytes[0].lent(), work.lent())
         }
         (operation, ..) => panic!("{operation:?} lends other tables"),
     }

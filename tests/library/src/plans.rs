@@ -38,6 +38,32 @@ pub fn small(random: &mut Random) -> Owned {
     }
 }
 
+/// A small valid plan for a round: with turnarounds, with small g and h, and with any g and h, in turn.
+pub fn in_turn(random: &mut Random, round: usize) -> Owned {
+    match round % 3 {
+        0 => random_turned_plan(random),
+        1 => random_stale_plan(random),
+        _ => {
+            let owned = small(random);
+            with_terms(random, owned)
+        }
+    }
+}
+
+/// A small plan, or now and then a sparse one of any size; mostly damaged, with other stations or with another size.
+pub fn any_damaged(random: &mut Random) -> Owned {
+    let owned = match random.below(12) {
+        0 => sparse(random),
+        _ => small(random),
+    };
+    match random.below(4) {
+        0 => damaged(random, owned),
+        1 => other_stations(random, owned),
+        2 => resized(random, owned),
+        _ => owned,
+    }
+}
+
 /// A valid plan of any size with few records.
 pub fn sparse(random: &mut Random) -> Owned {
     let stations = random.between(1, MOST_STATIONS);

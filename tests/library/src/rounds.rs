@@ -125,10 +125,11 @@ fn station(random: &mut Random, stations: usize) -> usize {
     }
 }
 
-/// Loads, partial loads, busiest and struck out are rarer on plans with more than so many records for all pairs together.
+/// Loads, partial loads, busiest, struck out and drawn loads are rarer on plans with more than so many records for all
+/// pairs together.
 const EVERY_PAIR: usize = 1_000_000;
 
-/// Whether loads, partial loads, busiest or struck out is drawn for a plan: the more work it is, the rarer.
+/// Whether loads, partial loads, busiest, struck out or drawn loads is drawn for a plan: the more work it is, the rarer.
 pub fn draw_loads(random: &mut Random, owned: &Owned) -> bool {
     let records = owned.bytes.len() / RECORD_BYTES;
     let work = owned.stations.min(MOST_STATIONS).pow(2) * records;
@@ -136,7 +137,7 @@ pub fn draw_loads(random: &mut Random, owned: &Owned) -> bool {
 }
 
 /// Each operation so many times, with stations, a number of sources or a position drawn; check, loads, partial loads,
-/// busiest and struck out once at most.
+/// busiest, struck out and drawn loads once at most.
 pub fn some_calls(
     comparison: &mut Comparison,
     random: &mut Random,
@@ -150,7 +151,8 @@ pub fn some_calls(
             Operation::Loads
             | Operation::PartialLoads
             | Operation::Busiest
-            | Operation::StruckOut => draw_loads(random, owned).into(),
+            | Operation::StruckOut
+            | Operation::DrawnLoads => draw_loads(random, owned).into(),
             _ => times,
         };
         for _ in 0..times {
@@ -238,7 +240,8 @@ fn trace(
             Step::Call(way, call) => (*way, call),
         };
         let (buffer_length, scratch_length) = (call.buffer_length, call.scratch_length);
-        let lengths = [vec![buffer_length], vec![scratch_length], vec![], vec![]];
+        let (narrow, wide) = (vec![buffer_length], vec![scratch_length]);
+        let lengths = [narrow, wide, vec![], vec![], vec![]];
         let operation = match way {
             Way::First => Operation::FirstWay,
             Way::Next => Operation::NextWay,

@@ -8,9 +8,8 @@ use lister::plan::{MOST_CONTACTS, RECORD_BYTES};
 use lister::plans::{all_plans, Owned};
 use lister::random::Random;
 use lister::reach_cases::ladder;
-use lister::stale::{random_stale_plan, small_terms};
+use lister::stale::small_terms;
 use lister::struck_cases::{struck_ladders, FAR, STRUCK_PLANS};
-use lister::turned::random_turned_plan;
 
 use crate::call::Call;
 use crate::compare::{Comparison, Difference};
@@ -207,14 +206,7 @@ fn many_walks(comparison: &mut Comparison, random: &mut Random) -> Result<(), Di
 /// Small plans drawn, with every position held to the loads.
 fn drawn(comparison: &mut Comparison, random: &mut Random) -> Result<(), Difference> {
     for round in 0..150 {
-        let owned = match round % 3 {
-            0 => random_turned_plan(random),
-            1 => random_stale_plan(random),
-            _ => {
-                let owned = plans::small(random);
-                plans::with_terms(random, owned)
-            }
-        };
+        let owned = plans::in_turn(random, round);
         every_position(comparison, random, &owned)?;
     }
     Ok(())
@@ -223,16 +215,7 @@ fn drawn(comparison: &mut Comparison, random: &mut Random) -> Result<(), Differe
 /// Plans of every kind, some damaged, on lengths drawn, with positions drawn and the records' number and the last one.
 fn damaged(comparison: &mut Comparison, random: &mut Random) -> Result<(), Difference> {
     for _ in 0..400 {
-        let owned = match random.below(12) {
-            0 => plans::sparse(random),
-            _ => plans::small(random),
-        };
-        let owned = match random.below(4) {
-            0 => plans::damaged(random, owned),
-            1 => plans::other_stations(random, owned),
-            2 => plans::resized(random, owned),
-            _ => owned,
-        };
+        let owned = plans::any_damaged(random);
         let last = owned.records();
         for position in [position(random, &owned.bytes), last, last.saturating_sub(1)] {
             let (operation, input) = (Operation::StruckOut, owned.input());

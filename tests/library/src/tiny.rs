@@ -135,7 +135,7 @@ pub fn every_pair(
     let input = owned.input();
     every_number(comparison, random, owned)?;
     every_position(comparison, random, owned)?;
-    for operation in [Operation::Check, Operation::Busiest] {
+    for operation in [Operation::Check, Operation::Busiest, Operation::DrawnLoads] {
         let call = lend::call(random, operation, input, [0, 0], Lengths::Named);
         comparison.compare(&call, LISTED)?;
     }

@@ -4,7 +4,7 @@ use crate::files::case_bytes;
 use crate::means::Counting;
 use crate::plan::PlanInput;
 use crate::random::Random;
-use crate::reach_cases::other_length;
+use crate::reach_cases::{bytes_with_cause, other_length};
 
 /// What a case runs.
 pub trait Called: Copy {
@@ -63,6 +63,23 @@ impl<O: Called, const TABLES: usize> CallCase<O, TABLES> {
     pub fn with_length(mut self, table: usize, length: usize) -> Self {
         self.lengths[table] = length;
         self
+    }
+
+    /// The case with some tables one entry shorter.
+    pub fn shorter(mut self, tables: &[usize]) -> Self {
+        for table in tables {
+            self.lengths[*table] -= 1;
+        }
+        self
+    }
+
+    /// The case, at n 5 and T 4, with one of the causes 1 to 5, which it states.
+    pub fn faulty(mut self, cause: u8) -> Self {
+        match cause {
+            1 => self.stations = 257,
+            _ => self.bytes = bytes_with_cause(cause),
+        }
+        self.stating(cause)
     }
 
     /// The case of an index; every fourth has other lengths, some of them too short.

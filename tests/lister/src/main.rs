@@ -9,12 +9,12 @@ use lister::load_program::load_text;
 use lister::means::LISTED;
 use lister::plan::{PlanInput, KEPT};
 use lister::show::{
-    foremost_text, loads_text, pair_text, partial_text, reach_text, set_text, struck_text, text_of,
-    verdict_text,
+    drawn_text, foremost_text, loads_text, pair_text, partial_text, reach_text, reading_text,
+    set_text, struck_text, text_of, verdict_text,
 };
 use lister::{
-    band_cases, cases, foremost_cases, load_cases, pair_cases, partial_cases, program, reach_cases,
-    set_cases, struck_cases, verdict_cases, way_cases,
+    band_cases, cases, drawn_cases, foremost_cases, load_cases, pair_cases, partial_cases, program,
+    reach_cases, record_cases, set_cases, struck_cases, verdict_cases, way_cases,
 };
 
 const USAGE: &str = "usage:
@@ -31,6 +31,8 @@ const USAGE: &str = "usage:
   lister verdict-cases DIR       write DIR/stdin and DIR/stdout, cases of the verdict
   lister band-cases DIR          write DIR/stdin and DIR/stdout, cases of take in and take out
   lister struck-cases DIR        write DIR/stdin and DIR/stdout, cases of struck out
+  lister drawn-cases DIR         write DIR/stdin and DIR/stdout, cases of drawn loads
+  lister record-cases DIR        write DIR/stdin and DIR/stdout, cases of reading a record
   lister show n T g h s z < plan
       hops, count, through counts and shortest walks of s, z with turnaround g, where a reading is kept for h slots
   lister foremost n T g s z < plan
@@ -41,6 +43,8 @@ const USAGE: &str = "usage:
       the same over the sources below k, and what the loads may be more
   lister struck n T g h position < plan
       how many pairs use the contact at the position, and the changes of load without it
+  lister drawn n T g h < plan    the record of each station, and what is read back of it
+  lister reading HEX             what is read back of bytes, each of two hexadecimal digits
   lister set n T g h s z V.. < plan
       how many shortest walks of s, z have one of the stations V interior
   lister verdict n T g h s z P.. < plan
@@ -68,6 +72,8 @@ fn run(words: &[&str]) -> Result<(), String> {
         ["verdict-cases", directory] => write_files(directory, &verdict_cases::all_cases()),
         ["band-cases", directory] => write_files(directory, &band_cases::all_cases()),
         ["struck-cases", directory] => write_files(directory, &struck_cases::all_cases()),
+        ["drawn-cases", directory] => write_files(directory, &drawn_cases::all_cases()),
+        ["record-cases", directory] => write_files(directory, &record_cases::all_cases()),
         ["show", n, t, g, h, source, destination] => {
             let ends = (decimal(source)?, decimal(destination)?);
             print_for_plan([n, t, g, h], |input| text_of(pair_text(input, ends)))
@@ -89,6 +95,11 @@ fn run(words: &[&str]) -> Result<(), String> {
         ["struck", n, t, g, h, position] => {
             let position = decimal(position)?;
             print_for_plan([n, t, g, h], |input| text_of(struck_text(input, position)))
+        }
+        ["drawn", n, t, g, h] => print_for_plan([n, t, g, h], |input| text_of(drawn_text(input))),
+        ["reading", digits] => {
+            print!("{}", reading_text(&hexadecimal(digits)?));
+            Ok(())
         }
         [word @ ("set" | "verdict"), n, t, g, h, source, destination, further @ ..] => {
             let ends = (decimal(source)?, decimal(destination)?);
@@ -143,6 +154,19 @@ fn print_for_plan(
     };
     print!("{}", text(input));
     Ok(())
+}
+
+/// Bytes of two hexadecimal digits each.
+fn hexadecimal(digits: &str) -> Result<Vec<u8>, String> {
+    let wrong = || format!("not bytes in hexadecimal: {digits}");
+    let digit = |digit: char| digit.to_digit(16).map(|value| value as u8);
+    let values: Option<Vec<u8>> = digits.chars().map(digit).collect();
+    let values = values.filter(|values| values.len() % 2 == 0);
+    let values = values.ok_or_else(wrong)?;
+    Ok(values
+        .chunks_exact(2)
+        .map(|two| 16 * two[0] + two[1])
+        .collect())
 }
 
 fn decimal(word: &str) -> Result<usize, String> {

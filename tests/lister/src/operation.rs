@@ -2,6 +2,7 @@
 
 use crate::answer::{beside, number, Answer};
 use crate::band::{Taking, BAND_SLOTS};
+use crate::drawing::drawn_length;
 use crate::foremost::ForemostValues;
 use crate::lent::{appearances, scratch_length};
 use crate::means::Means;
@@ -31,12 +32,13 @@ pub enum Operation {
     TakeIn,
     TakeOut,
     StruckOut,
+    DrawnLoads,
 }
 
 use Operation::*;
 
 /// All operations.
-pub const OPERATIONS: [Operation; 16] = [
+pub const OPERATIONS: [Operation; 17] = [
     Check,
     Reach,
     Row,
@@ -53,6 +55,7 @@ pub const OPERATIONS: [Operation; 16] = [
     TakeIn,
     TakeOut,
     StruckOut,
+    DrawnLoads,
 ];
 
 /// The C interface's number of first way's answer "none".
@@ -69,7 +72,7 @@ impl Operation {
             Row | RowNumber => &[1, 6, 8],
             Pair | FirstWay | Verdict => &[1, 2, 3, 4, 5, 12, 14, 6, 7, 8, 9],
             Foremost => &[1, 2, 3, 4, 5, 12, 6, 7, 8, 9],
-            Loads | Busiest => &[1, 2, 3, 4, 5, 12, 14, 8, 9],
+            Loads | Busiest | DrawnLoads => &[1, 2, 3, 4, 5, 12, 14, 8, 9],
             NextWay => &[1, 2, 3, 4, 5, 12, 14, 6, 7, 8, 9, 10],
             ThroughSet => &[1, 2, 3, 4, 5, 12, 14, 6, 7, 8, 11, 9],
             PartialLoads => &[1, 2, 3, 4, 5, 12, 14, 13, 8, 9],
@@ -94,7 +97,7 @@ impl Operation {
     /// struck out's position.
     pub fn arguments(self) -> usize {
         match self {
-            Check | Loads | Busiest | TakeOut => 0,
+            Check | Loads | Busiest | TakeOut | DrawnLoads => 0,
             Reach | Row | RowNumber | PartialLoads | TakeIn | StruckOut => 1,
             Pair | FirstWay | NextWay | ThroughSet | Foremost | Verdict => 2,
         }
@@ -119,7 +122,7 @@ impl Operation {
             Reach => vec![table, stations],
             Row | RowNumber => vec![table],
             Pair | Foremost => vec![stations, scratch],
-            Loads | PartialLoads => vec![stations, stations, scratch],
+            Loads | PartialLoads | DrawnLoads => vec![stations, stations, scratch],
             Busiest | FirstWay | NextWay | ThroughSet | Verdict | StruckOut => vec![scratch],
         }
     }
@@ -128,6 +131,14 @@ impl Operation {
     pub fn signed(self, stations: usize) -> Vec<usize> {
         match self {
             StruckOut => vec![stations],
+            _ => Vec::new(),
+        }
+    }
+
+    /// The named lengths of its buffers of bytes.
+    pub fn bytes(self, stations: usize) -> Vec<usize> {
+        match self {
+            DrawnLoads => vec![drawn_length(stations)],
             _ => Vec::new(),
         }
     }
@@ -167,7 +178,7 @@ impl Operation {
     /// The names of the values beside the number.
     pub fn values(self) -> &'static [&'static str] {
         match self {
-            Check | Reach | RowNumber | Loads | PartialLoads | TakeIn | TakeOut => &[],
+            Check | Reach | RowNumber | Loads | PartialLoads | TakeIn | TakeOut | DrawnLoads => &[],
             Row => &["offset", "length"],
             Pair => &["hops", "count"],
             Busiest => &["station"],
@@ -180,13 +191,15 @@ impl Operation {
     }
 }
 
-/// What a call lends: tables by the width of their entries, sets, and a list.
+/// What a call lends: tables by the width of their entries, bytes, sets, and a list.
 #[derive(Clone, Debug, PartialEq, Eq)]
 pub struct Lent {
     pub narrow: Vec<Vec<u16>>,
     pub wide: Vec<Vec<u64>>,
     /// The tables of 64-bit entries with a sign.
     pub signed: Vec<Vec<i64>>,
+    /// The buffers of bytes, which are only written.
+    pub bytes: Vec<Vec<u8>>,
     /// The sets of stations, which are only read.
     pub sets: Vec<Vec<u8>>,
     /// The list of positions, which is only read; empty where the operation takes none.
@@ -309,6 +322,13 @@ impl Means {
                 let [position, _] = arguments;
                 let answer = self.struck_out(input, position, &mut lent.signed[0], scratch);
                 Answered::new(&answer, &[beside(&answer)])
+            }
+            (DrawnLoads, [], [pairs, loads, scratch]) => {
+                let records = &mut lent.bytes[0];
+                Answered::new(
+                    &self.drawn_loads(input, pairs, loads, records, scratch),
+                    &[],
+                )
             }
             (operation, _, _) => panic!("{operation:?} lends other tables"),
         }

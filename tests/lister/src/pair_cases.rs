@@ -13,7 +13,8 @@
 //! out.
 //!
 //! `foremost_cases` has cases of the same kind for foremost, most of them on the plans and the memory
-//! of pair's; `partial_cases` for partial loads, many of them on those of loads.
+//! of pair's; `partial_cases` for partial loads, many of them on those of loads, and `drawn_cases` for drawn loads, most of
+//! them on those.
 
 mod exact;
 mod examples;

@@ -18,6 +18,7 @@ mod too_many;
 
 pub use examples::plans_by_hand;
 pub use limits::loads_of_blocks;
+pub use too_many::cases as too_many_cases;
 
 use crate::pair_cases::{
     ladder_cases, limit_cases, refusal_cases, share_cases, Case, LabelledPlan, Operation,
@@ -56,8 +57,21 @@ fn of_sources(loads: &Case, sources: u64) -> Case {
     }
 }
 
+/// The plan of a call, without the operation's words in the label.
+pub fn plan_of(case: &Case) -> LabelledPlan {
+    let words = format!(", {}", case.operation.text());
+    LabelledPlan {
+        label: case.label.replacen(&words, "", 1),
+        sizes: (case.stations, case.slots),
+        turnaround: case.turnaround,
+        keeping: case.keeping,
+        bytes: case.bytes.clone(),
+        counting: case.counting,
+    }
+}
+
 /// The calls of loads among cases.
-fn loads_among(mut cases: Vec<Case>) -> Vec<Case> {
+pub fn loads_among(mut cases: Vec<Case>) -> Vec<Case> {
     cases.retain(|case| case.operation == Operation::Loads);
     cases
 }

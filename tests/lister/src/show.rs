@@ -1,6 +1,7 @@
-//! The texts of the subcommands show, foremost, loads, partial, struck, reach, set and verdict.
+//! The texts of the subcommands show, foremost, loads, partial, struck, drawn, reading, reach, set and verdict.
 
 use crate::answer::Answer;
+use crate::drawing::{drawn_length, Figures, DRAWN_BYTES};
 use crate::foremost::ForemostValues;
 use crate::lent::scratch_length;
 use crate::means::{Means, COUNT_LIMIT, LISTED};
@@ -130,6 +131,29 @@ pub fn struck_text(input: PlanInput, position: usize) -> Answer<String> {
     Ok(format!(
         "position {position} pairs {pairs}\nchanges {changes}\n"
     ))
+}
+
+/// Each station's record, its bytes in two hexadecimal digits each, and what is read back of it.
+pub fn drawn_text(input: PlanInput) -> Answer<String> {
+    let plan = read(input)?;
+    let mut tables = [vec![0; plan.stations], vec![0; plan.stations]];
+    let mut records = vec![0; drawn_length(plan.stations)];
+    let mut scratch = vec![0; scratch_length(plan.stations, plan.slots)];
+    let [pairs, loads] = &mut tables;
+    LISTED.drawn_loads(input, pairs, loads, &mut records, &mut scratch)?;
+    let line = |record: &[u8]| {
+        let bytes: Vec<String> = record.iter().map(|byte| format!("{byte:02x}")).collect();
+        format!("{} : {}", bytes.join(" "), reading_text(record))
+    };
+    Ok(records.chunks_exact(DRAWN_BYTES).map(line).collect())
+}
+
+/// What is read back of bytes: "foreign", or station, load and pairs.
+pub fn reading_text(bytes: &[u8]) -> String {
+    match Figures::read(bytes) {
+        Some(figures) => format!("{figures}\n"),
+        None => "foreign\n".to_string(),
+    }
 }
 
 /// Hops and count of each station from a source, then each station's row of appearance counts.

@@ -24,6 +24,7 @@ use crate::pair_cases::LabelledPlan;
 use crate::reach_cases::{counts_text, runs_text};
 
 pub use examples::{StruckPlan, FAR, STRUCK_PLANS};
+pub use small::small_with_terms;
 pub use too_many::{ladders as struck_ladders, StruckLadder};
 
 /// The longest label, in bytes.

@@ -4,7 +4,6 @@
 use super::refusals::OPERATIONS;
 use super::{Case, LabelledPlan, Operation};
 use crate::call_cases::Called;
-use crate::reach_cases::bytes_with_cause;
 use crate::stale::{
     detours_around, drawn_stale_plans, ladders_around, plan_a, some_detours, stale_blocks,
     KNOWN_TERMS, STALE_PLANS, WRONG_TERMS, WRONG_TURNAROUND_TERMS,
@@ -59,12 +58,7 @@ fn before_keeping() -> Vec<Case> {
     for cause in 1..=5 {
         let faulty = |before: &str, terms: (u16, u16), operation: Operation| {
             let plan = plan_a(&format!("{cause} before {before}"), terms);
-            let mut case = plan.case(operation).longer([1, 2, 3]);
-            match cause {
-                1 => case.stations = 257,
-                _ => case.bytes = bytes_with_cause(cause),
-            }
-            case.stating(cause)
+            plan.case(operation).longer([1, 2, 3]).faulty(cause)
         };
         for (operation, terms) in OPERATIONS.into_iter().zip([(1, 0), (16, 15), (1, 256)]) {
             cases.push(faulty("14", terms, operation));
@@ -85,10 +79,7 @@ fn keeping_before_call() -> Vec<Case> {
     for (terms, refused) in [((1, 0), true), ((2, 65535), true), ((16, 16), false)] {
         let mut push = |before: &str, operation: Operation, short: &[usize], other: u8| {
             let plan = plan_a(&format!("14 before {before}"), terms);
-            let mut case = plan.case(operation);
-            for table in short {
-                case.lengths[*table] -= 1;
-            }
+            let case = plan.case(operation).shorter(short);
             cases.push(case.stating(if refused { 14 } else { other }));
         };
         for ends in [(5, 0), (0, 65535)] {

@@ -9,8 +9,8 @@ use crate::cases::{valid_records, Record, PLAN_A};
 use crate::plan::LEAST_TURNAROUND;
 use crate::random::Random;
 use crate::reach_cases::{
-    bytes_with_cause, every_slot, exact_plans, most_turnaround, sent_ladder, spaced_ladder,
-    spaced_sent_ladder, star, CORNERS, SPACED_LADDERS,
+    every_slot, exact_plans, most_turnaround, sent_ladder, spaced_ladder, spaced_sent_ladder, star,
+    CORNERS, SPACED_LADDERS,
 };
 use crate::turned::{
     drawn_plans, rows_around, spaced_row, two_links, TURNAROUNDS, TURNED_PLANS, WRONG_TURNAROUNDS,
@@ -78,12 +78,7 @@ fn plan_before_turnaround() -> Vec<Case> {
         for turnaround in [0, 17, 65535] {
             let faulty = |before: &str, operation: Operation| {
                 let plan = plan_a(&format!("{cause} before {before}"), turnaround);
-                let mut case = plan.case(operation).longer([1, 2, 3]);
-                match cause {
-                    1 => case.stations = 257,
-                    _ => case.bytes = bytes_with_cause(cause),
-                }
-                case.stating(cause)
+                plan.case(operation).longer([1, 2, 3]).faulty(cause)
             };
             for operation in OPERATIONS {
                 cases.push(faulty("12", operation));
@@ -101,10 +96,7 @@ fn turnaround_before_call() -> Vec<Case> {
     for (turnaround, refused) in [(0, true), (17, true), (65535, true), (16, false)] {
         let mut push = |before: &str, operation: Operation, short: &[usize], other: u8| {
             let plan = plan_a(&format!("12 before {before}"), turnaround);
-            let mut case = plan.case(operation);
-            for table in short {
-                case.lengths[*table] -= 1;
-            }
+            let case = plan.case(operation).shorter(short);
             cases.push(case.stating(if refused { 12 } else { other }));
         };
         for ends in [(5, 0), (0, 5), (65535, 4)] {

@@ -2,7 +2,7 @@
 
 use super::examples::plan_a;
 use crate::pair_cases::{Case, LabelledPlan};
-use crate::reach_cases::{bytes_with_cause, sent_ladder};
+use crate::reach_cases::sent_ladder;
 use crate::turned::WRONG_TURNAROUNDS;
 
 pub fn cases() -> Vec<Case> {
@@ -25,12 +25,7 @@ fn plan_before_sources() -> Vec<Case> {
         for sources in ABOVE {
             let on = |before: &str| {
                 let plan = plan_a(&format!("{cause} before {before}"));
-                let mut case = plan.longer_partial(sources).stating(cause);
-                match cause {
-                    1 => case.stations = 257,
-                    _ => case.bytes = bytes_with_cause(cause),
-                }
-                case
+                plan.longer_partial(sources).faulty(cause)
             };
             cases.push(on("13"));
             cases.push(on("12 and 13").turning(17));

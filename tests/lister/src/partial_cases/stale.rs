@@ -3,7 +3,6 @@
 
 use crate::pair_cases::{Case, LabelledPlan};
 use crate::random::Random;
-use crate::reach_cases::bytes_with_cause;
 use crate::stale::{
     detours_around, drawn_stale_plans, ladder_with_gap, ladders_around, plan_a, stale_blocks,
     terms_text, KNOWN_TERMS, STALE_PLANS, WRONG_TERMS, WRONG_TURNAROUND_TERMS,
@@ -56,11 +55,7 @@ fn before_keeping() -> Vec<Case> {
         for (before, sources) in [("14", 5), ("14 and 13", 6)] {
             for terms in [(1, 0), (16, 272)] {
                 let plan = plan_a(&format!("{cause} before {before}"), terms);
-                let mut case = plan.longer_partial(sources).stating(cause);
-                match cause {
-                    1 => case.stations = 257,
-                    _ => case.bytes = bytes_with_cause(cause),
-                }
+                let case = plan.longer_partial(sources).faulty(cause);
                 cases.push(match sources {
                     6 => case.lent([4, 4, 99]),
                     _ => case,
@@ -87,11 +82,7 @@ fn keeping_before_call() -> Vec<Case> {
             ((16, 16), 6, 13),
         ] {
             let plan = plan_a(&format!("14 before 8 of {short:?}"), terms);
-            let mut case = plan.partial(sources);
-            for table in short {
-                case.lengths[*table] -= 1;
-            }
-            cases.push(case.stating(number));
+            cases.push(plan.partial(sources).shorter(short).stating(number));
         }
     }
     cases

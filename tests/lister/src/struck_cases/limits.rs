@@ -4,7 +4,7 @@
 use super::Case;
 use crate::cases::Record;
 use crate::pair_cases::{dense, LabelledPlan};
-use crate::partial_cases::loads_of_blocks;
+use crate::partial_cases::{loads_of_blocks, plan_of};
 use crate::reach_cases::{falling_row, rising_row, star, CORNERS};
 use crate::turned::spaced_row;
 
@@ -72,16 +72,9 @@ fn lengths() -> Vec<Case> {
 
 /// The plans of pair-cases in blocks, each without one of its contacts.
 fn blocks() -> Vec<Case> {
-    let plans = loads_of_blocks().into_iter();
-    let struck = |(index, case): (usize, crate::pair_cases::Case)| {
-        let plan = LabelledPlan {
-            label: case.label.replacen(", loads", "", 1),
-            sizes: (case.stations, case.slots),
-            turnaround: case.turnaround,
-            keeping: case.keeping,
-            bytes: case.bytes,
-            counting: case.counting,
-        };
+    let plans = loads_of_blocks();
+    let plans = plans.iter().map(plan_of);
+    let struck = |(index, plan): (usize, LabelledPlan)| {
         let position = index as u64 % 5 * u64::from(plan.records() - 1) / 4;
         plan.longer_struck(position).stating(0)
     };

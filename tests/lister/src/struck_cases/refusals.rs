@@ -4,7 +4,7 @@
 use super::{Case, Position};
 use crate::lent::scratch_length;
 use crate::pair_cases::{faulty_plans, near_lengths, LabelledPlan};
-use crate::reach_cases::{bytes_with_cause, sent_ladder};
+use crate::reach_cases::sent_ladder;
 use crate::stale::{plan_a, WRONG_TERMS, WRONG_TURNAROUND_TERMS};
 use crate::turned::WRONG_TURNAROUNDS;
 
@@ -43,12 +43,7 @@ fn plan_before_call() -> Vec<Case> {
         for position in POSITIONS {
             let on = |before: &str, terms: (u16, u16)| {
                 let plan = plan_a(&format!("{cause} before {before}"), terms);
-                let mut case = plan.longer_struck(position).stating(cause);
-                match cause {
-                    1 => case.stations = 257,
-                    _ => case.bytes = bytes_with_cause(cause),
-                }
-                case
+                plan.longer_struck(position).faulty(cause)
             };
             cases.push(on("17", (1, 255)));
             cases.push(on("12 and 17", (17, 255)));
@@ -90,19 +85,11 @@ fn terms_before_lengths() -> Vec<Case> {
         for short in SHORT {
             for position in [10, 12] {
                 let plan = plan_a(&format!("{number} before 8 of {short:?}"), terms);
-                cases.push(shorter(plan.struck(position), short).stating(number));
+                cases.push(plan.struck(position).shorter(short).stating(number));
             }
         }
     }
     cases
-}
-
-/// The case with some tables one entry shorter.
-fn shorter(mut case: Case, short: &[usize]) -> Case {
-    for table in short {
-        case.lengths[*table] -= 1;
-    }
-    case
 }
 
 /// Plan A with g = 1 and h = 255.
@@ -146,7 +133,7 @@ fn lengths_before_position() -> Vec<Case> {
     for position in POSITIONS {
         for short in SHORT {
             let plan = kept(&format!("8 of {short:?}"));
-            cases.push(shorter(plan.struck(position), short).stating(8));
+            cases.push(plan.struck(position).shorter(short).stating(8));
         }
         let number = if position < 12 { 0 } else { 17 };
         let exact = kept("no table is short").struck(position);
@@ -171,7 +158,7 @@ fn before_too_many() -> Vec<Case> {
     for position in [0, records] {
         for short in SHORT {
             let case = plan(&format!("8 of {short:?} before 9")).struck(position);
-            cases.push(shorter(case, short).stating(8));
+            cases.push(case.shorter(short).stating(8));
         }
     }
     let last = plan("9 at the last position").longer_struck(records - 1);

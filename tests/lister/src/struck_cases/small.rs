@@ -21,17 +21,21 @@ const TERMS: [(u16, u16); 8] = [
     (16, 255),
 ];
 
-pub fn cases() -> Vec<Case> {
-    let mut random = Random::new(SEED);
+/// The small plans with these in turn.
+pub fn small_with_terms() -> impl Iterator<Item = LabelledPlan> {
     let small = small_plans().into_iter().enumerate();
-    let small = small.map(|(index, plan)| {
+    small.map(|(index, plan)| {
         let terms = TERMS[index % TERMS.len()];
         let label = format!("{}, {}", plan.label, terms_text(terms));
         let plan = LabelledPlan { label, ..plan };
         plan.turning(terms.0).keeping_for(terms.1)
-    });
+    })
+}
+
+pub fn cases() -> Vec<Case> {
+    let mut random = Random::new(SEED);
     let mut cases = Vec::new();
-    for (index, plan) in small.chain(drawn_plans(15)).enumerate() {
+    for (index, plan) in small_with_terms().chain(drawn_plans(15)).enumerate() {
         let mark = random.below(65536) as u16;
         for position in 0..=plan.records() {
             let case = plan.struck(position.into()).marked(mark);

@@ -2,6 +2,7 @@
 
 use super::support::Owned;
 use crate::answer::{number, Answer};
+use crate::drawing::drawn_length;
 use crate::loads::Load;
 use crate::means::{Means, COUNTED, LISTED};
 use crate::pair::{PairValues, Paired};
@@ -37,13 +38,9 @@ impl Asked<'_> {
 
     pub fn loads(self, sources: usize) -> Answer<Vec<Load>> {
         let Asked(means, owned) = self;
-        let mut pairs = vec![7; owned.stations];
-        let mut loads = vec![7; owned.stations];
-        let mut scratch = vec![7; owned.scratch_length()];
-        let input = owned.input();
-        means.partial_loads(input, sources, &mut pairs, &mut loads, &mut scratch)?;
-        let entry = |(pairs, load)| Load { pairs, load };
-        Ok(pairs.into_iter().zip(loads).map(entry).collect())
+        owned.loaded(|pairs, loads, scratch| {
+            means.partial_loads(owned.input(), sources, pairs, loads, scratch)
+        })
     }
 
     /// The number of pairs, and the changes.
@@ -54,6 +51,16 @@ impl Asked<'_> {
         let pairs = means.struck_out(owned.input(), position, &mut changes, &mut scratch)?;
         assert!(scratch.iter().all(|entry| *entry == 0));
         Ok((pairs, changes))
+    }
+
+    /// Pairs and load of each station, and the records.
+    pub fn drawn_loads(self) -> Answer<(Vec<Load>, Vec<u8>)> {
+        let Asked(means, owned) = self;
+        let mut records = vec![7; drawn_length(owned.stations)];
+        let loads = owned.loaded(|pairs, loads, scratch| {
+            means.drawn_loads(owned.input(), pairs, loads, &mut records, scratch)
+        })?;
+        Ok((loads, records))
     }
 
     pub fn busiest(self) -> Answer<usize> {

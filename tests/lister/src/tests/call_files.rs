@@ -1,5 +1,5 @@
 //! What holds of each file of cases of one call on lent tables: pair-cases, foremost-cases and partial-cases; some of it
-//! of struck-cases too.
+//! of struck-cases and drawn-cases too.
 
 use std::fmt::Debug;
 

@@ -100,7 +100,7 @@ impl Naive {
         list.iter().filter(meets).count() as u64
     }
 
-    fn paired(&self, ends: Ends, list: &[Vec<u16>]) -> Paired {
+    pub fn paired(&self, ends: Ends, list: &[Vec<u16>]) -> Paired {
         let through = (0..self.stations).map(|station| self.touched(ends, list, &[station]));
         Paired {
             values: values_of(list),

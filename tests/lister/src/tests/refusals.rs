@@ -14,12 +14,17 @@ const SIZES: (usize, usize) = (5, 4);
 const CHANGED: usize = 4;
 
 impl Operation {
-    /// The named lengths of its 16-bit tables, of its 64-bit tables, of its sets, and of its tables of entries with a
-    /// sign.
-    fn named(self) -> [Vec<usize>; 4] {
+    /// The named lengths of its 16-bit tables, of its 64-bit tables, of its sets, of its tables of entries with a
+    /// sign, and of its buffers of bytes.
+    fn named(self) -> [Vec<usize>; 5] {
         let (stations, slots) = SIZES;
-        let (narrow, wide) = (self.narrow(stations, slots), self.wide(stations, slots));
-        [narrow, wide, self.sets(stations), self.signed(stations)]
+        [
+            self.narrow(stations, slots),
+            self.wide(stations, slots),
+            self.sets(stations),
+            self.signed(stations),
+            self.bytes(stations),
+        ]
     }
 
     fn takes_scratch(self) -> bool {
@@ -46,12 +51,14 @@ fn named_lengths_of_plan_a() {
         (Operation::TakeIn, vec![255], vec![], vec![]),
         (Operation::TakeOut, vec![255], vec![], vec![]),
         (Operation::StruckOut, vec![], vec![100], vec![]),
+        (Operation::DrawnLoads, vec![], vec![5, 5, 100], vec![]),
     ] {
-        let signed = match operation {
-            Operation::StruckOut => vec![5],
-            _ => vec![],
+        let (signed, bytes) = match operation {
+            Operation::StruckOut => (vec![5], vec![]),
+            Operation::DrawnLoads => (vec![], vec![90]),
+            _ => (vec![], vec![]),
         };
-        let named = [narrow, wide, sets, signed];
+        let named = [narrow, wide, sets, signed, bytes];
         assert_eq!(operation.named(), named, "{operation:?}");
     }
 }
@@ -142,7 +149,7 @@ impl Arguments {
     }
 }
 
-/// Memory with 3 entries past each named part; `short` names a table or set that lacks one entry. A
+/// Memory with 3 entries past each named part; `short` names a table, set or buffer that lacks one entry. A
 /// set begins with the byte of the arguments, and has a wrong byte past its named part; a band's table begins with
 /// their entry. A list has the entries offered.
 fn lend(
@@ -152,7 +159,7 @@ fn lend(
     arguments: &Arguments,
 ) -> Lent {
     let byte = arguments.byte;
-    let [narrow, wide, sets, signed] = operation.named();
+    let [narrow, wide, sets, signed, bytes] = operation.named();
     let length = |table: usize, named: &usize| match short {
         Some(other) if other == table => named - 1,
         _ => named + 3,
@@ -161,6 +168,7 @@ fn lend(
     let wide_from = narrow.len();
     let sets_from = wide_from + wide.len();
     let signed_from = sets_from + sets.len();
+    let bytes_from = signed_from + signed.len();
     let set = |length: usize| [[byte, 0, 1, 1, 0], [2; 5]].concat()[..length].to_vec();
     let mut lent = Lent {
         narrow: (narrow.iter().enumerate())
@@ -172,6 +180,10 @@ fn lend(
         signed: (signed.iter().enumerate())
             .map(|(table, named)| filled((signed_from + table, named)))
             .map(|entries| entries.map(|entry| -(entry as i64)).collect())
+            .collect(),
+        bytes: (bytes.iter().enumerate())
+            .map(|(table, named)| filled((bytes_from + table, named)))
+            .map(|entries| entries.map(|entry| entry as u8).collect())
             .collect(),
         sets: (sets.iter().enumerate())
             .map(|(table, named)| set(length(sets_from + table, named)))
@@ -208,7 +220,7 @@ fn run(operation: Operation, arguments: &Arguments, lent: &mut Lent) -> (u32, bo
 /// The memory after a call with a cause of refusal.
 fn memory_after(operation: Operation, refusal: u32, before: &Lent) -> Lent {
     let mut after = before.clone();
-    let [narrow, wide, _, signed] = operation.named();
+    let [narrow, wide, _, signed, bytes] = operation.named();
     if refusal == 9 || refusal == 10 {
         for (table, named) in after.wide.iter_mut().zip(wide) {
             table[..named].fill(0);
@@ -220,6 +232,9 @@ fn memory_after(operation: Operation, refusal: u32, before: &Lent) -> Lent {
         }
         for (table, named) in after.signed.iter_mut().zip(signed) {
             table[..named].fill(0);
+        }
+        for (buffer, named) in after.bytes.iter_mut().zip(bytes) {
+            buffer[..named].fill(0);
         }
     }
     after
@@ -296,9 +311,12 @@ fn accepted_calls_leave_unnamed_parts() {
         let mut after = before.clone();
         assert_eq!(run(operation, &arguments, &mut after).0, 0);
         assert_eq!((&after.sets, &after.list), (&before.sets, &before.list));
-        let [narrow, wide, _, signed] = operation.named();
+        let [narrow, wide, _, signed, bytes] = operation.named();
         for (table, named) in signed.into_iter().enumerate() {
             assert_eq!(after.signed[table][named..], before.signed[table][named..]);
+        }
+        for (buffer, named) in bytes.into_iter().enumerate() {
+            assert_eq!(after.bytes[buffer][named..], before.bytes[buffer][named..]);
         }
         for (table, named) in narrow.into_iter().enumerate() {
             assert_eq!(after.narrow[table][named..], before.narrow[table][named..]);

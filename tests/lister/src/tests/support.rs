@@ -92,9 +92,9 @@ impl Owned {
     }
 
     /// A call that fills a table of pairs and one of loads.
-    fn loaded(
+    pub fn loaded(
         &self,
-        call: impl Fn(&mut [u64], &mut [u64], &mut [u64]) -> Answer<()>,
+        call: impl FnOnce(&mut [u64], &mut [u64], &mut [u64]) -> Answer<()>,
     ) -> Answer<Vec<Load>> {
         let mut pairs = vec![7; self.stations];
         let mut loads = vec![7; self.stations];
