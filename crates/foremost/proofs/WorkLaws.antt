@@ -35,7 +35,7 @@ use Rattle.plan.specs.declared.CheckAnswer.the-variants as check-answer
 use Rattle.calls.specs.Call.{pairCallFault, callCheckNumber}
 use Rattle.calls.specs.declared.CallCheck.{CallCheck}
 use Rattle.calls.specs.declared.CallCheck.the-variants as call-check
-use Rattle.pass.specs.Column.{blockColumn}
+use Rattle.pass.specs.Column.{blockColumn, whole}
 use Rattle.pass.specs.declared.Ended.{Ended}
 use Rattle.pass.specs.declared.Ended.the-variants as ended
 use Rattle.pass.specs.PassedColumns.{waiting, areaSize, ColumnsReady, StationMet, EndedAs, ColumnsPassed, Overfull}
@@ -65,7 +65,7 @@ module _ (bs : List ℕ) (n t : ℕ) (terms : Terms) (s : ℕ) (old : List ℕ) 
   -- and says whether an appearance has too many
   pub appearances-met :
       (new : List ℕ) (r : Bool) (e : Ended) →
-      ColumnsPassed bs n t terms s n (blockColumn 0 0) 0 (areaSize n (waiting t terms) 0) old new e → r ≡ metAppearance e →
+      ColumnsPassed bs n t terms s n whole (blockColumn 0 0) 0 (areaSize n (waiting t terms) 0) old new e → r ≡ metAppearance e →
       Appearances bs n t terms s old new r
   unfolding metAppearance EndedAs
   appearances-met new r e x is =
@@ -76,11 +76,12 @@ module _ (bs : List ℕ) (n t : ℕ) (terms : Terms) (s : ℕ) (old : List ℕ) 
       }
     where
       decide :
-          (e : Ended) → EndedAs bs n t terms s n (blockColumn 0 0) 0 new e →
+          (e : Ended) → EndedAs bs n t terms s n whole (blockColumn 0 0) 0 new e →
           metAppearance e ≡ appearanceTooMany (planOf bs n t terms) s
-      decide (ended.Settled e) y = sym (whole-appearances bs n t terms s (ready .accepted) (ready .source) (blockColumn 0 0) 0 new e y)
+      decide (ended.Settled e) y = sym (whole-appearances whole bs n t terms s (ready .accepted) (ready .source) (blockColumn 0 0) 0 new e y)
       decide ended.StationTooMany y = sym (y .appearances)
       decide ended.AppearanceTooMany y = sym y
+      decide ended.TooWide y = absurd (y refl)
 
 -- ---- the through counts
 

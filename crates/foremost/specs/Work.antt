@@ -23,6 +23,7 @@ unfoldable pub metAppearance : Ended → Bool
 metAppearance (ended.Settled e) = false
 metAppearance ended.StationTooMany = false
 metAppearance ended.AppearanceTooMany = true
+metAppearance ended.TooWide = true
 
 -- an accepted plan, units in whose slots nothing goes stale, a source and a work area that is long enough
 pub record AppearancesReady (bs : List ℕ) (n t : ℕ) (terms : Terms) (s : ℕ) (work : List ℕ) : Type 0 where

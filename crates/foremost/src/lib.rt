@@ -22,7 +22,7 @@ pub enum ForemostAnswer {
     Refused(Fault),
 }
 
-// Whether a pass met an appearance with over 2^64 - 1 shortest walks.
+// Whether a pass met an appearance with over 2^64 - 1 shortest walks, or a count too wide for its lane.
 fn met_appearance(ended: Ended) -> bool
     ensures { λ r. ⌜ r ≡ metAppearance ended ⌝ }
 {
@@ -34,6 +34,9 @@ fn met_appearance(ended: Ended) -> bool
             return false;
         }
         Ended::AppearanceTooMany => {
+            return true;
+        }
+        Ended::TooWide => {
             return true;
         }
     }
@@ -61,7 +64,7 @@ fn appearance_too_many(
         g,
         255,
         s,
-        Columns::From(0),
+        Columns::From(0, 0),
         &plan[0..0],
         0,
         n,

@@ -1,13 +1,14 @@
 -- The uses of the pass: a column for each station of a block, and one column for the members of a set; through every slot.
 -- Assumes nothing.
-use Prim.Native.Nat.{ℕ, _+_, _*_, _<_, _≤_}
+use Prim.Native.Nat.{ℕ, _+_, _*_, _/_, _^_, _<_, _≤_}
+use native.Mathlib.Nat.{mul-one}
 use native.Mathlib.Omega.{arith}
 use native.Mathlib.Decide.{decLe, ℕ-discrete}
 use mathlib.Core.Path.{_≡_, refl, sym, ap, subst, _∙_, fun-ext}
 use mathlib.Core.Bool.{Bool, true, false, not, cond, _&&_}
 use mathlib.Core.List.{List}
 use mathlib.Core.Logic.{_⊎_, inl, inr, ⊎-elim, by-cases, _≢_}
-use borrow.Author.Tests.{lt-ltb, le-ltb, ltb-false, eq-eqb, ne-eqb}
+use borrow.Author.Tests.{lt-ltb, le-ltb, ltb-false, eq-eqb, ne-eqb, eqb-true}
 use lib.Dec.{eqb}
 use lib.ListN.{length, getD}
 use Rattle.temporal.specs.Plan.{Terms, Keeps}
@@ -29,7 +30,9 @@ use Rattle.entries.proofs.HopLaws.{few-slots}
 use Rattle.pass.specs.declared.Columns.the-variants as columns
 use Rattle.pass.specs.declared.Ended.{Ended}
 use Rattle.pass.specs.declared.Ended.the-variants as ended
-use Rattle.pass.specs.Column.{blockColumn, columnOf}
+use Rattle.pass.specs.Column.{blockColumn, columnOf, Lanes, whole, lanesBy, splitOf, columnsIn, columnAt}
+use Rattle.forward.specs.declared.Packed.{Packed}
+use Rattle.forward.specs.Passed.{packedAs, PackedReady, PackedCounted, PackedAs, PackedPassed}
 use Rattle.forward.specs.Passed.{passSize, DepthReady, UntilReady, PassReady, Counted, Passed, SetReady, SetPassed}
 use Rattle.pass.specs.PassedColumns.{waiting, areaSize, ColumnsReady, CountedBy, SettledAt, EndedAs, ColumnsPassed}
 use Rattle.stale.specs.Window.{WindowReady}
@@ -60,7 +63,7 @@ module _ (low block : ℕ) where
 
   -- what a row says of a station of the block: how many walks do not have it inside
   pub block-row : (bs : List ℕ) (n t : ℕ) (terms : Terms) (s e : ℕ) (work : List ℕ) → low + block ≤ n
-      → CountedBy bs n t terms s e (blockColumn low block) block work
+      → CountedBy bs n t terms s e whole (blockColumn low block) block work
       → (z j : ℕ) → z < n → j < block → low + j ≢ z → count (walksBy (planOf bs n t terms) s z e) ≤ 18446744073709551615
       → hops (walksBy (planOf bs n t terms) s z e) < 65535
       → getD work (2 * n + z * block + j) 0 + throughIn (planOf bs n t terms) s z (walksBy (planOf bs n t terms) s z e) (low + j)
@@ -80,15 +83,16 @@ module _ (low block : ℕ) where
 module _ (bs : List ℕ) (n t : ℕ) (terms : Terms) (s until : ℕ) (ok : planFault bs n t ≡ 0) (other : s ≢ until) (col : ℕ → ℕ) (block : ℕ)
     (work : List ℕ) where
   -- settled in a slot
-  pub settled-in : (r : Ended) → EndedAs bs n t terms s until col block work r → slotOf r ≢ 0
-      → SettledAt bs n t terms s until col block work (slotOf r)
+  pub settled-in : (r : Ended) → EndedAs bs n t terms s until whole col block work r → slotOf r ≢ 0
+      → SettledAt bs n t terms s until whole col block work (slotOf r)
   unfolding slotOf EndedAs
   settled-in (ended.Settled e) x d = x
   settled-in ended.StationTooMany x d = absurd (d refl)
   settled-in ended.AppearanceTooMany x d = absurd (d refl)
+  settled-in ended.TooWide x d = absurd (x refl)
 
   -- or not at all
-  pub not-settled : (r : Ended) → EndedAs bs n t terms s until col block work r → slotOf r ≡ 0 → Overfull bs n t terms s until
+  pub not-settled : (r : Ended) → EndedAs bs n t terms s until whole col block work r → slotOf r ≡ 0 → Overfull bs n t terms s until
   unfolding slotOf EndedAs
   not-settled (ended.Settled e) x d =
       let slot = x .slot in
@@ -100,83 +104,91 @@ module _ (bs : List ℕ) (n t : ℕ) (terms : Terms) (s until : ℕ) (ok : planF
       after = arrival-after-start (planOf bs n t terms) (slots-within bs n t terms ok) s until (few-slots bs n t terms ok) other
   not-settled ended.StationTooMany x d = inr x
   not-settled ended.AppearanceTooMany x d = inl x
+  not-settled ended.TooWide x d = absurd (x refl)
 
 -- ---- a pass through every slot
 
-module _ (bs : List ℕ) (n t : ℕ) (terms : Terms) (s : ℕ) (ok : planFault bs n t ≡ 0) (source : s < n) (col : ℕ → ℕ) (block : ℕ) (work : List ℕ)
-  where
-    -- it is settled in the last slot where it meets no count over 2^64 - 1
-    pub whole-settled : (r : Ended) → overOf r ≡ false → EndedAs bs n t terms s n col block work r
-        → SettledAt bs n t terms s n col block work t
-    unfolding overOf EndedAs
-    whole-settled (ended.Settled e) q x =
-        let never = arrival-outside bs n t terms ok s n source (omega arith) in
-        let most = accepted bs n t ok .slots in
-        let last : e ≡ t = let slot = x .slot in omega arith in
-        subst (λ e. SettledAt bs n t terms s n col block work e) last x
-    whole-settled ended.StationTooMany q x = absurd (let z : _≡_ {A = ℕ} 0 1 = cc in omega arith)
-    whole-settled ended.AppearanceTooMany q x = absurd (let z : _≡_ {A = ℕ} 0 1 = cc in omega arith)
+module _ (lay : Lanes) (bs : List ℕ) (n t : ℕ) (terms : Terms) (s : ℕ) (ok : planFault bs n t ≡ 0) (source : s < n) (col : ℕ → ℕ) (block : ℕ)
+    (work : List ℕ) where
+  -- it is settled in the last slot where it meets no count over 2^64 - 1
+  pub whole-settled : (r : Ended) → overOf r ≡ false → EndedAs bs n t terms s n lay col block work r
+      → SettledAt bs n t terms s n lay col block work t
+  unfolding overOf EndedAs
+  whole-settled (ended.Settled e) q x =
+      let never = arrival-outside bs n t terms ok s n source (omega arith) in
+      let most = accepted bs n t ok .slots in
+      let last : e ≡ t = let slot = x .slot in omega arith in
+      subst (λ e. SettledAt bs n t terms s n lay col block work e) last x
+  whole-settled ended.StationTooMany q x = absurd (let z : _≡_ {A = ℕ} 0 1 = cc in omega arith)
+  whole-settled ended.AppearanceTooMany q x = absurd (let z : _≡_ {A = ℕ} 0 1 = cc in omega arith)
+  whole-settled ended.TooWide q x = absurd (let z : _≡_ {A = ℕ} 0 1 = cc in omega arith)
 
-    -- no appearance has more where it is settled
-    pub whole-appearances : (e : ℕ) → SettledAt bs n t terms s n col block work e → appearanceTooMany (planOf bs n t terms) s ≡ false
-    unfolding overOf EndedAs
-    whole-appearances e x =
-        few-appearances bs n t terms ok s (whole-settled (ended.Settled e) refl x .appearances)
+  -- no appearance has more where it is settled
+  pub whole-appearances : (e : ℕ) → SettledAt bs n t terms s n lay col block work e → appearanceTooMany (planOf bs n t terms) s ≡ false
+  unfolding overOf EndedAs
+  whole-appearances e x =
+      few-appearances bs n t terms ok s (whole-settled (ended.Settled e) refl x .appearances)
 
-    -- then no station has more either
-    whole-stations : SettledAt bs n t terms s n col block work t → stationTooMany (planOf bs n t terms) s ≡ false
-    unfolding planOf
-    whole-stations x =
-        any-false _ (below n) .1 (λ v m.
-        let small = x .stations (omega arith) v (mem-below n .0 m) in
-        le-ltb 18446744073709551615 _ (rw (shortest-by-last bs n t terms ok s v) at small))
+  -- then no station has more either
+  whole-stations : SettledAt bs n t terms s n lay col block work t → stationTooMany (planOf bs n t terms) s ≡ false
+  unfolding planOf
+  whole-stations x =
+      any-false _ (below n) .1 (λ v m.
+      let small = x .stations (omega arith) v (mem-below n .0 m) in
+      le-ltb 18446744073709551615 _ (rw (shortest-by-last bs n t terms ok s v) at small))
 
-    -- whether it meets one is cause 9
-    pub whole-over : (r : Ended) → EndedAs bs n t terms s n col block work r → overOf r ≡ tooMany (planOf bs n t terms) s
-    unfolding overOf EndedAs tooMany
-    whole-over (ended.Settled e) x =
-        let y = whole-settled (ended.Settled e) refl x in
-        let none = whole-appearances e x in
-        let station = whole-stations y in
-        sym (rw (none, station))
-    whole-over ended.StationTooMany x =
-        let none = x .appearances in
-        let station = x .station in
-        sym (rw (none, station))
-    whole-over ended.AppearanceTooMany x = sym (rw x)
+  -- settled, there is no cause 9
+  pub whole-none : (e : ℕ) → SettledAt bs n t terms s n lay col block work e → tooMany (planOf bs n t terms) s ≡ false
+  unfolding overOf EndedAs tooMany
+  whole-none e x =
+      let y = whole-settled (ended.Settled e) refl x in
+      let none = whole-appearances e x in
+      let station = whole-stations y in
+      rw (none, station)
 
-    -- the settled entries are hops and counts of the shortest walks
-    pub whole-counted : SettledAt bs n t terms s n col block work t → Counted bs n t terms s 0 0 work
-    whole-counted x =
-        record {
-          station-hops = λ z q. x .entries .station-hops z q ∙ ap hops (shortest-by-last bs n t terms ok s z);
-          station-counts = λ z q.
-              x .entries .station-counts z q (x .stations (omega arith) z q) ∙ ap count (shortest-by-last bs n t terms ok s z);
-          rows = λ z c q i. absurd (omega arith);
-        }
+  -- whether it meets one is cause 9, with one column to an entry
+  pub whole-over : lay .lanes ≡ 1 → (r : Ended) → EndedAs bs n t terms s n lay col block work r → overOf r ≡ tooMany (planOf bs n t terms) s
+  unfolding overOf EndedAs tooMany
+  whole-over one (ended.Settled e) x = sym (whole-none e x)
+  whole-over one ended.StationTooMany x =
+      let none = x .appearances in
+      let station = x .station in
+      sym (rw (none, station))
+  whole-over one ended.AppearanceTooMany x = sym (rw x)
+  whole-over one ended.TooWide x = absurd (x one)
+
+  -- the settled entries are hops and counts of the shortest walks
+  pub whole-counted : SettledAt bs n t terms s n lay col block work t → Counted bs n t terms s 0 0 work
+  whole-counted x =
+      record {
+        station-hops = λ z q. x .entries .station-hops z q ∙ ap hops (shortest-by-last bs n t terms ok s z);
+        station-counts = λ z q.
+            x .entries .station-counts z q (x .stations (omega arith) z q) ∙ ap count (shortest-by-last bs n t terms ok s z);
+        rows = λ z c q i. absurd (omega arith);
+      }
 
 -- settled where it waits for none: no cause 9
 pub whole-few : (bs : List ℕ) (n t : ℕ) (terms : Terms) (s : ℕ) → planFault bs n t ≡ 0 → s < n → (until : ℕ) → until ≡ n
-    → (col : ℕ → ℕ) (block : ℕ) (work : List ℕ) (e : ℕ) → SettledAt bs n t terms s until col block work e
+    → (col : ℕ → ℕ) (block : ℕ) (work : List ℕ) (e : ℕ) → SettledAt bs n t terms s until whole col block work e
     → tooMany (planOf bs n t terms) s ≡ false
 unfolding overOf EndedAs
 whole-few bs n t terms s ok source until none col block work e x =
-    sym (whole-over bs n t terms s ok source col block work (ended.Settled e)
-    (subst (λ u. SettledAt bs n t terms s u col block work e) none x))
+    sym (whole-over whole bs n t terms s ok source col block work refl (ended.Settled e)
+    (subst (λ u. SettledAt bs n t terms s u whole col block work e) none x))
 
 -- what the pass promises of a block, from what it promises of columns
 pub block-passed : (bs : List ℕ) (n t : ℕ) (terms : Terms) (d s low block : ℕ) (old new : List ℕ) (r : Bool) (e : Ended)
     → PassReady bs n t terms d s low block old
-    → ColumnsPassed bs n t terms s n (blockColumn low block) block (passSize n t terms d block) old new e
+    → ColumnsPassed bs n t terms s n whole (blockColumn low block) block (passSize n t terms d block) old new e
     → r ≡ overOf e
     → Passed bs n t terms d s low block old new r
 unfolding through
 block-passed bs n t terms d s low block old new r e ready x is =
     record {
-      too-many = is ∙ whole-over bs n t terms s ok source col block new e (x .ends);
+      too-many = is ∙ whole-over whole bs n t terms s ok source col block new refl e (x .ends);
       counted = λ q.
           let y = settled q in
-          let c = whole-counted bs n t terms s ok source col block new y in
+          let c = whole-counted whole bs n t terms s ok source col block new y in
           record {
             station-hops = c .station-hops;
             station-counts = c .station-counts;
@@ -201,8 +213,8 @@ block-passed bs n t terms d s low block old new r e ready x is =
     col : ℕ → ℕ
     col = blockColumn low block
 
-    settled : r ≡ false → SettledAt bs n t terms s n col block new t
-    settled q = whole-settled bs n t terms s ok source col block new e (sym is ∙ q) (x .ends)
+    settled : r ≡ false → SettledAt bs n t terms s n whole col block new t
+    settled q = whole-settled whole bs n t terms s ok source col block new e (sym is ∙ q) (x .ends)
 
 -- an area that is ready for a block is ready for its columns
 pub block-ready : (bs : List ℕ) (n t : ℕ) (terms : Terms) (d s low block : ℕ) (old : List ℕ) → PassReady bs n t terms d s low block old
@@ -239,14 +251,14 @@ module _ (z : ℕ) (set : List ℕ) where
 
 -- what the pass promises of a set, from what it promises of columns
 pub set-passed : (bs : List ℕ) (n t : ℕ) (terms : Terms) (s z : ℕ) (set old new : List ℕ) (r : Bool) (e : Ended) → SetReady bs n t terms s z old
-    → ColumnsPassed bs n t terms s n (columnOf (columns.Members z) set 1) 1 (passSize n t terms (terms .keeping) 1) old new e
+    → ColumnsPassed bs n t terms s n whole (columnOf (columns.Members z) set 1) 1 (passSize n t terms (terms .keeping) 1) old new e
     → r ≡ overOf e
     → SetPassed bs n t terms s z set old new r
 unfolding touched
 set-passed bs n t terms s z set old new r e ready x is =
     record {
-      too-many = is ∙ whole-over bs n t terms s ok source col 1 new e (x .ends);
-      counted = λ q. whole-counted bs n t terms s ok source col 1 new (settled q);
+      too-many = is ∙ whole-over whole bs n t terms s ok source col 1 new refl e (x .ends);
+      counted = λ q. whole-counted whole bs n t terms s ok source col 1 new (settled q);
       members = λ q some.
           let place : 2 * n + z ≡ 2 * n + z * 1 + 0 = omega arith in
           let y = settled q in
@@ -275,8 +287,8 @@ set-passed bs n t terms s z set old new r e ready x is =
     col : ℕ → ℕ
     col = columnOf (columns.Members z) set 1
 
-    settled : r ≡ false → SettledAt bs n t terms s n col 1 new t
-    settled q = whole-settled bs n t terms s ok source col 1 new e (sym is ∙ q) (x .ends)
+    settled : r ≡ false → SettledAt bs n t terms s n whole col 1 new t
+    settled q = whole-settled whole bs n t terms s ok source col 1 new e (sym is ∙ q) (x .ends)
 
 -- an area that is ready for a set is ready for its columns
 pub set-ready : (bs : List ℕ) (n t : ℕ) (terms : Terms) (s z : ℕ) (old : List ℕ) → SetReady bs n t terms s z old
@@ -318,11 +330,11 @@ module _ (bs : List ℕ) (n t : ℕ) (terms : Terms) (d s until block : ℕ) (ol
             fits = omega arith;
           }
 
-      pub kept-passed : (col : ℕ → ℕ) (new : List ℕ) (r : Ended)
-          → ColumnsPassed bs n t terms s until col block (areaSize n (waiting t terms) block) old new r
-          → ColumnsPassed bs n t terms s until col block (passSize n t terms d block) old new r
-      kept-passed col new r x =
-          subst (λ k. ColumnsPassed bs n t terms s until col block k old new r) (sym (size-kept n t terms d block keeps)) x
+      pub kept-passed : (lay : Lanes) (col : ℕ → ℕ) (new : List ℕ) (r : Ended)
+          → ColumnsPassed bs n t terms s until lay col block (areaSize n (waiting t terms) block) old new r
+          → ColumnsPassed bs n t terms s until lay col block (passSize n t terms d block) old new r
+      kept-passed lay col new r x =
+          subst (λ k. ColumnsPassed bs n t terms s until lay col block k old new r) (sym (size-kept n t terms d block keeps)) x
 
     -- something does
     module _ (stale : terms .keeping + 1 < t) where
@@ -341,12 +353,12 @@ module _ (bs : List ℕ) (n t : ℕ) (terms : Terms) (d s until block : ℕ) (ol
       none-waited : until ≡ n
       none-waited = ⊎-elim (λ keeps. absurd (omega arith)) (λ e. e) (ready .waits)
 
-      pub window-passed : (col : ℕ → ℕ) (new : List ℕ) (r : Ended)
-          → ColumnsPassed bs n t terms s n col block (windowSize n d block) old new r
-          → ColumnsPassed bs n t terms s until col block (passSize n t terms d block) old new r
-      window-passed col new r x =
-          subst (λ u. ColumnsPassed bs n t terms s u col block (passSize n t terms d block) old new r) (sym none-waited)
-          (subst (λ k. ColumnsPassed bs n t terms s n col block k old new r) (sym (size-window n t terms d block stale)) x)
+      pub window-passed : (lay : Lanes) (col : ℕ → ℕ) (new : List ℕ) (r : Ended)
+          → ColumnsPassed bs n t terms s n lay col block (windowSize n d block) old new r
+          → ColumnsPassed bs n t terms s until lay col block (passSize n t terms d block) old new r
+      window-passed lay col new r x =
+          subst (λ u. ColumnsPassed bs n t terms s u lay col block (passSize n t terms d block) old new r) (sym none-waited)
+          (subst (λ k. ColumnsPassed bs n t terms s n lay col block k old new r) (sym (size-window n t terms d block stale)) x)
 
 -- ---- the whole plan lacks no record
 
@@ -363,8 +375,94 @@ module _ (bs : List ℕ) (n t : ℕ) (terms : Terms) (d s : ℕ) where
       Passed bs n t terms d s low block old new r
   passed-whole low block old new r x = subst (λ l. Passed l n t terms d s low block old new r) (lacking-nothing bs) x
 
-pub columns-whole : (bs : List ℕ) (n t : ℕ) (terms : Terms) (s until : ℕ) (col : ℕ → ℕ) (block size : ℕ) (old new : List ℕ) (r : Ended) →
-    ColumnsPassed (lackingRecord bs (length bs)) n t terms s until col block size old new r →
-    ColumnsPassed bs n t terms s until col block size old new r
-columns-whole bs n t terms s until col block size old new r x =
-    subst (λ l. ColumnsPassed l n t terms s until col block size old new r) (lacking-nothing bs) x
+pub columns-lacking : (bs : List ℕ) (n t : ℕ) (terms : Terms) (s until : ℕ) (lay : Lanes) (col : ℕ → ℕ) (block size : ℕ) (old new : List ℕ)
+    (r : Ended) → ColumnsPassed (lackingRecord bs (length bs)) n t terms s until lay col block size old new r →
+    ColumnsPassed bs n t terms s until lay col block size old new r
+columns-lacking bs n t terms s until lay col block size old new r x =
+    subst (λ l. ColumnsPassed l n t terms s until lay col block size old new r) (lacking-nothing bs) x
+
+-- nor does one column to an entry change their number
+pub columns-one : (bs : List ℕ) (n t : ℕ) (terms : Terms) (s until low block size : ℕ) (old new : List ℕ) (r : Ended) →
+    ColumnsPassed bs n t terms s until whole (blockColumn low (block * 1)) block size old new r →
+    ColumnsPassed bs n t terms s until whole (blockColumn low block) block size old new r
+columns-one bs n t terms s until low block size old new r x =
+    subst (λ k. ColumnsPassed bs n t terms s until whole (blockColumn low k) block size old new r) (mul-one block) x
+
+pub columns-whole : (bs : List ℕ) (n t : ℕ) (terms : Terms) (s until low block size : ℕ) (old new : List ℕ) (r : Ended) →
+    ColumnsPassed (lackingRecord bs (length bs)) n t terms s until whole (blockColumn low (block * 1)) block size old new r →
+    ColumnsPassed bs n t terms s until whole (blockColumn low block) block size old new r
+columns-whole bs n t terms s until low block size old new r x =
+    columns-lacking bs n t terms s until whole (blockColumn low block) block size old new r
+    (columns-one (lackingRecord bs (length bs)) n t terms s until low block size old new r x)
+
+-- ---- several stations to an entry
+
+-- a column of the row is one of the block's
+columns-less : (split block j : ℕ) → j < columnsIn (lanesBy split) block → j < block * 2 ^ split
+columns-less split block j = go (eqb (2 ^ split) 1) refl
+  where
+    go : (b : Bool) → eqb (2 ^ split) 1 ≡ b → j < cond b block (block * 2 ^ split) → j < block * 2 ^ split
+    go true e h = rw (eqb-true (2 ^ split) 1 e) (omega arith)
+    go false e h = h
+
+-- an area that is ready for packed rows is ready for their columns
+pub packed-ready : (bs : List ℕ) (n t : ℕ) (terms : Terms) (d s block split : ℕ) (old : List ℕ) → PackedReady bs n t terms d s block split old
+    → UntilReady bs n t terms d s n block old × (split ≤ 3)
+packed-ready bs n t terms d s block split old ready =
+    let inside = ready .source in (
+      record {
+        accepted = ready .accepted;
+        units = ready .units;
+        deep = ready .deep;
+        source = ready .source;
+        other = λ q. omega arith;
+        waits = inr refl;
+        fits = ready .fits;
+      },
+      ready .few,
+    )
+
+-- what the pass promises of packed rows, from what it promises of columns
+module _ (bs : List ℕ) (n t : ℕ) (terms : Terms) (d s low block split : ℕ) (old new : List ℕ)
+    (ready : PackedReady bs n t terms d s block split old) where
+  col : ℕ → ℕ
+  col = blockColumn low (block * 2 ^ split)
+
+  packed-counted : SettledAt bs n t terms s n (lanesBy split) col block new t → PackedCounted bs n t terms s low block split new
+  unfolding through planOf col
+  packed-counted y =
+      record {
+        stations = whole-counted (lanesBy split) bs n t terms s (ready .accepted) (ready .source) col block new y;
+        rows = λ z j inside column within other some.
+            let less = columns-less split block j column in
+            let p = planOf bs n t terms in
+            let l = walksBy p s z t in
+            let same : throughIn p s z l (low + j) ≡ touchedIn p s z l (λ v. eqb (col v) j) =
+            sym (touched-one-in p s z l (low + j) within) ∙ ap (touchedIn p s z l) (sym (fun-ext (block-column low (block * 2 ^ split) j less))) in
+            subst
+            (λ l. hops l < 65535 → columnAt (lanesBy split) new (2 * n + z * block) j + throughIn p s z l (low + j) ≡ count l)
+            (shortest-by-last bs n t terms (ready .accepted) s z)
+            (λ few. ap (λ k. columnAt (lanesBy split) new (2 * n + z * block) j + k) same
+            ∙ y .entries .rows z j inside column (block-other low (block * 2 ^ split) j z less (λ q. other (sym q)))
+            (y .stations (omega arith) z inside) few)
+            some;
+        thin = λ z inside.
+            subst (λ l. hops l < 65535 → (2 ^ split ≡ 1) ⊎ (count l < 2 ^ (64 / 2 ^ split)))
+            (shortest-by-last bs n t terms (ready .accepted) s z) (y .entries .thin z inside (y .stations (omega arith) z inside));
+      }
+
+  packed-ends : (e : Ended) → EndedAs bs n t terms s n (lanesBy split) col block new e → PackedAs bs n t terms s low block split new (packedAs e)
+  unfolding EndedAs PackedAs packedAs tooMany overOf
+  packed-ends (ended.Settled e) x = (
+    whole-none (lanesBy split) bs n t terms s (ready .accepted) (ready .source) col block new e x,
+    packed-counted (whole-settled (lanesBy split) bs n t terms s (ready .accepted) (ready .source) col block new (ended.Settled e) refl x),
+  )
+  packed-ends ended.StationTooMany x = let none = x .appearances in let station = x .station in rw (none, station)
+  packed-ends ended.AppearanceTooMany x = rw x
+  packed-ends ended.TooWide x = λ zero. x (ap (λ k. 2 ^ k) zero)
+
+  pub packed-passed : (r : Packed) (e : Ended)
+      → ColumnsPassed bs n t terms s n (lanesBy split) (blockColumn low (block * 2 ^ split)) block (passSize n t terms d block) old new e
+      → r ≡ packedAs e → PackedPassed bs n t terms d s low block split old new r
+  unfolding col
+  packed-passed r e x is = record { ends = rw is (packed-ends e (x .ends)); beyond = x .beyond; same-length = x .same-length }

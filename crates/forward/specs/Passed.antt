@@ -2,9 +2,9 @@
 -- stations how many shortest walks do not have it inside; or for a set of stations how many shortest walks to one
 -- destination have no member inside. Definitions only.
 -- Assumes nothing.
-use Prim.Native.Nat.{ℕ, _+_, _-_, _*_, _/_, _<_, _≤_, min}
+use Prim.Native.Nat.{ℕ, _+_, _-_, _*_, _/_, _^_, _<_, _≤_, min}
 use mathlib.Core.Path.{_≡_}
-use mathlib.Core.Bool.{Bool, false, cond}
+use mathlib.Core.Bool.{Bool, true, false, cond}
 use mathlib.Core.List.{List}
 use mathlib.Core.Logic.{_⊎_, _≢_}
 use lib.Dec.{leb, eqb}
@@ -14,9 +14,14 @@ use Rattle.temporal.specs.Bytes.{planOf}
 use Rattle.temporal.specs.Cause.{planFault, tooMany}
 use Rattle.temporal.specs.Shortest.{shortestWalksTo, hops, count, through}
 use Rattle.temporal.specs.Set.{touched}
+use Rattle.pass.specs.declared.Ended.{Ended}
+use Rattle.pass.specs.declared.Ended.the-variants as ended
+use Rattle.pass.specs.Column.{lanesBy, columnsIn, columnAt}
 use Rattle.pass.specs.PassedColumns.{waiting, areaSize}
 use Rattle.stale.specs.Depth.{Deep}
 use Rattle.stale.specs.Size.{windowSize, windowColumns}
+use Rattle.forward.specs.declared.Packed.{Packed}
+use Rattle.forward.specs.declared.Packed.the-variants as packed
 
 -- How many entries of the work area the pass uses, with blocks of so many columns; d appearances of a station are kept where readings go
 -- stale.
@@ -106,4 +111,46 @@ pub record SetPassed (bs : List ℕ) (n t : ℕ) (terms : Terms) (s z : ℕ) (se
       → getD new (2 * n + z) 0 + touched (planOf bs n t terms) s z (λ v. eqb (getD set v 0) 1)
       ≡ count (shortestWalksTo (planOf bs n t terms) s z)
   pub beyond : drop (passSize n t terms (terms .keeping) 1) new ≡ drop (passSize n t terms (terms .keeping) 1) old
+  pub same-length : length new ≡ length old
+
+-- ---- several stations to an entry
+
+-- what the end of a pass says
+unfoldable pub packedAs : Ended → Packed
+packedAs (ended.Settled e) = packed.Counted
+packedAs ended.StationTooMany = packed.TooMany
+packedAs ended.AppearanceTooMany = packed.TooMany
+packedAs ended.TooWide = packed.TooWide
+
+-- what the pass asks then: as for a block, with rows of so many entries, 2^split stations to each
+pub record PackedReady (bs : List ℕ) (n t : ℕ) (terms : Terms) (d s block split : ℕ) (work : List ℕ) : Type 0 where
+  pub accepted : planFault bs n t ≡ 0
+  pub units : Allowed terms
+  pub deep : Deep bs n (terms .keeping) d
+  pub source : s < n
+  pub fits : passSize n t terms d block ≤ length work
+  pub few : split ≤ 3
+
+-- Hops and counts as in Counted; column j of the row at 2 n + z block holds how many shortest walks do not have station low + j inside.
+-- A count fits its lane, where an entry has several.
+pub record PackedCounted (bs : List ℕ) (n t : ℕ) (terms : Terms) (s low block split : ℕ) (work : List ℕ) : Type 0 where
+  pub stations : Counted bs n t terms s 0 0 work
+  pub rows : (z j : ℕ) → z < n → j < columnsIn (lanesBy split) block → low + j < n → low + j ≢ z
+      → hops (shortestWalksTo (planOf bs n t terms) s z) < 65535
+      → columnAt (lanesBy split) work (2 * n + z * block) j + through (planOf bs n t terms) s z (low + j)
+      ≡ count (shortestWalksTo (planOf bs n t terms) s z)
+  pub thin : (z : ℕ) → z < n → hops (shortestWalksTo (planOf bs n t terms) s z) < 65535
+      → (2 ^ split ≡ 1) ⊎ (count (shortestWalksTo (planOf bs n t terms) s z) < 2 ^ (64 / 2 ^ split))
+
+-- how it ends
+unfoldable pub PackedAs : List ℕ → ℕ → ℕ → Terms → ℕ → ℕ → ℕ → ℕ → List ℕ → Packed → Type 0
+PackedAs bs n t terms s low block split work packed.Counted =
+    (tooMany (planOf bs n t terms) s ≡ false) × PackedCounted bs n t terms s low block split work
+PackedAs bs n t terms s low block split work packed.TooMany = tooMany (planOf bs n t terms) s ≡ true
+PackedAs bs n t terms s low block split work packed.TooWide = split ≢ 0
+
+-- what it promises
+pub record PackedPassed (bs : List ℕ) (n t : ℕ) (terms : Terms) (d s low block split : ℕ) (old new : List ℕ) (r : Packed) : Type 0 where
+  pub ends : PackedAs bs n t terms s low block split new r
+  pub beyond : drop (passSize n t terms d block) new ≡ drop (passSize n t terms d block) old
   pub same-length : length new ≡ length old

@@ -1,10 +1,10 @@
 // The forward pass, as the operations call it: where nothing goes stale in the slots of the plan, the pass that carries what may be sent
 // on; else the pass that gathers a sender's window. What either leaves in the work area is read in one way.
 ghost use mathlib.Core.Path.{_≡_};
-ghost use Prim.Native.Nat.{_+_, _*_, _<_, _≤_};
+ghost use Prim.Native.Nat.{_+_, _*_, _^_, _<_, _≤_};
 ghost use Rattle.temporal.specs.Plan.{units};
 ghost use Rattle.temporal.specs.Struck.{lackingRecord};
-ghost use Rattle.pass.specs.Column.{blockColumn, columnOf};
+ghost use Rattle.pass.specs.Column.{blockColumn, columnOf, whole, lanesBy, splitOf};
 ghost use Rattle.pass.specs.PassedColumns.{areaSize, ColumnsPassed, overOf, slotOf};
 ghost use Rattle.stale.specs.Depth.{DepthOf};
 ghost use Rattle.stale.specs.Size.{windowSize};
@@ -19,9 +19,19 @@ ghost use Rattle.forward.specs.Passed.{
   Passed,
   SetReady,
   SetPassed,
+  packedAs,
+  PackedReady,
+  PackedPassed,
 };
 use pass::Columns;
 use pass::Ended;
+
+// How a pass ends whose rows hold several counts to an entry: with every count, with one over 2^64 - 1, or with one that does not fit.
+pub enum Packed {
+    Counted,
+    TooMany,
+    TooWide,
+}
 
 // How many appearances of a station the pass keeps where readings go stale.
 pub fn depth(work: &mut [u64], plan: &[u8], n: usize, t: usize, h: usize) -> usize
@@ -99,9 +109,9 @@ fn pass_slots(
     block: usize,
     until: usize,
 ) -> Ended
-    requires { ⌜ UntilReady (lackingRecord (now plan) out) n t (units g h) depth source until block (now work) ⌝ }
-    ensures { λ r. ⌜ ColumnsPassed (lackingRecord (now (plan .entry)) out) n t (units g h) source until
-        (columnOf columns (now (set .entry)) block) block
+    requires { ⌜ UntilReady (lackingRecord (now plan) out) n t (units g h) depth source until block (now work) × (splitOf columns ≤ 3) ⌝ }
+    ensures { λ r. ⌜ ColumnsPassed (lackingRecord (now (plan .entry)) out) n t (units g h) source until (lanesBy (splitOf columns))
+        (columnOf columns (now (set .entry)) (block * 2 ^ splitOf columns)) block
         (passSize n t (units g h) depth block) (now (work .entry)) (now (work .exit)) r ⌝ }
 {
     if t <= h + 1 {
@@ -152,7 +162,7 @@ pub fn pass_until(
     until: usize,
 ) -> Ended
     requires { ⌜ UntilReady (now plan) n t (units g h) depth source until block (now work) ⌝ }
-    ensures { λ r. ⌜ ColumnsPassed (now (plan .entry)) n t (units g h) source until (blockColumn low block) block
+    ensures { λ r. ⌜ ColumnsPassed (now (plan .entry)) n t (units g h) source until whole (blockColumn low block) block
         (passSize n t (units g h) depth block) (now (work .entry)) (now (work .exit)) r ⌝ }
 {
     pass_slots(
@@ -165,14 +175,14 @@ pub fn pass_until(
         h,
         depth,
         source,
-        Columns::From(low),
+        Columns::From(low, 0),
         &plan[0..0],
         block,
         until,
     )
 }
 
-// Whether a pass met a count over 2^64 - 1.
+// Whether a pass met a count over 2^64 - 1, or too wide for its lane.
 fn over(ended: Ended) -> bool
     ensures { λ r. ⌜ r ≡ overOf ended ⌝ }
 {
@@ -186,10 +196,13 @@ fn over(ended: Ended) -> bool
         Ended::AppearanceTooMany => {
             return true;
         }
+        Ended::TooWide => {
+            return true;
+        }
     }
 }
 
-// The slot in which a pass ended settled; 0 where it met a count over 2^64 - 1.
+// The slot in which a pass ended settled; 0 where it met a count over 2^64 - 1, or too wide for its lane.
 pub fn settled_slot(ended: Ended) -> usize
     ensures { λ r. ⌜ r ≡ slotOf ended ⌝ }
 {
@@ -203,7 +216,68 @@ pub fn settled_slot(ended: Ended) -> usize
         Ended::AppearanceTooMany => {
             return 0;
         }
+        Ended::TooWide => {
+            return 0;
+        }
     }
+}
+
+// What the end of a pass through every slot says.
+fn packed_of(ended: Ended) -> Packed
+    ensures { λ r. ⌜ r ≡ packedAs ended ⌝ }
+{
+    match ended {
+        Ended::Settled(_) => {
+            return Packed::Counted;
+        }
+        Ended::StationTooMany => {
+            return Packed::TooMany;
+        }
+        Ended::AppearanceTooMany => {
+            return Packed::TooMany;
+        }
+        Ended::TooWide => {
+            return Packed::TooWide;
+        }
+    }
+}
+
+// The pass for a block of stations through every slot, with 2^split stations to an entry of a row of so many entries, without the record
+// at position out; where there is none, the plan is whole. Where a count does not fit its lane, a smaller split is asked for.
+pub fn pass_packed(
+    work: &mut [u64],
+    plan: &[u8],
+    out: usize,
+    n: usize,
+    t: usize,
+    g: usize,
+    h: usize,
+    depth: usize,
+    source: usize,
+    low: usize,
+    block: usize,
+    split: usize,
+) -> Packed
+    requires { ⌜ PackedReady (lackingRecord (now plan) out) n t (units g h) depth source block split (now work) ⌝ }
+    ensures { λ r. ⌜ PackedPassed (lackingRecord (now (plan .entry)) out) n t (units g h) depth source low block split
+        (now (work .entry)) (now (work .exit)) r ⌝ }
+{
+    let ended = pass_slots(
+        work,
+        plan,
+        out,
+        n,
+        t,
+        g,
+        h,
+        depth,
+        source,
+        Columns::From(low, split),
+        &plan[0..0],
+        block,
+        n,
+    );
+    packed_of(ended)
 }
 
 // The pass for a block of stations through every slot, without the record at position out; where there is none, the plan is whole. True
@@ -235,7 +309,7 @@ pub fn pass_without(
         h,
         depth,
         source,
-        Columns::From(low),
+        Columns::From(low, 0),
         &plan[0..0],
         block,
         n,

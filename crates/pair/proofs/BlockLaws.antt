@@ -27,7 +27,7 @@ use Rattle.temporal.proofs.ForemostLaws.{foremost-at-most, foremost-by-arrival}
 use Rattle.temporal.proofs.ListLaws.{select-none}
 use Rattle.temporal.proofs.PlanLaws.{slots-within}
 use Rattle.temporal.proofs.ShortestLaws.{hops-empty, hops-bound}
-use Rattle.pass.specs.Column.{blockColumn}
+use Rattle.pass.specs.Column.{blockColumn, whole}
 use Rattle.pass.specs.declared.Ended.{Ended}
 use Rattle.pass.specs.PassedColumns.{SettledAt, ColumnsPassed, slotOf}
 use Rattle.stale.specs.Depth.{DepthOf}
@@ -84,7 +84,7 @@ module _ (bs : List ℕ) (n t : ℕ) (terms : Terms) (depth s z until low block 
       }
 
   module _ (area′ : List ℕ) (r : Ended)
-      (passed : ColumnsPassed bs n t terms s until (blockColumn low block) block (passSize n t terms depth block) area area′ r) where
+      (passed : ColumnsPassed bs n t terms s until whole (blockColumn low block) block (passSize n t terms depth block) area area′ r) where
     -- a count over 2^64 - 1
     pub block-over : slotOf r ≡ 0 → BlockDone bs n t terms depth s z until low block table area table area′ 0
     block-over e =
@@ -100,7 +100,7 @@ module _ (bs : List ℕ) (n t : ℕ) (terms : Terms) (depth s z until low block 
         }
 
     module _ (d : slotOf r ≢ 0) where
-      at-end : SettledAt bs n t terms s until (blockColumn low block) block area′ (slotOf r)
+      at-end : SettledAt bs n t terms s until whole (blockColumn low block) block area′ (slotOf r)
       at-end = settled-in bs n t terms s until ok other (blockColumn low block) block area′ r (passed .ends) d
 
       -- the pair's walks by that slot are no more

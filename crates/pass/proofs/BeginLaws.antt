@@ -9,6 +9,7 @@ use mathlib.Core.Bool.{Bool, true, false, cond}
 use mathlib.Core.List.{List}
 use mathlib.Core.Logic.{_⊎_, inl, inr, ⊎-elim, by-cases, _≢_}
 use lib.ListN.{length, getD, set}
+use lib.Pow.{pow-lt}
 use lib.Seq.{getD-set-same, getD-set-other, lt-length-set}
 use Rattle.temporal.specs.Plan.{Plan, start}
 use Rattle.counting.proofs.Weights.{total, everywhere}
@@ -18,11 +19,15 @@ use Rattle.counting.proofs.Recurrence.{start-other}
 use Rattle.entries.specs.Entry.{stored}
 use Rattle.entries.proofs.CountLaws.{stored-small}
 use Rattle.memory.specs.Fill.{filled}
+use Rattle.lanes.specs.Lane.{ones}
+use Rattle.lanes.proofs.LaneLaws.{packed-ext, packed-whole, width-some}
 use Rattle.memory.proofs.FillLaws.{filled-length, filled-other, filled-at}
 use Rattle.pass.specs.Row.{partSize, rowAt, partAt}
+use Rattle.pass.specs.Column.{Lanes}
 use Rattle.pass.specs.Sweep.{emptied, emptiedFrom, begunArea, Area}
 use Rattle.pass.proofs.PlaceLaws.{row-inside, emptied-length, set-twice-length}
 use Rattle.pass.proofs.BestLaws.{Best, best-same, best-none}
+use Rattle.pass.proofs.MaskLaws.{Filled}
 use Rattle.pass.proofs.StateLaws.{AreaState}
 use Rattle.pass.proofs.PlanWalks.{kept, walksAt}
 
@@ -107,7 +112,7 @@ module _ (n size : ℕ) (small : 2 * n ≤ size) where
 
 -- ---- the entries
 
-module _ (n block q : ℕ) (w : List ℕ) (s : ℕ) (area : Area n block q w) (inside : s < n) where
+module _ (n block q : ℕ) (w : List ℕ) (s one : ℕ) (area : Area n block q w) (inside : s < n) where
   positive : 0 < n
   positive = area .some
 
@@ -129,34 +134,34 @@ module _ (n block q : ℕ) (w : List ℕ) (s : ℕ) (area : Area n block q w) (i
 
   -- an entry outside of the source's row, other than the source's two
   begun-other : (i : ℕ) → (i < rowAt n block s) ⊎ (rowAt n block s + block ≤ i) → i ≢ s → i ≢ s + n
-      → getD (begunArea n block q w s) i 0 ≡ getD bare i 0
+      → getD (begunArea n block q w s one) i 0 ≡ getD bare i 0
   unfolding begunArea bare
   begun-other i out a b =
-      filled-other (set (set (emptiedFrom n (partSize n block) w 0 (1 + q)) s 0) (s + n) 1) (rowAt n block s) block 1 i out
+      filled-other (set (set (emptiedFrom n (partSize n block) w 0 (1 + q)) s 0) (s + n) 1) (rowAt n block s) block one i out
       ∙ getD-set-other (set (emptiedFrom n (partSize n block) w 0 (1 + q)) s 0) (s + n) i 1 0 b
       ∙ getD-set-other (emptiedFrom n (partSize n block) w 0 (1 + q)) s i 0 0 a
 
-  begun-source : getD (begunArea n block q w s) s 0 ≡ 0
+  begun-source : getD (begunArea n block q w s one) s 0 ≡ 0
   unfolding begunArea bare
   begun-source =
-      filled-other (set (set bare s 0) (s + n) 1) (rowAt n block s) block 1 s (inl (omega arith))
+      filled-other (set (set bare s 0) (s + n) 1) (rowAt n block s) block one s (inl (omega arith))
       ∙ getD-set-other (set bare s 0) (s + n) s 1 0 (omega (arith, positive))
       ∙ getD-set-same bare s 0 0 (omega (arith, bare-length, room, two-parts))
 
-  begun-count : getD (begunArea n block q w s) (s + n) 0 ≡ 1
+  begun-count : getD (begunArea n block q w s one) (s + n) 0 ≡ 1
   unfolding begunArea bare
   begun-count =
-      filled-other (set (set bare s 0) (s + n) 1) (rowAt n block s) block 1 (s + n) (inl (omega arith))
+      filled-other (set (set bare s 0) (s + n) 1) (rowAt n block s) block one (s + n) (inl (omega arith))
       ∙ getD-set-same (set bare s 0) (s + n) 1 0
       (lt-length-set bare s 0 (omega (arith, bare-length, room, two-parts)))
 
-  begun-row : (j : ℕ) → j < block → getD (begunArea n block q w s) (rowAt n block s + j) 0 ≡ 1
+  begun-row : (j : ℕ) → j < block → getD (begunArea n block q w s one) (rowAt n block s + j) 0 ≡ one
   unfolding begunArea bare
   begun-row j h =
-      filled-at (set (set bare s 0) (s + n) 1) (rowAt n block s) block 1 j h
+      filled-at (set (set bare s 0) (s + n) 1) (rowAt n block s) block one j h
       (omega (arith, set-twice-length bare s (s + n) 0 1, bare-length, row-inside n block s inside, room, two-parts))
 
-  begun-beyond : (i : ℕ) → (1 + q) * partSize n block ≤ i → getD (begunArea n block q w s) i 0 ≡ getD w i 0
+  begun-beyond : (i : ℕ) → (1 + q) * partSize n block ≤ i → getD (begunArea n block q w s one) i 0 ≡ getD w i 0
   unfolding bare
   begun-beyond i h =
       let r = row-inside n block s inside in
@@ -166,7 +171,7 @@ module _ (n block q : ℕ) (w : List ℕ) (s : ℕ) (area : Area n block q w) (i
       ∙ from-beyond n (partSize n block) (omega arith) (1 + q) w 0 i (omega arith)
 
   -- no walks wait in a part
-  waits-hops : (e v : ℕ) → v < n → getD (begunArea n block q w s) (partAt n block q e + v) 0 ≡ 65535
+  waits-hops : (e v : ℕ) → v < n → getD (begunArea n block q w s one) (partAt n block q e + v) 0 ≡ 65535
   unfolding bare partAt
   waits-hops e v h =
       let r = row-inside n block s inside in
@@ -178,7 +183,7 @@ module _ (n block q : ℕ) (w : List ℕ) (s : ℕ) (area : Area n block q w) (i
       ∙ from-hops n (partSize n block) (omega arith) (1 + q) w 0 (1 + e % q) v
       (let l = mod-lt e (area .parts) in omega arith) h room
 
-  waits-counts : (e v : ℕ) → v < n → getD (begunArea n block q w s) (partAt n block q e + v + n) 0 ≡ 0
+  waits-counts : (e v : ℕ) → v < n → getD (begunArea n block q w s one) (partAt n block q e + v + n) 0 ≡ 0
   unfolding bare partAt
   waits-counts e v h =
       let r = row-inside n block s inside in
@@ -191,7 +196,7 @@ module _ (n block q : ℕ) (w : List ℕ) (s : ℕ) (area : Area n block q w) (i
       (let l = mod-lt e (area .parts) in omega arith) h room
 
   -- nor are any settled for another station
-  none-hops : (v : ℕ) → v < n → v ≢ s → getD (begunArea n block q w s) v 0 ≡ 65535
+  none-hops : (v : ℕ) → v < n → v ≢ s → getD (begunArea n block q w s one) v 0 ≡ 65535
   unfolding bare
   none-hops v h d =
       let same : 0 + 0 * partSize n block + v ≡ v = omega arith in
@@ -199,7 +204,7 @@ module _ (n block q : ℕ) (w : List ℕ) (s : ℕ) (area : Area n block q w) (i
       ∙ sym (ap (λ i. getD (emptiedFrom n (partSize n block) w 0 (1 + q)) i 0) same)
       ∙ from-hops n (partSize n block) (omega arith) (1 + q) w 0 0 v (omega arith) h room
 
-  none-counts : (v : ℕ) → v < n → v ≢ s → getD (begunArea n block q w s) (v + n) 0 ≡ 0
+  none-counts : (v : ℕ) → v < n → v ≢ s → getD (begunArea n block q w s one) (v + n) 0 ≡ 0
   unfolding bare
   none-counts v h d =
       let same : 0 + 0 * partSize n block + v + n ≡ v + n = omega arith in
@@ -208,11 +213,22 @@ module _ (n block q : ℕ) (w : List ℕ) (s : ℕ) (area : Area n block q w) (i
       ∙ from-counts n (partSize n block) (omega arith) (1 + q) w 0 0 v (omega arith) h room
 
   -- the beginning keeps the length
-  pub begun-length : length (begunArea n block q w s) ≡ length w
+  pub begun-length : length (begunArea n block q w s one) ≡ length w
   unfolding begunArea bare
   begun-length =
-      filled-length (set (set bare s 0) (s + n) 1) (rowAt n block s) block 1
+      filled-length (set (set bare s 0) (s + n) 1) (rowAt n block s) block one
       ∙ set-twice-length bare s (s + n) 0 1 ∙ bare-length
+
+-- ---- ones in every lane
+
+one-fits : (b : ℕ) → 0 < b → 1 < 2 ^ b
+one-fits b h = pow-lt {i = 0} {j = b} h
+
+-- they lose nothing in 64 bits
+pub ones-held : (lay : Lanes) → Filled lay → ones (lay .width) (lay .lanes) % 2 ^ 64 ≡ ones (lay .width) (lay .lanes)
+unfolding ones
+ones-held lay full =
+    packed-whole (lay .width) (lay .lanes) (full .fill) (λ l h. one-fits (lay .width) (width-some _ _ (full .fill)))
 
 -- ---- the sequences by slot 0
 
@@ -230,34 +246,42 @@ module _ (p : Plan) (s : ℕ) (g : ℕ → Bool) where
       go false e = refl
 
 -- At the beginning the work area holds the walks by slot 0, with no contact folded in; a walk of any column may go on from the
--- source.
-pub begun-state : (p : Plan) (s : ℕ) (may : ℕ → ℕ → Bool) (n block q : ℕ) (w : List ℕ) → ((c : ℕ) → may c s ≡ true)
-    → Area n block q w → s < n
-    → AreaState n block q 0 w (walksAt p s may 0 0) (begunArea n block q w s)
-unfolding walksAt everywhere
-begun-state p s may n block q w free area inside =
+-- source, so every lane of its row holds 1.
+pub begun-state : (lay : Lanes) → Filled lay → (p : Plan) (s : ℕ) (may : ℕ → ℕ → Bool) (n block q : ℕ) (w : List ℕ)
+    → ((c : ℕ) → may c s ≡ true) → Area n block q w → s < n
+    → AreaState lay n block q 0 w (walksAt p s may 0 0) (begunArea n block q w s (ones (lay .width) (lay .lanes)))
+unfolding walksAt everywhere ones
+begun-state lay full p s may n block q w free area inside =
     record {
-      same = begun-length n block q w s area inside;
-      beyond = begun-beyond n block q w s area inside;
+      same = begun-length n block q w s one area inside;
+      beyond = begun-beyond n block q w s one area inside;
       settled = λ v h. by-cases (ℕ-discrete v s)
           (λ e. rw e
-          (best-same (begun-source n block q w s area inside) (begun-count n block q w s area inside)
-          (λ j i g. begun-row n block q w s area inside j i) source))
-          (λ d. best-same (none-hops n block q w s area inside v h d) (none-counts n block q w s area inside v h d)
+          (best-same (begun-source n block q w s one area inside) (begun-count n block q w s one area inside)
+          (λ j i g. begun-row n block q w s one area inside j i) source))
+          (λ d. best-same (none-hops n block q w s one area inside v h d) (none-counts n block q w s one area inside v h d)
           (λ j i g. refl)
           (best-none (omega arith) (λ k. kept-none p s everywhere v k d)));
-      waits = λ e v low high h. best-same (waits-hops n block q w s area inside e v h) (waits-counts n block q w s area inside e v h)
+      waits = λ e v low high h. best-same (waits-hops n block q w s one area inside e v h) (waits-counts n block q w s one area inside e v h)
           (λ j i g. refl)
           (best-none (omega arith) (λ k. arrivals-zero p s everywhere v e k));
+      thin = λ v h g. by-cases (ℕ-discrete v s)
+          (λ e. rw e (rw (begun-count n block q w s one area inside) (inr (omega arith, one-fits (lay .width) (width-some _ _ (full .fill))))))
+          (λ d. absurd (omega (arith, none-hops n block q w s one area inside v h d)));
     }
   where
-    source : Best block 65535 (kept p s everywhere s 0) (λ c. kept p s (may c) s 0) 0 1 (λ j. 1)
+    one : ℕ
+    one = ones (lay .width) (lay .lanes)
+
+    source : Best lay block 65535 (kept p s everywhere s 0) (λ c. kept p s (may c) s 0) 0 1 (λ j. one)
     source =
-        let one = kept-source p s everywhere refl in
+        let once = kept-source p s everywhere refl in
         record {
           entry = record {
             fewest = fewest-intro (omega arith) (omega arith) (λ k h. absurd (omega arith));
-            count = sym (ap stored one ∙ stored-small 1 (omega arith));
+            count = sym (ap stored once ∙ stored-small 1 (omega arith));
           };
-          row = λ j h g. sym (ap (λ x. x % 2 ^ 64) (kept-source p s (may j) (free j)));
+          row = λ e h g. sym (ap (λ x. x % 2 ^ 64)
+              (packed-ext (lay .width) (lay .lanes) (λ l i. kept-source p s (may (e * lay .lanes + l)) (free (e * lay .lanes + l))))
+              ∙ ones-held lay full);
         }

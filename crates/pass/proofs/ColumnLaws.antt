@@ -3,7 +3,7 @@
 use Prim.Native.Nat.{ℕ, _-_, _<_, _≤_}
 use native.Mathlib.Omega.{arith}
 use mathlib.Core.Path.{_≡_, refl}
-use mathlib.Core.Bool.{Bool, true, not, or-true}
+use mathlib.Core.Bool.{Bool, true, false, not, or-true}
 use mathlib.Core.List.{List}
 use mathlib.Core.Logic.{_≢_}
 use borrow.Author.Tests.{lt-ltb, le-ltb, eq-eqb, ne-eqb}
@@ -29,16 +29,21 @@ module _ (s : ℕ) (col : ℕ → ℕ) (j : ℕ) where
   unfolding mayLeave avoidingSet
   other-free v d = rw (ne-eqb (col v) j d)
 
+  -- but not from one for which j stands
+  pub own-closed : (v : ℕ) → v ≢ s → col v ≡ j → mayLeave s col j v ≡ false
+  unfolding mayLeave avoidingSet
+  own-closed v d own = rw (eq-eqb (col v) j own, ne-eqb v s d)
+
 -- ---- the column of a station, from comparisons of numbers
 
 module _ (kind : Columns) (set : List ℕ) (none v : ℕ) where
   -- a block: a station below it has no column
-  pub from-below : {low : ℕ} → kind ≡ columns.From low → v < low → none ≡ columnOf kind set none v
+  pub from-below : {low split : ℕ} → kind ≡ columns.From low split → v < low → none ≡ columnOf kind set none v
   unfolding columnOf
   from-below {low} e h = rw (e, lt-ltb v low h)
 
   -- any other has its distance from the first station
-  pub from-above : {low : ℕ} → kind ≡ columns.From low → low ≤ v → v - low ≡ columnOf kind set none v
+  pub from-above : {low split : ℕ} → kind ≡ columns.From low split → low ≤ v → v - low ≡ columnOf kind set none v
   unfolding columnOf
   from-above {low} e h = rw (e, le-ltb v low h)
 

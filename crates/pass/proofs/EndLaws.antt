@@ -1,13 +1,14 @@
 -- The end of the pass: what the settled entries say of the shortest walks by its last slot, and what large sequences say of
 -- cause 9.
 -- Assumes nothing.
-use Prim.Native.Nat.{ℕ, zero, suc, _+_, _%_, _^_, _<_, _≤_}
+use Prim.Native.Nat.{ℕ, zero, suc, _+_, _*_, _/_, _%_, _^_, _<_, _≤_}
 use native.Mathlib.Omega.{arith}
-use native.Mathlib.Nat.{mod-eq-of-lt}
+use native.Mathlib.Nat.{mod-eq-of-lt, div-lt-iff-lt-mul}
 use mathlib.Core.Path.{_≡_, refl, sym, ap, subst, _∙_}
 use mathlib.Core.Bool.{Bool, true, false, cond}
 use mathlib.Core.List.{List}
-use borrow.Author.Tests.{lt-ltb, le-ltb}
+use mathlib.Core.Logic.{inl, inr, ⊎-elim, _≢_}
+use borrow.Author.Tests.{lt-ltb, le-ltb, eqb-true, eqb-false}
 use lib.Dec.{ltb, eqb}
 use lib.ListN.{getD}
 use Rattle.temporal.specs.Lists.{below}
@@ -26,7 +27,10 @@ use Rattle.counting.proofs.Weights.{total, everywhere, total-zero}
 use Rattle.counting.proofs.Fewest.{Fewest, fewest-ext, fewest-unique, fewest-shortest, count-shortest}
 use Rattle.counting.proofs.Recurrence.{atAppearance, start-later}
 use Rattle.counting.proofs.Through.{touched-avoiding}
+use Rattle.lanes.specs.Lane.{lane, packed, apart}
+use Rattle.lanes.proofs.LaneLaws.{lane-mod, station-split, station-lane-below}
 use Rattle.pass.specs.Row.{rowAt}
+use Rattle.pass.specs.Column.{Lanes, columnsIn, columnAt}
 use Rattle.entries.specs.Entry.{stored}
 use Rattle.entries.proofs.CountLaws.{stored-small}
 use Rattle.entries.proofs.EntryLaws.{Entry, Large, Small, overflow-large, overflow-small}
@@ -35,8 +39,9 @@ use Rattle.pass.specs.Entry.{areaOverflows}
 use Rattle.pass.specs.PassedColumns.{CountedBy}
 use Rattle.pass.proofs.BestLaws.{Best}
 use Rattle.pass.proofs.ColumnLaws.{mayLeave, other-free}
+use Rattle.pass.proofs.MaskLaws.{Thin, Filled, held-count}
 use Rattle.pass.proofs.StateLaws.{AreaState}
-use Rattle.pass.proofs.PlanWalks.{kept, walksAt}
+use Rattle.pass.proofs.PlanWalks.{kept, kept-less, walksAt}
 
 -- ---- appearances
 
@@ -79,6 +84,11 @@ start-small p s v = record { small = λ h f. go h }
     go : (h : ℕ) → total p everywhere (start s) (atAppearance v 0) h ≤ 18446744073709551615
     go zero = rw (total-zero p everywhere (start s) (atAppearance v 0)) (one (isAppearance v 0 (start s)))
     go (suc k) = rw (start-later p s everywhere v k) (omega arith)
+
+-- one count is packed as itself
+packed-one : (b k : ℕ) → k ≡ 1 → (f : ℕ → ℕ) → packed b k f ≡ f 0
+unfolding packed
+packed-one b k e f = rw e (omega arith)
 
 module _ (bs : List ℕ) (n t : ℕ) (terms : Terms) (ok : planFault bs n t ≡ 0) (s : ℕ) where
   -- ---- cause 9
@@ -139,11 +149,21 @@ module _ (bs : List ℕ) (n t : ℕ) (terms : Terms) (ok : planFault bs n t ≡ 
       (bounded-ends (planOf bs n t terms) (slots-within bs n t terms ok) s (arrivesBy z e))
       ∙ sym (station-all z e _)
 
-  -- entries of the walks by slot e; rows are looked at where the column does not stand for the station itself
-  module _ (col : ℕ → ℕ) (block : ℕ) (w : List ℕ) (e : ℕ)
+  -- what the row of a station holds: counts by column, no more than all walks, and those of the column's permission where one may go on
+  -- from the station itself
+  pub record RowHeld (lay : Lanes) (col : ℕ → ℕ) (block : ℕ) (w : List ℕ) (e z : ℕ) : Type 0 where
+    pub counts : ℕ → ℕ
+    pub held : (i : ℕ) → i < block
+        → getD w (rowAt n block z + i) 0 ≡ packed (lay .width) (lay .lanes) (λ l. counts (i * lay .lanes + l)) % 2 ^ 64
+    pub less : (j : ℕ) → counts j ≤ kept (planOf bs n t terms) s everywhere z e (getD w z 0)
+    pub avoiding : (j : ℕ) → mayLeave s col j z ≡ true
+        → counts j ≡ kept (planOf bs n t terms) s (mayLeave s col j) z e (getD w z 0)
+
+  -- entries of the walks by slot e, with their rows
+  module _ (lay : Lanes) (full : Filled lay) (col : ℕ → ℕ) (block : ℕ) (w : List ℕ) (e : ℕ)
       (held : (z : ℕ) → z < n → Entry (kept (planOf bs n t terms) s everywhere z e) (getD w z 0) (getD w (z + n) 0))
-      (rows : (z c : ℕ) → z < n → c < block → getD w z 0 < 65535 → mayLeave s col c z ≡ true
-      → getD w (rowAt n block z + c) 0 ≡ kept (planOf bs n t terms) s (mayLeave s col c) z e (getD w z 0) % 2 ^ 64) where
+      (rows : (z : ℕ) → z < n → getD w z 0 < 65535 → RowHeld lay col block w e z)
+      (thin : (z : ℕ) → z < n → getD w z 0 < 65535 → Thin lay (getD w (z + n) 0)) where
     -- a station's settled entry overflows just where its count is over 2^64 - 1
     pub entries-overflow : (z : ℕ) → z < n
         → areaOverflows n w z ≡ ltb 18446744073709551615 (count (walksBy (planOf bs n t terms) s z e))
@@ -166,8 +186,49 @@ module _ (bs : List ℕ) (n t : ℕ) (terms : Terms) (ok : planFault bs n t ≡ 
     pub entries-hops : (z : ℕ) → z < n → getD w z 0 ≡ hops (walksBy (planOf bs n t terms) s z e)
     entries-hops z q = fewest-unique (held z q .fewest) (station-fewest z e)
 
+    -- column j of a row, where the count is below 2^64
+    column-held : (z j : ℕ) (q : z < n) (some : getD w z 0 < 65535)
+        → kept (planOf bs n t terms) s everywhere z e (getD w z 0) ≤ 18446744073709551615 → j < columnsIn lay block
+        → columnAt lay w (rowAt n block z) j ≡ rows z q some .counts j
+    column-held z j q some few = go (eqb (lay .lanes) 1) refl
+      where
+        row : RowHeld lay col block w e z
+        row = rows z q some
+
+        whole-row : lay .lanes ≡ 1 → j < block → getD w (rowAt n block z + j) 0 ≡ row .counts j
+        whole-row one i =
+            let small = row .less j in
+            row .held j i
+            ∙ ap (λ x. x % 2 ^ 64) (packed-one (lay .width) (lay .lanes) one (λ l. row .counts (j * lay .lanes + l))
+            ∙ ap (row .counts) (rw one (omega arith)))
+            ∙ mod-eq-of-lt (omega arith)
+
+        lane-row : lay .lanes ≢ 1 → j < block * lay .lanes
+            → lane (lay .width) (getD w (rowAt n block z + j / lay .lanes) 0) (j % lay .lanes) ≡ row .counts j
+        lane-row several i =
+            let within : j / lay .lanes < block = div-lt-iff-lt-mul (full .some) .1 i in
+            rw (row .held (j / lay .lanes) within)
+            (lane-mod (lay .width) (lay .lanes) (full .fill) (apart (λ l h. fits (j / lay .lanes * lay .lanes + l))) (j % lay .lanes)
+            (station-lane-below (lay .lanes) j (full .some)) (fits (j / lay .lanes * lay .lanes + j % lay .lanes))
+            ∙ ap (row .counts) (station-split (lay .lanes) j))
+          where
+            fits : (i : ℕ) → row .counts i < 2 ^ lay .width
+            fits i =
+                ⊎-elim (λ (one : lay .lanes ≡ 1). absurd (several one))
+                (λ (c : (0 < getD w (z + n) 0) × (getD w (z + n) 0 < 2 ^ lay .width)).
+                let count = held z q .count in
+                let same = held-count (kept (planOf bs n t terms) s everywhere z e (getD w z 0)) (omega (arith, count, c .0)) in
+                omega (arith, row .less i, count, same, c .1))
+                (thin z q some)
+
+        go : (b : Bool) → eqb (lay .lanes) 1 ≡ b → j < cond b block (block * lay .lanes)
+            → cond b (getD w (rowAt n block z + j) 0) (lane (lay .width) (getD w (rowAt n block z + j / lay .lanes) 0) (j % lay .lanes))
+            ≡ row .counts j
+        go true o i = whole-row (eqb-true (lay .lanes) 1 o) i
+        go false o i = lane-row (eqb-false (lay .lanes) 1 o) i
+
     -- The entries are hops and counts, and a row says how many walks have no station of a column inside.
-    pub entries-counted : CountedBy bs n t terms s e col block w
+    pub entries-counted : CountedBy bs n t terms s e lay col block w
     unfolding mayLeave
     entries-counted =
         record {
@@ -185,34 +246,53 @@ module _ (bs : List ℕ) (n t : ℕ) (terms : Terms) (ok : planFault bs n t ≡ 
               ≡ count (walksBy (planOf bs n t terms) s z e) =
               touched-avoiding bs n t terms ok s z e (λ v. eqb (col v) c) in
               let here = entries-hops z q in
-              let fits : m < 2 ^ 64 = omega arith in
-              let row : getD w (rowAt n block z + c) 0 ≡ m =
-              rows z c q i (omega arith) (other-free s col c z d)
-              ∙ ap (λ x. kept (planOf bs n t terms) s (mayLeave s col c) z e x % 2 ^ 64) here
-              ∙ ap (λ x. x % 2 ^ 64) (station-may (mayLeave s col c) z e h (other-free s col c z d))
-              ∙ mod-eq-of-lt fits in
+              let there : getD w z 0 < 65535 = omega arith in
+              let all : kept (planOf bs n t terms) s everywhere z e (getD w z 0) ≡ count (walksBy (planOf bs n t terms) s z e) =
+              ap (kept (planOf bs n t terms) s everywhere z e) here ∙ sym (station-count z e) in
+              let row : columnAt lay w (rowAt n block z) c ≡ m =
+              column-held z c q there (omega arith) i
+              ∙ rows z q there .avoiding c (other-free s col c z d)
+              ∙ ap (kept (planOf bs n t terms) s (mayLeave s col c) z e) here
+              ∙ station-may (mayLeave s col c) z e h (other-free s col c z d) in
               omega arith;
+          thin = λ z q few some.
+              let here = entries-hops z q in
+              ⊎-elim inl
+              (λ (c : (0 < getD w (z + n) 0) × (getD w (z + n) 0 < 2 ^ lay .width)).
+              let is = held z q .count ∙ ap (λ h. stored (kept (planOf bs n t terms) s everywhere z e h)) here
+              ∙ ap stored (sym (station-count z e)) ∙ stored-small _ few in
+              inr (omega (arith, is, c .1)))
+              (thin z q (omega arith));
         }
 
   -- ---- the state of the pass in which nothing goes stale
 
-  module _ (col : ℕ → ℕ) (block q : ℕ) (old w : List ℕ) (e j : ℕ)
-      (state : AreaState n block q e old (walksAt (planOf bs n t terms) s (mayLeave s col) e j) w) where
-    entry : (z : ℕ) → z < n → Best block 65535 (kept (planOf bs n t terms) s everywhere z e)
+  module _ (lay : Lanes) (full : Filled lay) (col : ℕ → ℕ) (block q : ℕ) (old w : List ℕ) (e j : ℕ)
+      (state : AreaState lay n block q e old (walksAt (planOf bs n t terms) s (mayLeave s col) e j) w) where
+    entry : (z : ℕ) → z < n → Best lay block 65535 (kept (planOf bs n t terms) s everywhere z e)
         (λ c. kept (planOf bs n t terms) s (mayLeave s col c) z e) (getD w z 0) (getD w (z + n) 0)
         (λ c. getD w (rowAt n block z + c) 0)
     unfolding walksAt
     entry z h = state .settled z h
 
+    row : (z : ℕ) → z < n → getD w z 0 < 65535 → RowHeld lay col block w e z
+    row z h some =
+        record {
+          counts = λ c. kept (planOf bs n t terms) s (mayLeave s col c) z e (getD w z 0);
+          held = λ i q. entry z h .row i q some;
+          less = λ c. kept-less (planOf bs n t terms) s (mayLeave s col c) z e (getD w z 0);
+          avoiding = λ c free. refl;
+        }
+
     -- a station's settled entry overflows just where its count is over 2^64 - 1
     pub station-overflows : (z : ℕ) → z < n
         → areaOverflows n w z ≡ ltb 18446744073709551615 (count (walksBy (planOf bs n t terms) s z e))
-    station-overflows = entries-overflow col block w e (λ z h. entry z h .entry) (λ z c h i few free. entry z h .row c i few)
+    station-overflows = entries-overflow lay full col block w e (λ z h. entry z h .entry) row (state .thin)
 
     -- its hops are those of the shortest walks
     pub at-hops : (z : ℕ) → z < n → getD w z 0 ≡ hops (walksBy (planOf bs n t terms) s z e)
-    at-hops = entries-hops col block w e (λ z h. entry z h .entry) (λ z c h i few free. entry z h .row c i few)
+    at-hops = entries-hops lay full col block w e (λ z h. entry z h .entry) row (state .thin)
 
     -- The settled entries are hops and counts, and a row says how many walks have no station of a column inside.
-    pub counted : CountedBy bs n t terms s e col block w
-    counted = entries-counted col block w e (λ z h. entry z h .entry) (λ z c h i few free. entry z h .row c i few)
+    pub counted : CountedBy bs n t terms s e lay col block w
+    counted = entries-counted lay full col block w e (λ z h. entry z h .entry) row (state .thin)

@@ -6,6 +6,8 @@ pub mod PlaceLaws
 pub mod BestLaws
 pub mod ColumnLaws
 pub mod TookLaws
+pub mod MaskLaws
+pub mod WidthLaws
 pub mod StateLaws
 pub mod SettleLaws
 -- the sequences of a plan, the beginning and the end of the pass, and its loop

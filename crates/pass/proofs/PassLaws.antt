@@ -1,20 +1,22 @@
 -- The loop of the pass: what holds whenever its test is reached, and what it makes of the work area. Assumes nothing.
-use Prim.Native.Nat.{ℕ, suc, _+_, _-_, _<_, _≤_}
+use Prim.Native.Nat.{ℕ, suc, _+_, _-_, _*_, _^_, _<_, _≤_}
+use native.Mathlib.Nat.{pos-of-ne-zero}
 use native.Mathlib.Omega.{arith}
-use native.Mathlib.Decide.{ℕ-discrete}
+use native.Mathlib.Decide.{decLe, ℕ-discrete}
 use mathlib.Core.Path.{_≡_, refl, sym, ap, subst, _∙_}
 use mathlib.Core.Bool.{Bool, true, false, cond}
 use mathlib.Core.List.{List}
 use mathlib.Core.Logic.{by-cases, _≢_}
 use mathlib.Core.Option.{some as present}
-use borrow.Author.Tests.{ltb-true, ltb-false}
-use lib.Dec.{ltb}
+use borrow.Author.Tests.{ltb-true, ltb-false, eqb-true, eqb-false}
+use lib.Dec.{ltb, eqb}
+use lib.Pow.{pow-lt}
 use lib.ListN.{length, getD, drop, getElem?, length-drop}
 use lib.Seq.{ext-getD, getD-drop}
 use Rattle.temporal.specs.Lists.{below, any}
 use Rattle.temporal.specs.Plan.{Contact, Terms, start}
 use Rattle.temporal.specs.Bytes.{contactAt, records, planOf}
-use Rattle.temporal.specs.Cause.{planFault}
+use Rattle.temporal.specs.Cause.{planFault, appearanceTooMany}
 use Rattle.temporal.specs.Shortest.{shortestWalks, count}
 use Rattle.temporal.specs.Foremost.{arrival, walksBy}
 use Rattle.temporal.proofs.ListLaws.{any-false, mem-below}
@@ -24,20 +26,24 @@ use Rattle.temporal.proofs.ForemostLaws.{arrival-after-start}
 use Rattle.temporal.proofs.PlanLaws.{kept-plan, contact-there, contact-inv, contacts-length, slots-within, slots-sorted}
 use Rattle.counting.proofs.Weights.{total, everywhere}
 use Rattle.counting.proofs.Recurrence.{atAppearance, arrivals}
-use Rattle.plan.specs.Record.{inSlot}
+use Rattle.plan.specs.Record.{inSlot, SlotRecords}
 use Rattle.plan.proofs.SlotLaws.{in-slot-inv, in-slot-none}
 use Rattle.entries.proofs.HopLaws.{few-slots}
 use Rattle.pass.specs.declared.Ended.{Ended}
 use Rattle.pass.specs.declared.Ended.the-variants as ended
 use Rattle.pass.specs.Entry.{areaOverflows, reachedEntry}
+use Rattle.lanes.specs.Lane.{ones}
 use Rattle.pass.specs.Row.{partAt}
-use Rattle.pass.specs.Sweep.{foldedArea, sweepOf, settledFrom, begunArea, PartFits, Area, FoldableArea}
-use Rattle.pass.specs.PassedColumns.{waiting, areaSize, ColumnsReady, SettledAt, EndedAs, ColumnsPassed, lastEnded}
+use Rattle.pass.specs.Column.{Lanes}
+use Rattle.pass.specs.Sweep.{foldedArea, sweepOf, settledBy, hearerAt, begunArea, PartFits, Area, FoldableArea, HearersFit}
+use Rattle.pass.specs.Sweep.{SlotSettled}
+use Rattle.pass.specs.PassedColumns.{waiting, areaSize, ColumnsReady, SettledAt, EndedAs, ColumnsPassed, lastEnded, stoppedEnd}
 use Rattle.pass.proofs.PlaceLaws.{area-kept, part-fits, part-again}
 use Rattle.pass.proofs.ColumnLaws.{mayLeave, source-free}
+use Rattle.pass.proofs.MaskLaws.{Filled}
 use Rattle.pass.proofs.StateLaws.{AreaState}
-use Rattle.pass.proofs.SettleLaws.{Settles, SomeLarge, settled-all, settled-over, settled-within}
-use Rattle.pass.proofs.PlanWalks.{walksAt, walksTaken, folded-state, settles-slot, state-taken, arrived}
+use Rattle.pass.proofs.SettleLaws.{Settles, between, Swept, settled-stations}
+use Rattle.pass.proofs.PlanWalks.{walksAt, walksTaken, folded-state, none-heard, settles-slot, state-taken, arrived}
 use Rattle.pass.proofs.BeginLaws.{begun-length, begun-state}
 use Rattle.pass.proofs.EndLaws.{appearance-small, appearance-large, start-small}
 use Rattle.pass.proofs.EndLaws.{too-many-appearance, few-appearances, station-overflows, counted}
@@ -58,17 +64,52 @@ record Position (bs : List ℕ) (u j : ℕ) : Type 0 where
   done : (i : ℕ) → i < j → contactAt bs i .slot ≤ u
   ahead : (i : ℕ) → j ≤ i → i < records bs → u ≤ contactAt bs i .slot
 
+-- the records below i are in slots up to c, and those from i on in later ones
+record Trail (bs : List ℕ) (c i : ℕ) : Type 0 where
+  within : i ≤ records bs
+  done : (m : ℕ) → m < i → contactAt bs m .slot ≤ c
+  ahead : (m : ℕ) → i ≤ m → m < records bs → c < contactAt bs m .slot
+
+module _ (bs : List ℕ) (n t : ℕ) (terms : Terms) (ok : planFault bs n t ≡ 0) where
+  -- where the record at j is not in slot u, and none from there on is in an earlier one, they are all in later ones
+  later : (u j : ℕ) → ((i : ℕ) → j ≤ i → i < records bs → u ≤ contactAt bs i .slot) → inSlot bs j u ≡ false
+      → (i : ℕ) → j ≤ i → i < records bs → u < contactAt bs i .slot
+  later u j ahead e i from h =
+      let up : j + (i - j) ≡ i = omega arith in
+      let rise = rw up at (slots-sorted bs n t terms ok j (i - j) (omega arith)) in
+      let here = ahead j (omega arith) (omega arith) in
+      let other = in-slot-none bs j u e (omega arith) in
+      omega arith
+
+  -- past the records of the next slot
+  trail-next : (c i e : ℕ) → Trail bs c i → SlotRecords bs (suc c) i e → Trail bs (suc c) e
+  trail-next c i e x found =
+      let f = found .from in
+      record {
+        within = by-cases (decLe e i) (λ h. let k = x .within in omega arith)
+            (λ more. let (there, slot) = in-slot-inv bs (e - 1) (suc c) (found .here (e - 1) (omega arith) (omega arith)) in omega arith);
+        done = λ m h. by-cases (decLe i m)
+            (λ from. let (there, slot) = in-slot-inv bs m (suc c) (found .here m from h) in omega arith)
+            (λ before. let k = x .done m (omega arith) in omega arith);
+        ahead = later (suc c) e (λ m from h. x .ahead m (omega arith) h) (found .past);
+      }
+
 -- ---- the loop
 
--- The pass is in slot u, at position j, and the part of slot u begins at base: the work area holds the walks by the slot q before
--- it, no appearance by that slot has too many, and the station until is not reached by it. Past the last slot there are no records.
-pub record Passing (bs : List ℕ) (n t : ℕ) (terms : Terms) (s until : ℕ) (col : ℕ → ℕ) (block q : ℕ) (old : List ℕ) (base u j : ℕ)
-    (w : List ℕ) : Type 0 where
+-- The pass of a call that was ready is in slot u, at position j, and the part of slot u begins at base: the work area holds the walks by
+-- the slot q before it, no appearance by that slot has too many, and the station until is not reached by it. The records from i on are
+-- past that slot. Past the last slot there are no records.
+pub record Passing (bs : List ℕ) (n t : ℕ) (terms : Terms) (s until : ℕ) (lay : Lanes) (col : ℕ → ℕ) (block q : ℕ) (old : List ℕ)
+    (base u j i : ℕ) (w : List ℕ) : Type 0 where
+  pub full : Filled lay
+  pub ready : ColumnsReady bs n t terms s until block old
+  pub parts : q ≡ waiting t terms
   from-one : 0 < u
   pub last : u ≤ t + q
   pub part : base ≡ partAt n block q u
   position : Position bs u j
-  state : AreaState n block q (u - q) old (walksAt (planOf bs n t terms) s (mayLeave s col) (u - q) j) w
+  trail : Trail bs (u - q) i
+  pub state : AreaState lay n block q (u - q) old (walksAt (planOf bs n t terms) s (mayLeave s col) (u - q) j) w
   small : (v x : ℕ) → v < n → x ≤ u - q → count (shortestWalks (planOf bs n t terms) s v x) ≤ 18446744073709551615
   waits : u - q < arrival (planOf bs n t terms) s until
 
@@ -77,7 +118,8 @@ pub ready-waits : (bs : List ℕ) (n t : ℕ) (terms : Terms) (s until block : �
     → Waits (planOf bs n t terms) (waiting t terms)
 unfolding planOf
 ready-waits bs n t terms s until block w r =
-    waits-turnaround (planOf bs n t terms) (kept-plan bs n t terms (r .units .keeps)) (accepted bs n t (r .accepted) .some-slot) (r .units .turns)
+    waits-turnaround (planOf bs n t terms) (kept-plan bs n t terms (r .units .keeps)) (accepted bs n t (r .accepted) .some-slot)
+    (r .units .turns)
 
 -- an area that is ready
 pub ready-area : (bs : List ℕ) (n t : ℕ) (terms : Terms) (s until block : ℕ) (w : List ℕ) → ColumnsReady bs n t terms s until block w
@@ -89,287 +131,332 @@ ready-area bs n t terms s until block w r =
       fits = r .fits;
     }
 
-module _ (bs : List ℕ) (n t : ℕ) (terms : Terms) (s until : ℕ) (col : ℕ → ℕ) (block : ℕ) (old : List ℕ)
-    (ready : ColumnsReady bs n t terms s until block old) (q : ℕ) (is : q ≡ waiting t terms) where
+module _ {bs : List ℕ} {n t : ℕ} {terms : Terms} {s until : ℕ} {lay : Lanes} {col : ℕ → ℕ} {block q : ℕ} {old : List ℕ}
+    {base u j i : ℕ} {w : List ℕ}
+    (x : Passing bs n t terms s until lay col block q old base u j i w) where
   ok : planFault bs n t ≡ 0
-  ok = ready .accepted
+  ok = x .ready .accepted
 
   area : Area n block q old
-  area = rw is (ready-area bs n t terms s until block old ready)
+  area = rw (x .parts) (ready-area bs n t terms s until block old (x .ready))
 
   turns : Waits (planOf bs n t terms) q
-  turns = rw is (ready-waits bs n t terms s until block old ready)
+  turns = rw (x .parts) (ready-waits bs n t terms s until block old (x .ready))
 
   some-part : 0 < q
   some-part = area .parts
 
   -- the work area fits
-  pub passing-area : (base u j : ℕ) (w : List ℕ) → Passing bs n t terms s until col block q old base u j w → Area n block q w
-  passing-area base u j w x = area-kept area (x .state .same)
+  pub passing-area : Area n block q w
+  passing-area = area-kept area (x .state .same)
 
-  -- its length is kept
-  pub passing-length : (base u j : ℕ) (w : List ℕ) → Passing bs n t terms s until col block q old base u j w → length w ≡ length old
-  passing-length base u j w x = x .state .same
+  -- the trailing position lies within the plan
+  pub passing-trail : i * 6 ≤ length bs
+  passing-trail = let h = x .trail .within in let whole = accepted bs n t ok .whole in omega arith
 
-  module _ (base u j : ℕ) (w : List ℕ) (x : Passing bs n t terms s until col block q old base u j w) where
-    -- a record of the slot can be folded in
-    pub passing-foldable : inSlot bs j u ≡ true → FoldableArea bs n block base j w
-    passing-foldable e =
-        let (there, slot) = in-slot-inv bs j u e in
-        let whole = accepted bs n t ok .whole in
-        let c = accepted bs n t ok .contact j there in
+  -- a record of the slot can be folded in
+  pub passing-foldable : inSlot bs j u ≡ true → FoldableArea bs n block base j w
+  passing-foldable e =
+      let (there, slot) = in-slot-inv bs j u e in
+      let whole = accepted bs n t ok .whole in
+      let c = accepted bs n t ok .contact j there in
+      record {
+        inside = omega arith;
+        sender-station = c .sender-station;
+        hearer-station = c .hearer-station;
+        part = rw (x .part) (part-fits passing-area u);
+      }
+
+  -- and then the pass is one position further
+  pub passing-fold : inSlot bs j u ≡ true
+      → Passing bs n t terms s until lay col block q old base u (j + 1) i (foldedArea n block base w (contactAt bs j))
+  unfolding planOf
+  passing-fold e =
+      let (there, slot) = in-slot-inv bs j u e in
+      let c = accepted bs n t ok .contact j there in
+      let most = accepted bs n t ok .slots in
+      let last = c .to-last in
+      record {
+        full = x .full;
+        ready = x .ready;
+        parts = x .parts;
+        from-one = x .from-one;
+        last = x .last;
+        part = x .part;
+        position = record {
+          within = omega arith;
+          done = λ m h. by-cases (ℕ-discrete m j) (λ same. rw same (omega arith))
+              (λ d. x .position .done m (omega arith));
+          ahead = λ m from h. x .position .ahead m (omega arith) h;
+        };
+        trail = x .trail;
+        state = rw (x .part) (folded-state (planOf bs n t terms) q turns (slots-within bs n t terms ok) most s (mayLeave s col) lay n
+            block old area u j (contactAt bs j) w (contact-there bs n t terms j there) slot (x .from-one) (omega arith)
+            (c .sender-station) (c .hearer-station) (x .state));
+        small = x .small;
+        waits = x .waits;
+      }
+
+  module _ (e : inSlot bs j u ≡ false) where
+    ahead : (m : ℕ) → j ≤ m → m < records bs → u < contactAt bs m .slot
+    ahead = later bs n t terms ok u j (x .position .ahead) e
+
+    -- the records from j on are in slots past u
+    past : (y : ℕ) → y ≤ u → (m : ℕ) (c : Contact) → j ≤ m → getElem? (planOf bs n t terms .contacts) m ≡ present c → c .slot ≢ y
+    past y low m c from there same =
+        let (inside, here) = contact-inv bs n t terms m c there in
+        let after = ahead m from inside in
+        let slot : contactAt bs m .slot ≡ y = ap (λ d. d .slot) here ∙ same in
+        omega arith
+
+    -- those below j are not
+    done : (y : ℕ) → u < y → (m : ℕ) (c : Contact) → m < j → getElem? (planOf bs n t terms .contacts) m ≡ present c → c .slot ≢ y
+    done y high m c below there same =
+        let (inside, here) = contact-inv bs n t terms m c there in
+        let sooner = x .position .done m below in
+        let slot : contactAt bs m .slot ≡ y = ap (λ d. d .slot) here ∙ same in
+        omega arith
+
+    within : j ≤ length (planOf bs n t terms .contacts)
+    within = let h = x .position .within in let same = contacts-length bs n t terms in omega arith
+
+    position-next : Position bs (u + 1) j
+    position-next =
         record {
-          inside = omega arith;
-          sender-station = c .sender-station;
-          hearer-station = c .hearer-station;
-          part = rw (x .part) (part-fits (passing-area base u j w x) u);
+          within = x .position .within;
+          done = λ m h. let k = x .position .done m h in omega arith;
+          ahead = λ m from h. let k = ahead m from h in omega arith;
         }
 
-    -- and then the pass is one position further
-    pub passing-fold : inSlot bs j u ≡ true
-        → Passing bs n t terms s until col block q old base u (j + 1) (foldedArea n block base w (contactAt bs j))
-    unfolding planOf
-    passing-fold e =
-        let (there, slot) = in-slot-inv bs j u e in
-        let c = accepted bs n t ok .contact j there in
-        let most = accepted bs n t ok .slots in
-        let last = c .to-last in
+    -- a slot whose fellow of q slots before is the start: nothing is settled
+    pub passing-on : (base′ : ℕ) → base′ ≡ partAt n block q (u + 1) → u + 1 ≤ q → u < t + q
+        → Passing bs n t terms s until lay col block q old base′ (u + 1) j i w
+    passing-on base′ part early more =
+        let same : u + 1 - q ≡ u - q = omega arith in
         record {
-          from-one = x .from-one;
-          last = x .last;
-          part = x .part;
-          position = record {
-            within = omega arith;
-            done = λ i h. by-cases (ℕ-discrete i j) (λ same. rw same (omega arith))
-                (λ d. x .position .done i (omega arith));
-            ahead = λ i from h. x .position .ahead i (omega arith) h;
-          };
-          state = rw (x .part) (folded-state (planOf bs n t terms) q turns (slots-within bs n t terms ok) most s (mayLeave s col) n
-              block old area u j (contactAt bs j) w (contact-there bs n t terms j there) slot (x .from-one) (omega arith)
-              (c .sender-station) (c .hearer-station) (x .state));
-          small = x .small;
-          waits = x .waits;
+          full = x .full;
+          ready = x .ready;
+          parts = x .parts;
+          from-one = omega arith;
+          last = omega arith;
+          part = part;
+          position = position-next;
+          trail = rw same (x .trail);
+          state = rw same (x .state);
+          small = rw same (x .small);
+          waits = rw same (x .waits);
         }
 
-    module _ (e : inSlot bs j u ≡ false) where
-      ahead : (i : ℕ) → j ≤ i → i < records bs → u < contactAt bs i .slot
-      ahead i from h =
-          let up : j + (i - j) ≡ i = omega arith in
-          let rise = rw up at (slots-sorted bs n t terms ok j (i - j) (omega arith)) in
-          let here = x .position .ahead j (omega arith) (omega arith) in
-          let other = in-slot-none bs j u e (omega arith) in
-          omega arith
+    -- the slot u + 1 - q is settled, with its records all folded in
+    module _ (base′ : ℕ) (part : base′ ≡ partAt n block q (u + 1)) (late : q < u + 1) (more : u < t + q) where
+      slot-before : u + 1 - q ≡ suc (u - q)
+      slot-before = omega arith
 
-      -- the records from j on are in slots past u
-      past : (y : ℕ) → y ≤ u → (i : ℕ) (c : Contact) → j ≤ i → getElem? (planOf bs n t terms .contacts) i ≡ present c → c .slot ≢ y
-      past y low i c from there same =
-          let (inside, here) = contact-inv bs n t terms i c there in
-          let later = ahead i from inside in
-          let slot : contactAt bs i .slot ≡ y = ap (λ d. d .slot) here ∙ same in
-          omega arith
+      slot-next : suc (u - q) ≡ u - q + 1
+      slot-next = omega arith
 
-      -- those below j are not
-      done : (y : ℕ) → u < y → (i : ℕ) (c : Contact) → i < j → getElem? (planOf bs n t terms .contacts) i ≡ present c → c .slot ≢ y
-      done y high i c below there same =
-          let (inside, here) = contact-inv bs n t terms i c there in
-          let sooner = x .position .done i below in
-          let slot : contactAt bs i .slot ≡ y = ap (λ d. d .slot) here ∙ same in
-          omega arith
+      -- its part is the one of slot u + 1
+      same-part : base′ ≡ partAt n block q (suc (u - q))
+      same-part =
+          let again : suc (u - q) + q ≡ u + 1 = omega arith in
+          part ∙ ap (partAt n block q) (sym again) ∙ part-again n block q (suc (u - q))
 
-      within : j ≤ length (planOf bs n t terms .contacts)
-      within = let h = x .position .within in let same = contacts-length bs n t terms in omega arith
+      low : u - q < suc (u - q)
+      low = omega arith
 
-      position-next : Position bs (u + 1) j
-      position-next =
-          record {
-            within = x .position .within;
-            done = λ i h. let k = x .position .done i h in omega arith;
-            ahead = λ i from h. let k = ahead i from h in omega arith;
-          }
+      high : suc (u - q) ≤ u - q + q
+      high = let h = some-part in omega arith
 
-      -- a slot whose fellow of q slots before is the start: nothing is settled
-      pub passing-on : (base′ : ℕ) → base′ ≡ partAt n block q (u + 1) → u + 1 ≤ q → u < t + q
-          → Passing bs n t terms s until col block q old base′ (u + 1) j w
-      passing-on base′ part early more =
-          let same : u + 1 - q ≡ u - q = omega arith in
-          record {
-            from-one = omega arith;
-            last = omega arith;
-            part = part;
-            position = position-next;
-            state = rw same (x .state);
-            small = rw same (x .small);
-            waits = rw same (x .waits);
-          }
+      pub settle-part : PartFits n block base′ w
+      settle-part = rw part (part-fits passing-area (u + 1))
 
-      -- the slot u + 1 - q is settled, with its records all folded in
-      module _ (base′ : ℕ) (part : base′ ≡ partAt n block q (u + 1)) (late : q < u + 1) (more : u < t + q) where
-        c : ℕ
-        c = u - q
+      all-settles : Settles (mayLeave s col) (suc (u - q)) (walksAt (planOf bs n t terms) s (mayLeave s col) (u - q) j)
+          (walksTaken (planOf bs n t terms) s (mayLeave s col) (u - q) j)
+      all-settles =
+          settles-slot (planOf bs n t terms) s (mayLeave s col) (u - q) j
+          (past (suc (u - q)) (let h = some-part in omega arith)) within
 
-        slot-before : u + 1 - q ≡ suc (u - q)
-        slot-before = omega arith
+      here-arrived : (v k : ℕ) → total (planOf bs n t terms) everywhere (start s) (atAppearance v (suc (u - q))) k
+          ≡ arrivals (planOf bs n t terms) s everywhere j v (suc (u - q)) k
+      here-arrived =
+          arrived (planOf bs n t terms) s (mayLeave s col) (u - q) j
+          (past (suc (u - q)) (let h = some-part in omega arith)) within everywhere
 
-        slot-next : suc (u - q) ≡ u - q + 1
-        slot-next = omega arith
+      module _ (end : ℕ) (found : SlotRecords bs (u + 1 - q) i end) where
+        -- the records up to the end are in slots up to u + 1 - q
+        trail-end : Trail bs (suc (u - q)) end
+        trail-end = trail-next bs n t terms ok (u - q) i end (x .trail) (rw slot-before at found)
 
-        -- its part is the one of slot u + 1
-        same-part : base′ ≡ partAt n block q (suc (u - q))
-        same-part =
-            let again : suc (u - q) + q ≡ u + 1 = omega arith in
-            part ∙ ap (partAt n block q) (sym again) ∙ part-again n block q (suc (u - q))
+        -- the hearers of its records can be settled
+        pub settle-hearers : HearersFit bs n i end
+        settle-hearers m from to =
+            let (there, slot) = in-slot-inv bs m (u + 1 - q) (found .here m from to) in
+            let whole = accepted bs n t ok .whole in
+            record { inside = omega arith; hearer-station = accepted bs n t ok .contact m there .hearer-station }
 
-        low : u - q < suc (u - q)
-        low = omega arith
-
-        high : suc (u - q) ≤ u - q + q
-        high = let h = some-part in omega arith
-
-        pub settle-part : PartFits n block base′ w
-        settle-part = rw part (part-fits (passing-area base u j w x) (u + 1))
-
-        all-settles : Settles (mayLeave s col) (suc (u - q)) (walksAt (planOf bs n t terms) s (mayLeave s col) (u - q) j)
-            (walksTaken (planOf bs n t terms) s (mayLeave s col) (u - q) j)
-        all-settles =
-            settles-slot (planOf bs n t terms) s (mayLeave s col) (u - q) j
-            (past (suc (u - q)) (let h = some-part in omega arith)) within
-
-        settled : AreaState n block q (u - q + 1) old (walksAt (planOf bs n t terms) s (mayLeave s col) (u - q + 1) j)
-            (settledFrom n block base′ s col (sweepOf false w) 0 n .work)
-        settled =
-            rw same-part
-            (state-taken (planOf bs n t terms) s (mayLeave s col) (u - q) j n block q old _ some-part
-            (done (u - q + 1 + q) (omega arith))
-            (settled-all n block q (u - q) old area s col (suc (u - q)) low high
-            (walksAt (planOf bs n t terms) s (mayLeave s col) (u - q) j)
-            (walksTaken (planOf bs n t terms) s (mayLeave s col) (u - q) j) all-settles w (x .state)))
-
-        here-arrived : (v k : ℕ) → total (planOf bs n t terms) everywhere (start s) (atAppearance v (suc (u - q))) k
-            ≡ arrivals (planOf bs n t terms) s everywhere j v (suc (u - q)) k
-        here-arrived =
-            arrived (planOf bs n t terms) s (mayLeave s col) (u - q) j
-            (past (suc (u - q)) (let h = some-part in omega arith)) within everywhere
-
-        slot-small : settledFrom n block base′ s col (sweepOf false w) 0 n .over ≡ false → (v : ℕ) → v < n
-            → count (shortestWalks (planOf bs n t terms) s v (suc (u - q))) ≤ 18446744073709551615
+        -- no walk waits for a station that no record of the slot has as hearer
+        unheard : (v : ℕ) → ((m : ℕ) → i ≤ m → m < end → v ≢ hearerAt bs m)
+            → (k : ℕ) → walksAt (planOf bs n t terms) s (mayLeave s col) (u - q) j .waits (suc (u - q)) v k ≡ 0
         unfolding walksAt
-        slot-small none v h =
-            appearance-small (planOf bs n t terms) (slots-within bs n t terms ok) (few-slots bs n t terms ok) s v (suc (u - q))
-            (here-arrived v)
-            (settled-within n block q (u - q) old area s col (suc (u - q)) low high
-            (walksAt (planOf bs n t terms) s (mayLeave s col) (u - q) j)
-            (walksTaken (planOf bs n t terms) s (mayLeave s col) (u - q) j) all-settles w (x .state)
-            (rw same-part at none) v h)
+        unheard v other k =
+            none-heard (planOf bs n t terms) s everywhere v (suc (u - q)) k j (λ m d below there in-slot same.
+            let (inside, here) = contact-inv bs n t terms m d there in
+            let slot : contactAt bs m .slot ≡ suc (u - q) = ap (λ y. y .slot) here ∙ in-slot in
+            by-cases (decLe i m)
+            (λ from. by-cases (decLe end m)
+            (λ after. let k = trail-end .ahead m after inside in omega arith)
+            (λ to. other m from (omega arith) (same ∙ sym (ap (λ y. y .hearer) here))))
+            (λ before. let k = x .trail .done m (omega arith) in omega arith))
 
-        module _ (w′ : List ℕ) (r : Bool) (out : sweepOf r w′ ≡ settledFrom n block base′ s col (sweepOf false w) 0 n) where
-          -- the work area holds the walks by the next slot
-          state-next : AreaState n block q (u + 1 - q) old (walksAt (planOf bs n t terms) s (mayLeave s col) (u + 1 - q) j) w′
-          state-next = rw (slot-before, slot-next, ap (λ z. z .work) out) settled
+        module _ (w′ : List ℕ) (r : Bool) (done-with : SlotSettled bs lay n block base′ s col i end w r w′) where
+          out : sweepOf r w′ ≡ settledBy (done-with .stations) lay n block base′ s col w (done-with .from) (done-with .many)
+          out = done-with .out
+
+          swept : Swept lay n block q (u - q) old (suc (u - q)) (walksAt (planOf bs n t terms) s (mayLeave s col) (u - q) j)
+              (walksTaken (planOf bs n t terms) s (mayLeave s col) (u - q) j)
+              (settledBy (done-with .stations) lay n block base′ s col w (done-with .from) (done-with .many))
+          swept =
+              rw same-part (settled-stations (done-with .stations) lay (x .full) n block q (u - q) old area s col (suc (u - q)) low high
+              (walksAt (planOf bs n t terms) s (mayLeave s col) (u - q) j)
+              (walksTaken (planOf bs n t terms) s (mayLeave s col) (u - q) j) all-settles (done-with .many) (done-with .from) w
+              (done-with .chosen .inside) (λ v h other. unheard v (done-with .chosen .covers v h other)) (x .state))
+
+          -- the work area holds walks, also where settling stopped
+          held : AreaState lay n block q (u - q) old (between (swept .test) (walksAt (planOf bs n t terms) s (mayLeave s col) (u - q) j)
+              (walksTaken (planOf bs n t terms) s (mayLeave s col) (u - q) j)) w′
+          held =
+              subst (AreaState lay n block q (u - q) old (between (swept .test) (walksAt (planOf bs n t terms) s (mayLeave s col) (u - q) j)
+              (walksTaken (planOf bs n t terms) s (mayLeave s col) (u - q) j))) (sym (ap (λ z. z .work) out)) (swept .state)
 
           pub next-area : Area n block q w′
-          next-area = area-kept area (state-next .same)
+          next-area = area-kept area (held .same)
 
           pub next-length : length w′ ≡ length old
-          next-length = state-next .same
+          next-length = held .same
 
           next-beyond : drop (areaSize n q block) w′ ≡ drop (areaSize n q block) old
-          next-beyond = drop-same (areaSize n q block) w′ old (state-next .same) (state-next .beyond)
+          next-beyond = drop-same (areaSize n q block) w′ old (held .same) (held .beyond)
 
-          -- a large sequence is a cause of refusal, and nothing past the area is touched
-          pub passed-over : r ≡ true → ColumnsPassed bs n t terms s until col block (areaSize n (waiting t terms) block) old w′ ended.AppearanceTooMany
-          unfolding walksAt EndedAs
-          passed-over over =
-              record {
-                ends = too-many-appearance bs n t terms ok s (large .station) (suc (u - q)) (large .inside) (omega arith)
-                    (appearance-large (planOf bs n t terms) (slots-within bs n t terms ok) (few-slots bs n t terms ok) s
-                    (large .station) (suc (u - q)) (here-arrived (large .station)) (large .large));
-                beyond = rw (← is) next-beyond;
-                same-length = next-length;
-              }
-            where
-              large : SomeLarge n (suc (u - q)) (walksAt (planOf bs n t terms) s (mayLeave s col) (u - q) j)
-              large =
-                  settled-over n block q (u - q) old area s col (suc (u - q)) low high
-                  (walksAt (planOf bs n t terms) s (mayLeave s col) (u - q) j)
-                  (walksTaken (planOf bs n t terms) s (mayLeave s col) (u - q) j) all-settles w (x .state)
-                  (rw same-part at (sym (ap (λ z. z .over) out) ∙ over))
+          module _ (over : r ≡ true) where
+            stopped-with : (d : Ended) → EndedAs bs n t terms s until lay col block w′ d
+                → ColumnsPassed bs n t terms s until lay col block (areaSize n (waiting t terms) block) old w′ d
+            stopped-with d ends = record { ends = ends; beyond = rw (← x .parts) next-beyond; same-length = next-length }
+
+            -- with one lane to an entry a large sequence is a cause of refusal
+            over-whole : lay .lanes ≡ 1 → appearanceTooMany (planOf bs n t terms) s ≡ true
+            unfolding walksAt
+            over-whole one =
+                let large = swept .over (sym (ap (λ z. z .over) out) ∙ over) one in
+                too-many-appearance bs n t terms ok s (large .station) (suc (u - q)) (large .inside) (omega arith)
+                (appearance-large (planOf bs n t terms) (slots-within bs n t terms ok) (few-slots bs n t terms ok) s
+                (large .station) (suc (u - q)) (here-arrived (large .station)) (large .large))
+
+            -- the pass stops, and nothing past the area is touched
+            pub passed-over : (split : ℕ) → lay .lanes ≡ 2 ^ split → (d : Ended) → d ≡ stoppedEnd split
+                → ColumnsPassed bs n t terms s until lay col block (areaSize n (waiting t terms) block) old w′ d
+            unfolding stoppedEnd EndedAs
+            passed-over split is d e = rw e (go (eqb split 0) refl)
+              where
+                go : (b : Bool) → eqb split 0 ≡ b
+                    → ColumnsPassed bs n t terms s until lay col block (areaSize n (waiting t terms) block) old w′
+                    (cond b ended.AppearanceTooMany ended.TooWide)
+                go true f = stopped-with ended.AppearanceTooMany (over-whole (is ∙ ap (λ k. 2 ^ k) (eqb-true split 0 f)))
+                go false f =
+                    let several : 1 < 2 ^ split = pow-lt {i = 0} {j = split} (pos-of-ne-zero (eqb-false split 0 f)) in
+                    stopped-with ended.TooWide (λ one. omega (arith, is, several, one))
 
           module _ (few : r ≡ false) where
+            none-over : settledBy (done-with .stations) lay n block base′ s col w (done-with .from) (done-with .many) .over ≡ false
+            none-over = sym (ap (λ z. z .over) out) ∙ few
+
+            -- the work area holds the walks by the next slot
+            state-next : AreaState lay n block q (u + 1 - q) old (walksAt (planOf bs n t terms) s (mayLeave s col) (u + 1 - q) j) w′
+            state-next =
+                rw (slot-before, slot-next, ap (λ z. z .work) out)
+                (state-taken lay (planOf bs n t terms) s (mayLeave s col) (u - q) j n block q old _ some-part
+                (done (u - q + 1 + q) (omega arith)) (swept .all none-over))
+
             small-next : (v y : ℕ) → v < n → y ≤ u + 1 - q
                 → count (shortestWalks (planOf bs n t terms) s v y) ≤ 18446744073709551615
+            unfolding walksAt
             small-next v y h below =
                 by-cases (ℕ-discrete y (suc (u - q)))
-                (λ same. rw same (slot-small (sym (ap (λ z. z .over) out) ∙ few) v h))
+                (λ same. rw same (appearance-small (planOf bs n t terms) (slots-within bs n t terms ok) (few-slots bs n t terms ok) s v
+                (suc (u - q)) (here-arrived v) (swept .small none-over v h)))
                 (λ d. x .small v y h (omega arith))
 
             -- the station until has no settled walk, and the pass is one slot further
-            pub passing-settle : reachedEntry n w′ until ≡ false → Passing bs n t terms s until col block q old base′ (u + 1) j w′
+            pub passing-settle : reachedEntry n w′ until ≡ false → Passing bs n t terms s until lay col block q old base′ (u + 1) j end w′
             passing-settle out-of-reach =
                 record {
+                  full = x .full;
+                  ready = x .ready;
+                  parts = x .parts;
                   from-one = omega arith;
                   last = omega arith;
                   part = part;
                   position = position-next;
+                  trail = rw slot-before trail-end;
                   state = state-next;
                   small = small-next;
-                  waits = not-yet bs n t terms ok s until col block q old w′ (u + 1 - q) j (omega arith) (ready .source) state-next
+                  waits = not-yet bs n t terms ok s until lay (x .full) col block q old w′ (u + 1 - q) j (omega arith) (x .ready .source) state-next
                       out-of-reach;
                 }
 
             -- it has one, and the pass ends
             pub passed-reached : reachedEntry n w′ until ≡ true
-                → ColumnsPassed bs n t terms s until col block (areaSize n (waiting t terms) block) old w′ (ended.Settled (u + 1 - q))
+                → ColumnsPassed bs n t terms s until lay col block (areaSize n (waiting t terms) block) old w′ (ended.Settled (u + 1 - q))
             unfolding EndedAs
             passed-reached in-reach =
                 record {
                   ends = record {
                     slot = let first = x .waits in
-                        let here = now-reached bs n t terms ok s until col block q old w′ (u + 1 - q) j state-next in-reach in
+                        let here = now-reached bs n t terms ok s until lay (x .full) col block q old w′ (u + 1 - q) j state-next in-reach in
                         omega arith;
                     appearances = small-next;
                     stations = λ none. absurd (let there = reached-station n w′ until in-reach in omega arith);
-                    entries = counted bs n t terms ok s col block q old w′ (u + 1 - q) j state-next;
+                    entries = counted bs n t terms ok s lay (x .full) col block q old w′ (u + 1 - q) j state-next;
                   };
-                  beyond = rw (← is) next-beyond;
+                  beyond = rw (← x .parts) next-beyond;
                   same-length = next-length;
                 }
 
   -- past the last slot the stations' counts are looked at, where the pass waits for none
-  pub passed-end : (base u j : ℕ) (w : List ℕ) (r : Ended) → Passing bs n t terms s until col block q old base u j w → t + q ≤ u
+  pub passed-end : (r : Ended) → t + q ≤ u
       → r ≡ lastEnded n t until (any (areaOverflows n w) (below n))
-      → ColumnsPassed bs n t terms s until col block (areaSize n (waiting t terms) block) old w r
+      → ColumnsPassed bs n t terms s until lay col block (areaSize n (waiting t terms) block) old w r
   unfolding lastEnded EndedAs
-  passed-end base u j w r x past e =
+  passed-end r last e =
       record {
         ends = rw e (go (ltb until n) refl (any (areaOverflows n w) (below n)) refl);
-        beyond = rw (← is) (drop-same (areaSize n q block) w old (state .same) (state .beyond));
+        beyond = rw (← x .parts) (drop-same (areaSize n q block) w old (state .same) (state .beyond));
         same-length = state .same;
       }
     where
       end : u - q ≡ t
       end = let l = x .last in omega arith
 
-      state : AreaState n block q t old (walksAt (planOf bs n t terms) s (mayLeave s col) t j) w
-      state = subst (λ y. AreaState n block q y old (walksAt (planOf bs n t terms) s (mayLeave s col) y j) w) end (x .state)
+      state : AreaState lay n block q t old (walksAt (planOf bs n t terms) s (mayLeave s col) t j) w
+      state = subst (λ y. AreaState lay n block q y old (walksAt (planOf bs n t terms) s (mayLeave s col) y j) w) end (x .state)
 
       small : (v y : ℕ) → v < n → y ≤ t → count (shortestWalks (planOf bs n t terms) s v y) ≤ 18446744073709551615
       small v y h below = x .small v y h (let k = end in omega arith)
 
       exact : (z : ℕ) → z < n → areaOverflows n w z ≡ ltb 18446744073709551615 (count (walksBy (planOf bs n t terms) s z t))
-      exact = station-overflows bs n t terms ok s col block q old w t j state
+      exact = station-overflows bs n t terms ok s lay (x .full) col block q old w t j state
 
       settled-last : (n ≤ until → (z : ℕ) → z < n → count (walksBy (planOf bs n t terms) s z t) ≤ 18446744073709551615)
-          → SettledAt bs n t terms s until col block w t
+          → SettledAt bs n t terms s until lay col block w t
       settled-last stations =
           record {
             slot = let first = x .waits in let k = end in omega arith;
             appearances = small;
             stations = stations;
-            entries = counted bs n t terms ok s col block q old w t j state;
+            entries = counted bs n t terms ok s lay (x .full) col block q old w t j state;
           }
 
       go : (b : Bool) → ltb until n ≡ b → (c : Bool) → any (areaOverflows n w) (below n) ≡ c
-          → EndedAs bs n t terms s until col block w (cond b (ended.Settled t) (cond c ended.StationTooMany (ended.Settled t)))
+          → EndedAs bs n t terms s until lay col block w (cond b (ended.Settled t) (cond c ended.StationTooMany (ended.Settled t)))
       go true q c f = settled-last (λ none. absurd (let there = ltb-true until n q in omega arith))
       go false q true f =
           record {
@@ -385,13 +472,13 @@ module _ (bs : List ℕ) (n t : ℕ) (terms : Terms) (s until : ℕ) (col : ℕ 
 -- ---- the beginning is not the work area at entry
 
 -- the work area at the beginning is as ready as at entry
-pub ready-begun : (bs : List ℕ) (n t : ℕ) (terms : Terms) (s until block q : ℕ) (old begins : List ℕ) → q ≡ waiting t terms
+ready-begun : (bs : List ℕ) (n t : ℕ) (terms : Terms) (s until block q one : ℕ) (old begins : List ℕ) → q ≡ waiting t terms
     → ColumnsReady bs n t terms s until block old
-    → begins ≡ begunArea n block q old s
+    → begins ≡ begunArea n block q old s one
     → ColumnsReady bs n t terms s until block begins
-ready-begun bs n t terms s until block q old begins is ready e =
+ready-begun bs n t terms s until block q one old begins is ready e =
     let fits = ready .fits in
-    let same = begun-length n block q old s (rw is (ready-area bs n t terms s until block old ready)) (ready .source) in
+    let same = begun-length n block q old s one (rw is (ready-area bs n t terms s until block old ready)) (ready .source) in
     record {
       accepted = ready .accepted;
       units = ready .units;
@@ -400,20 +487,24 @@ ready-begun bs n t terms s until block q old begins is ready e =
       fits = rw e (omega arith);
     }
 
-module _ (bs : List ℕ) (n t : ℕ) (terms : Terms) (s until : ℕ) (col : ℕ → ℕ) (block q : ℕ) (old begins : List ℕ)
-    (is : q ≡ waiting t terms) (ready : ColumnsReady bs n t terms s until block old) (e : begins ≡ begunArea n block q old s) where
-  state-begun : AreaState n block q 0 old (walksAt (planOf bs n t terms) s (mayLeave s col) 0 0) begins
+module _ (bs : List ℕ) (n t : ℕ) (terms : Terms) (s until : ℕ) (lay : Lanes) (full : Filled lay) (col : ℕ → ℕ) (block q : ℕ)
+    (old begins : List ℕ) (is : q ≡ waiting t terms) (ready : ColumnsReady bs n t terms s until block old)
+    (e : begins ≡ begunArea n block q old s (ones (lay .width) (lay .lanes))) where
+  state-begun : AreaState lay n block q 0 old (walksAt (planOf bs n t terms) s (mayLeave s col) 0 0) begins
   state-begun =
       rw e
-      (begun-state (planOf bs n t terms) s (mayLeave s col) n block q old (source-free s col)
+      (begun-state lay full (planOf bs n t terms) s (mayLeave s col) n block q old (source-free s col)
       (rw is (ready-area bs n t terms s until block old ready)) (ready .source))
 
   -- at the beginning the pass is in slot 1, at position 0
-  pub passing-begun : (base : ℕ) → base ≡ partAt n block q 1 → Passing bs n t terms s until col block q begins base 1 0 begins
+  pub passing-begun : (base : ℕ) → base ≡ partAt n block q 1 → Passing bs n t terms s until lay col block q begins base 1 0 0 begins
   passing-begun base part =
       let some = ready-waits bs n t terms s until block old ready .some in
       let first : 1 - q ≡ 0 = omega arith in
       record {
+        full = full;
+        ready = ready-begun bs n t terms s until block q (ones (lay .width) (lay .lanes)) old begins is ready e;
+        parts = is;
         from-one = omega arith;
         last = omega arith;
         part = part;
@@ -422,11 +513,17 @@ module _ (bs : List ℕ) (n t : ℕ) (terms : Terms) (s until : ℕ) (col : ℕ 
           done = λ i h. absurd (omega arith);
           ahead = λ i from h. accepted bs n t (ready .accepted) .contact i h .from-one;
         };
+        trail = rw first (record {
+          within = omega arith;
+          done = λ i h. absurd (omega arith);
+          ahead = λ i from h. accepted bs n t (ready .accepted) .contact i h .from-one;
+        });
         state = rw first (record {
           same = refl;
           beyond = λ i h. refl;
           settled = state-begun .settled;
           waits = state-begun .waits;
+          thin = state-begun .thin;
         });
         small = λ v x h from.
             let zero-slot : x ≡ 0 = omega arith in
@@ -440,8 +537,9 @@ module _ (bs : List ℕ) (n t : ℕ) (terms : Terms) (s until : ℕ) (col : ℕ 
       }
 
   -- what is promised from there on is promised from the entry on
-  pub passed-entry : (new : List ℕ) (r : Ended) → ColumnsPassed bs n t terms s until col block (areaSize n (waiting t terms) block) begins new r
-      → ColumnsPassed bs n t terms s until col block (areaSize n (waiting t terms) block) old new r
+  pub passed-entry : (new : List ℕ) (r : Ended)
+      → ColumnsPassed bs n t terms s until lay col block (areaSize n (waiting t terms) block) begins new r
+      → ColumnsPassed bs n t terms s until lay col block (areaSize n (waiting t terms) block) old new r
   passed-entry new r x =
       record {
         ends = x .ends;

@@ -5,7 +5,7 @@ use native.Mathlib.Omega.{arith}
 use native.Mathlib.Nat.{le-refl, mul-le-mul, mul-le-mul-right, suc-mul, mod-lt, div-add-mod', mul-add-mod-self-right}
 use native.Mathlib.Decide.{decLe}
 use mathlib.Core.Path.{_≡_, refl, sym, ap, subst, _∙_}
-use mathlib.Core.Bool.{Bool, true, false, or-true, or-false}
+use mathlib.Core.Bool.{Bool, true, false, cond}
 use mathlib.Core.List.{List}
 use mathlib.Core.Logic.{_⊎_, inl, inr, by-cases, _≢_}
 use borrow.Author.Tests.{lt-ltb, le-ltb, eq-eqb, ne-eqb}
@@ -17,8 +17,10 @@ use Rattle.memory.specs.Fill.{filled}
 use Rattle.memory.proofs.FillLaws.{filled-length}
 use Rattle.pass.specs.Row.{partSize, rowAt, partAt}
 use Rattle.pass.specs.Entry.{mergedArea, absorbed, Absorbable}
-use Rattle.pass.specs.Sweep.{sentArea, foldedArea, masked, settledOne, sweepOf, settledNext, settledFrom}
-use Rattle.pass.specs.Sweep.{emptied, emptiedFrom, begunArea, PartFits, Area, FoldableArea}
+use Rattle.pass.specs.Column.{Lanes}
+use Rattle.pass.specs.Sweep.{sentArea, foldedArea, clearedColumn, masked, settledOne, tooWide, Sweep, sweepOf, stopsAt}
+use Rattle.pass.specs.Sweep.{settledNext, settledBy, hearerAt, HearersFit, SlotSettled}
+use Rattle.pass.specs.Sweep.{emptied, emptiedFrom, begunArea, PartFits, Area, FoldableArea, HearerFits}
 use Rattle.entries.proofs.CountLaws.{overflows-some, overflows-none}
 
 -- ---- parts and rows
@@ -194,100 +196,175 @@ folded-by bs n block base j w out r e sent = sent ∙ ap (foldedArea n block bas
 
 -- ---- a mask
 
-module _ (n block s : ℕ) (col : ℕ → ℕ) (w : List ℕ) (v : ℕ) where
+module _ (lay : Lanes) (n block s : ℕ) (col : ℕ → ℕ) (w : List ℕ) (v : ℕ) where
   -- the source keeps its column
-  pub masked-source : v ≡ s → masked n block s col w v ≡ w
+  pub masked-source : v ≡ s → masked lay n block s col w v ≡ w
   unfolding masked
   masked-source e = rw (eq-eqb v s e)
 
   -- a station for which no column stands has none
-  pub masked-none : v ≢ s → block ≤ col v → masked n block s col w v ≡ w
+  pub masked-none : v ≢ s → block * lay .lanes ≤ col v → masked lay n block s col w v ≡ w
   unfolding masked
-  masked-none d past = rw (ne-eqb v s d, le-ltb (col v) block past)
+  masked-none d past = rw (ne-eqb v s d, le-ltb (col v) (block * lay .lanes) past)
 
   -- any other has one, and it becomes 0
-  pub masked-own : (row j : ℕ) → row ≡ rowAt n block v → j ≡ col v → v ≢ s → j < block
-      → set w (row + j) 0 ≡ masked n block s col w v
+  pub masked-own : (row j : ℕ) → row ≡ rowAt n block v → j ≡ col v → v ≢ s → j < block * lay .lanes
+      → clearedColumn lay w row j ≡ masked lay n block s col w v
   unfolding masked
-  masked-own row j e c d inside = rw (ne-eqb v s d, lt-ltb (col v) block (omega arith), e, c)
+  masked-own row j e c d inside = rw (ne-eqb v s d, lt-ltb (col v) (block * lay .lanes) (omega arith), e, c)
 
 -- ---- settling
 
-module _ (n block base s : ℕ) (col : ℕ → ℕ) (w : List ℕ) (v : ℕ) where
+module _ (lay : Lanes) (n block base s : ℕ) (col : ℕ → ℕ) (w : List ℕ) (v : ℕ) where
   -- something waits
   settled-some : (row : ℕ) (one two : List ℕ) → row ≡ rowAt n block v
       → getD w (base + v) 0 < 65535
       → one ≡ absorbed n block w v row (base + row) (getD w (base + v) 0) (getD w (base + v + n) 0)
-      → two ≡ masked n block s col one v
-      → set (set two (base + v) 65535) (base + v + n) 0 ≡ settledOne n block base s col w v
+      → two ≡ masked lay n block s col one v
+      → set (set two (base + v) 65535) (base + v + n) 0 ≡ settledOne lay n block base s col w v
   unfolding settledOne
   settled-some row one two a some first second =
       rw (lt-ltb (getD w (base + v) 0) 65535 some, second, first, a)
 
-  -- its count is over 2^64 - 1
-  pub settled-over : (over : Bool) (row : ℕ) (one two : List ℕ) → row ≡ rowAt n block v
-      → getD w (base + v) 0 < 65535
-      → one ≡ absorbed n block w v row (base + row) (getD w (base + v) 0) (getD w (base + v + n) 0)
-      → two ≡ masked n block s col one v
-      → getD w (base + v + n) 0 ≡ 0
-      → sweepOf true (set (set two (base + v) 65535) (base + v + n) 0) ≡ settledNext n block base s col (sweepOf over w) v
-  unfolding settledNext
-  settled-over over row one two a some first second big =
-      rw (overflows-some (getD w (base + v) 0) (getD w (base + v + n) 0) some, eq-eqb (getD w (base + v + n) 0) 0 big, or-true over)
-      (ap (sweepOf true) (settled-some row one two a some first second))
+  -- its count is over 2^64 - 1: nothing is changed
+  pub settled-over : getD w (base + v) 0 < 65535 → getD w (base + v + n) 0 ≡ 0
+      → sweepOf true w ≡ settledNext lay n block base s col w v
+  unfolding settledNext stopsAt
+  settled-over some big =
+      rw (overflows-some (getD w (base + v) 0) (getD w (base + v + n) 0) some, eq-eqb (getD w (base + v + n) 0) 0 big)
+
+  -- the count that it would have does not fit a lane
+  pub settled-wide : getD w (base + v) 0 < 65535 → getD w (base + v + n) 0 ≢ 0
+      → true ≡ tooWide lay (getD w v 0) (getD w (v + n) 0) (getD w (base + v) 0) (getD w (base + v + n) 0)
+      → sweepOf true w ≡ settledNext lay n block base s col w v
+  unfolding settledNext stopsAt
+  settled-wide some small wide =
+      rw (
+        overflows-some (getD w (base + v) 0) (getD w (base + v + n) 0) some,
+        ne-eqb (getD w (base + v + n) 0) 0 small,
+        lt-ltb (getD w (base + v) 0) 65535 some,
+        ← wide,
+      )
 
   -- it is not
-  pub settled-within : (over : Bool) (row : ℕ) (one two : List ℕ) → row ≡ rowAt n block v
+  pub settled-within : (row : ℕ) (one two : List ℕ) → row ≡ rowAt n block v
       → getD w (base + v) 0 < 65535
       → one ≡ absorbed n block w v row (base + row) (getD w (base + v) 0) (getD w (base + v + n) 0)
-      → two ≡ masked n block s col one v
+      → two ≡ masked lay n block s col one v
       → getD w (base + v + n) 0 ≢ 0
-      → sweepOf over (set (set two (base + v) 65535) (base + v + n) 0) ≡ settledNext n block base s col (sweepOf over w) v
-  unfolding settledNext
-  settled-within over row one two a some first second small =
-      rw (overflows-some (getD w (base + v) 0) (getD w (base + v + n) 0) some, ne-eqb (getD w (base + v + n) 0) 0 small, or-false over)
-      (ap (sweepOf over) (settled-some row one two a some first second))
+      → false ≡ tooWide lay (getD w v 0) (getD w (v + n) 0) (getD w (base + v) 0) (getD w (base + v + n) 0)
+      → sweepOf false (set (set two (base + v) 65535) (base + v + n) 0) ≡ settledNext lay n block base s col w v
+  unfolding settledNext stopsAt
+  settled-within row one two a some first second small narrow =
+      rw (
+        overflows-some (getD w (base + v) 0) (getD w (base + v + n) 0) some,
+        ne-eqb (getD w (base + v + n) 0) 0 small,
+        lt-ltb (getD w (base + v) 0) 65535 some,
+        ← narrow,
+      )
+      (ap (sweepOf false) (settled-some row one two a some first second))
 
   -- nothing waits
-  pub settled-none : (over : Bool) → 65535 ≤ getD w (base + v) 0
-      → sweepOf over w ≡ settledNext n block base s col (sweepOf over w) v
-  unfolding settledNext settledOne
-  settled-none over none =
-      rw (overflows-none (getD w (base + v) 0) (getD w (base + v + n) 0) none, or-false over, le-ltb (getD w (base + v) 0) 65535 none)
+  pub settled-none : 65535 ≤ getD w (base + v) 0 → sweepOf false w ≡ settledNext lay n block base s col w v
+  unfolding settledNext settledOne stopsAt
+  settled-none none =
+      rw (overflows-none (getD w (base + v) 0) (getD w (base + v + n) 0) none, le-ltb (getD w (base + v) 0) 65535 none)
 
--- the stations below v of n are settled
-pub record SettlingArea (n block base s : ℕ) (col : ℕ → ℕ) (old : List ℕ) (v : ℕ) (over : Bool) (now : List ℕ) : Type 0 where
-  pub within : v ≤ n
+-- the hearer of the record that was read lies within the plan
+pub hearer-within : (bs : List ℕ) (n i : ℕ) (r : Contact) → HearerFits bs n i → contactOf r ≡ contactAt bs i → r .hearer < n
+hearer-within bs n i r f e = subst (λ c. c .hearer < n) (sym e) (f .hearer-station)
+
+-- settling for it is settling for the record's
+pub settled-by : (bs : List ℕ) (lay : Lanes) (n block base s : ℕ) (col : ℕ → ℕ) (w : List ℕ) (i : ℕ) (r : Contact) (z : Sweep)
+    → contactOf r ≡ contactAt bs i → z ≡ settledNext lay n block base s col w (r .hearer)
+    → z ≡ settledNext lay n block base s col w (contactAt bs i .hearer)
+settled-by bs lay n block base s col w i r z e out = out ∙ ap (λ c. settledNext lay n block base s col w (c .hearer)) e
+
+-- settling the stations from f i to before f e gives what settling those from f j on gives
+pub record SettlingArea (f : ℕ → ℕ) (lay : Lanes) (n block base s : ℕ) (col : ℕ → ℕ) (old : List ℕ) (j e i : ℕ) (now : List ℕ) : Type 0 where
+  pub from : j ≤ i
   pub same : length now ≡ length old
-  pub rest : settledFrom n block base s col (sweepOf over now) v (n - v) ≡ settledFrom n block base s col (sweepOf false old) 0 n
+  pub rest : settledBy f lay n block base s col now i (e - i) ≡ settledBy f lay n block base s col old j (e - j)
 
-module _ (n block base s : ℕ) (col : ℕ → ℕ) (old : List ℕ) where
+module _ (f : ℕ → ℕ) (lay : Lanes) (n block base s : ℕ) (col : ℕ → ℕ) (old : List ℕ) (j e : ℕ) where
   -- at first no station is settled
-  pub settling-none : SettlingArea n block base s col old 0 false old
-  settling-none =
-      let same : n - 0 ≡ n = omega arith in
-      record { within = omega arith; same = refl; rest = ap (settledFrom n block base s col (sweepOf false old) 0) same }
+  pub settling-none : SettlingArea f lay n block base s col old j e j old
+  settling-none = record { from = omega arith; same = refl; rest = refl }
 
-  -- one station more
-  pub settling-more : (v : ℕ) (over over′ : Bool) (now now′ : List ℕ) → v < n → SettlingArea n block base s col old v over now
-      → length now′ ≡ length now → sweepOf over′ now′ ≡ settledNext n block base s col (sweepOf over now) v
-      → SettlingArea n block base s col old (v + 1) over′ now′
-  unfolding settledFrom
-  settling-more v over over′ now now′ h x kept e =
-      let more : n - v ≡ suc (n - (v + 1)) = omega arith in
+  module _ (i : ℕ) (now : List ℕ) (x : SettlingArea f lay n block base s col old j e i now) where
+    -- at last all are
+    pub settling-all : e ≤ i → sweepOf false now ≡ settledBy f lay n block base s col old j (e - j)
+    unfolding settledBy
+    settling-all h =
+        let none : e - i ≡ 0 = omega arith in
+        sym (ap (settledBy f lay n block base s col now i) none) ∙ x .rest
+
+    module _ (now′ : List ℕ) (r : Bool) (h : i < e)
+        (out : sweepOf r now′ ≡ settledNext lay n block base s col now (f i)) where
+      -- it goes on from the next record, or stops here
+      next : cond r (sweepOf true now′) (settledBy f lay n block base s col now′ (i + 1) (e - (i + 1)))
+          ≡ settledBy f lay n block base s col old j (e - j)
+      unfolding settledNext settledBy
+      next =
+          let more : e - i ≡ suc (e - (i + 1)) = omega arith in
+          go (stopsAt lay n base now (f i)) out ∙ sym (ap (settledBy f lay n block base s col now i) more) ∙ x .rest
+        where
+          on : Sweep → Sweep
+          on z = cond (z .over) (sweepOf true (z .work)) (settledBy f lay n block base s col (z .work) (i + 1) (e - (i + 1)))
+
+          go : (t : Bool)
+              → sweepOf r now′
+              ≡ cond t (sweepOf true now) (sweepOf false (settledOne lay n block base s col now (f i)))
+              → on (sweepOf r now′)
+              ≡ cond t (sweepOf true now) (settledBy f lay n block base s col
+              (settledOne lay n block base s col now (f i)) (i + 1) (e - (i + 1)))
+          go true q = ap on q
+          go false q = ap on q
+
+      -- one record more
+      pub settling-more : r ≡ false → length now′ ≡ length now → SettlingArea f lay n block base s col old j e (i + 1) now′
+      settling-more goes kept =
+          let low = x .from in
+          record { from = omega arith; same = kept ∙ x .same; rest = rw goes at next }
+
+      -- settling stops
+      pub settling-stops : r ≡ true → sweepOf true now′ ≡ settledBy f lay n block base s col old j (e - j)
+      settling-stops stops = rw stops at next
+
+-- all stations from the first on
+pub settled-first : (f : ℕ → ℕ) (lay : Lanes) (n block base s : ℕ) (col : ℕ → ℕ) (old : List ℕ) (k : ℕ) (z : Sweep)
+    → z ≡ settledBy f lay n block base s col old 0 (k - 0) → z ≡ settledBy f lay n block base s col old 0 k
+settled-first f lay n block base s col old k z e = let all : k - 0 ≡ k = omega arith in e ∙ ap (settledBy f lay n block base s col old 0) all
+
+-- a slot settled for every station, and for the hearers of its records
+module _ (bs : List ℕ) (lay : Lanes) (n block base s : ℕ) (col : ℕ → ℕ) (j e : ℕ) (old : List ℕ) (r : Bool) (new : List ℕ) where
+  pub slot-stations : HearersFit bs n j e → sweepOf r new ≡ settledBy (λ v. v) lay n block base s col old 0 n
+      → SlotSettled bs lay n block base s col j e old r new
+  slot-stations fits out =
       record {
-        within = omega arith;
-        same = kept ∙ x .same;
-        rest = rw e (sym (ap (settledFrom n block base s col (sweepOf over now) v) more) ∙ x .rest);
+        stations = λ v. v;
+        from = 0;
+        many = n;
+        chosen = record {
+          inside = λ m low high. omega arith;
+          covers = λ v h other. absurd (other v (omega arith) (omega arith) refl);
+        };
+        out = out;
       }
 
-  -- at last all are
-  pub settling-all : (v : ℕ) (over : Bool) (now : List ℕ) → n ≤ v → SettlingArea n block base s col old v over now
-      → sweepOf over now ≡ settledFrom n block base s col (sweepOf false old) 0 n
-  unfolding settledFrom
-  settling-all v over now h x =
-      let none : n - v ≡ 0 = omega arith in
-      sym (ap (settledFrom n block base s col (sweepOf over now) v) none) ∙ x .rest
+  pub slot-records : HearersFit bs n j e → j ≤ e → sweepOf r new ≡ settledBy (hearerAt bs) lay n block base s col old j (e - j)
+      → SlotSettled bs lay n block base s col j e old r new
+  slot-records fits up out =
+      record {
+        stations = hearerAt bs;
+        from = j;
+        many = e - j;
+        chosen = record {
+          inside = λ m low high. fits m low (omega arith) .hearer-station;
+          covers = λ v h other m low high. other m low (omega arith);
+        };
+        out = out;
+      }
 
 -- ---- the beginning
 
@@ -348,10 +425,10 @@ module _ (n size k : ℕ) (old : List ℕ) where
       sym (ap (emptiedFrom n size now at) none) ∙ x .rest
 
 -- parts that are emptied, two stores and a row of ones begin the pass
-pub begun-by : (n block q s row : ℕ) (w d out : List ℕ) → d ≡ emptiedFrom n (partSize n block) w 0 (1 + q) → row ≡ rowAt n block s
-    → out ≡ filled (set (set d s 0) (s + n) 1) row block 1 → out ≡ begunArea n block q w s
+pub begun-by : (n block q s row one : ℕ) (w d out : List ℕ) → d ≡ emptiedFrom n (partSize n block) w 0 (1 + q) → row ≡ rowAt n block s
+    → out ≡ filled (set (set d s 0) (s + n) 1) row block one → out ≡ begunArea n block q w s one
 unfolding begunArea
-begun-by n block q s row w d out ed er eo = cc
+begun-by n block q s row one w d out ed er eo = cc
 
 -- two stores keep a list's length
 pub set-twice-length : (w : List ℕ) (i j a b : ℕ) → length (set (set w i a) j b) ≡ length w

@@ -1,16 +1,17 @@
 -- The sequences that the pass keeps: walks from a source by their hops, settled by a slot and waiting of later ones, all of them
 -- and, by column, those that keep to the column's permission. A contact more and a slot more, by the recurrence.
 -- Assumes nothing.
-use Prim.Native.Nat.{ℕ, suc, _+_, _-_, _<_, _≤_}
+use Prim.Native.Nat.{ℕ, zero, suc, _+_, _-_, _<_, _≤_}
 use native.Mathlib.Omega.{arith}
+use native.Mathlib.Decide.{ℕ-discrete}
 use native.Mathlib.Numerals.{add-one}
 use mathlib.Core.Path.{_≡_, refl, sym, ap, _∙_, fun-ext}
 use mathlib.Core.Bool.{Bool, true, false, cond}
 use mathlib.Core.List.{List}
-use mathlib.Core.Logic.{_⊎_, ⊎-elim, _≢_}
+use mathlib.Core.Logic.{_⊎_, ⊎-elim, by-cases, _≢_}
 use borrow.Author.Tests.{eq-eqb, ne-eqb}
 use lib.Dec.{eqb}
-use mathlib.Core.Option.{some}
+use mathlib.Core.Option.{Option, none as absent, some}
 use lib.ListN.{length, getElem?}
 use Rattle.temporal.specs.Plan.{Contact, Plan, start}
 use Rattle.temporal.specs.Foremost.{arrivesBy}
@@ -18,11 +19,12 @@ use Rattle.temporal.proofs.RuleLaws.{Waits}
 use Rattle.temporal.proofs.WalkLaws.{SlotsWithin}
 use Rattle.counting.proofs.Weights.{total, everywhere, cond-less, total-less}
 use Rattle.counting.proofs.Fewest.{Fewest, plus, delayed}
-use Rattle.counting.proofs.Recurrence.{heard, atAppearance, arrivals, arrivals-suc, inflow-to-hearer}
+use Rattle.counting.proofs.Recurrence.{heard, atAppearance, inflow, arrivals, arrivals-suc, inflow-to-hearer}
 use Rattle.counting.proofs.Recurrence.{inflow-other-slot, inflow-other-station, arrivals-same, arrivals-zero, arrivals-all}
 use Rattle.counting.proofs.Recurrence.{arrivals-less, heard-more, heard-ready}
 use Rattle.entries.proofs.HopLaws.{walks-few}
 use Rattle.pass.specs.Row.{partAt}
+use Rattle.pass.specs.Column.{Lanes}
 use Rattle.pass.specs.Sweep.{foldedArea, Area}
 use Rattle.pass.proofs.BestLaws.{best-ext}
 use Rattle.pass.proofs.StateLaws.{Walks, Sound, AreaState, state-on, sent-state}
@@ -72,7 +74,7 @@ wider : (g : ℕ → Bool) (v : ℕ) → g v ≡ true → everywhere v ≡ true
 unfolding everywhere
 wider g v e = refl
 
-kept-less : (p : Plan) (s : ℕ) (g : ℕ → Bool) (v c k : ℕ) → kept p s g v c k ≤ kept p s everywhere v c k
+pub kept-less : (p : Plan) (s : ℕ) (g : ℕ → Bool) (v c k : ℕ) → kept p s g v c k ≤ kept p s everywhere v c k
 unfolding kept
 kept-less p s g v c k =
     cond-less (g v) (everywhere v) (wider g v) (total-less p g everywhere (wider g) (start s) (heard v c) k)
@@ -92,13 +94,30 @@ kept-closed : (p : Plan) (s : ℕ) (g : ℕ → Bool) (v c k : ℕ) → g v ≡ 
 unfolding kept
 kept-closed p s g v c k e = rw e
 
+-- nothing arrives in slot e at a station that no contact of that slot below position j has as hearer
+pub none-heard : (p : Plan) (s : ℕ) (g : ℕ → Bool) (v e k j : ℕ)
+    → ((i : ℕ) (c : Contact) → i < j → getElem? (p .contacts) i ≡ some c → c .slot ≡ e → v ≢ c .hearer)
+    → arrivals p s g j v e k ≡ 0
+none-heard p s g v e k zero other = arrivals-zero p s g v e k
+none-heard p s g v e k (suc j) other =
+    go (getElem? (p .contacts) j) refl (none-heard p s g v e k j (λ i c h. other i c (omega arith)))
+  where
+    go : (o : Option Contact) → getElem? (p .contacts) j ≡ o → arrivals p s g j v e k ≡ 0 → arrivals p s g (suc j) v e k ≡ 0
+    go absent there z =
+        sym (arrivals-same p s g v e k j (suc j) (omega arith) (λ i c from before found.
+        let same : i ≡ j = omega arith in
+        absurd (let y : _≡_ {A = ℕ} 0 1 = cc in omega arith)))
+        ∙ z
+    go (some c) there z =
+        let nothing : inflow p s g c v e k ≡ 0 = by-cases (ℕ-discrete (c .slot) e)
+        (λ slot. inflow-other-station p s g c v e k (other j c (omega arith) there slot)) (inflow-other-slot p s g c v e k) in
+        arrivals-suc p s g j there v e k ∙ omega arith
+
 -- no contact below position j is in a slot past all of them
 pub none-arrived : (p : Plan) (s : ℕ) (g : ℕ → Bool) (j e : ℕ)
     → ((i : ℕ) (c : Contact) → i < j → getElem? (p .contacts) i ≡ some c → c .slot ≢ e)
     → (v k : ℕ) → arrivals p s g j v e k ≡ 0
-none-arrived p s g j e none v k =
-    sym (arrivals-same p s g v e k 0 j (omega arith) (λ i c from before there. none i c before there))
-    ∙ arrivals-zero p s g v e k
+none-arrived p s g j e none v k = none-heard p s g v e k j (λ i c h there same. absurd (none i c h there same))
 
 module _ (p : Plan) (s : ℕ) (may : ℕ → ℕ → Bool) (u j : ℕ)
     (past : (i : ℕ) (c : Contact) → j ≤ i → getElem? (p .contacts) i ≡ some c → c .slot ≢ suc u)
@@ -141,10 +160,12 @@ module _ (p : Plan) (s : ℕ) (may : ℕ → ℕ → Bool) (u j : ℕ)
           settled = λ v i k. kept-less p s (may i) v (suc u) k;
           waits = λ e v i k. none-less (eqb e (suc u)) (arrivals-less p s (may i) everywhere (wider (may i)) j v e k);
         };
-        closed = λ v i k e. kept-closed p s (may i) v u k e;
-        settled = λ v k. kept-settled p s may u j past within everywhere v k;
-        avoids = λ v i k. kept-settled p s may u j past within (may i) v k;
-        cleared = λ v k. ap (λ b. cond b 0 (arrivals p s everywhere j v (suc u) k)) (eq-eqb (suc u) (suc u) refl);
+        here = λ v. record {
+          closed = λ i k e. kept-closed p s (may i) v u k e;
+          settled = λ k. kept-settled p s may u j past within everywhere v k;
+          avoids = λ i k. kept-settled p s may u j past within (may i) v k;
+          cleared = λ k. ap (λ b. cond b 0 (arrivals p s everywhere j v (suc u) k)) (eq-eqb (suc u) (suc u) refl);
+        };
         others = λ e v k other. sym (ap (λ b. cond b 0 (arrivals p s everywhere j v e k)) (ne-eqb e (suc u) other));
         others-avoid = λ e v i k other. sym (ap (λ b. cond b 0 (arrivals p s (may i) j v e k)) (ne-eqb e (suc u) other));
       }
@@ -155,12 +176,12 @@ module _ (p : Plan) (s : ℕ) (may : ℕ → ℕ → Bool) (u j : ℕ)
 
 -- The q slots past u + 1, after slot u + 1 is settled: the state is that by slot u + 1, where no record of the slot that is new is
 -- folded in.
-pub state-taken : (p : Plan) (s : ℕ) (may : ℕ → ℕ → Bool) (u j n block q : ℕ) (old w : List ℕ) → 0 < q
+pub state-taken : (lay : Lanes) (p : Plan) (s : ℕ) (may : ℕ → ℕ → Bool) (u j n block q : ℕ) (old w : List ℕ) → 0 < q
     → ((i : ℕ) (c : Contact) → i < j → getElem? (p .contacts) i ≡ some c → c .slot ≢ u + 1 + q)
-    → AreaState n block q u old (walksTaken p s may u j) w
-    → AreaState n block q (u + 1) old (walksAt p s may (u + 1) j) w
+    → AreaState lay n block q u old (walksTaken p s may u j) w
+    → AreaState lay n block q (u + 1) old (walksAt p s may (u + 1) j) w
 unfolding walksTaken walksAt
-state-taken p s may u j n block q old w parts none state =
+state-taken lay p s may u j n block q old w parts none state =
     rw add-one (on (state-on parts
     (λ v k. ap (λ b. cond b 0 (arrivals p s everywhere j v (u + 1) k)) (eq-eqb (u + 1) (suc u) (omega arith)))
     (λ v k. ap (λ b. cond b 0 (arrivals p s everywhere j v (u + 1 + q) k)) (ne-eqb (u + 1 + q) (suc u) (omega arith))
@@ -168,7 +189,7 @@ state-taken p s may u j n block q old w parts none state =
     state))
   where
     -- of a slot past u + 1 all that arrived waits
-    on : AreaState n block q (u + 1) old (walksTaken p s may u j) w → AreaState n block q (suc u) old (walksAt p s may (suc u) j) w
+    on : AreaState lay n block q (u + 1) old (walksTaken p s may u j) w → AreaState lay n block q (suc u) old (walksAt p s may (suc u) j) w
     on x =
         record {
           same = x .same;
@@ -178,6 +199,7 @@ state-taken p s may u j n block q old w parts none state =
               best-ext (λ k. ap (λ b. cond b 0 (arrivals p s everywhere j v e k)) (ne-eqb e (suc u) (omega arith)))
               (λ i k. ap (λ b. cond b 0 (arrivals p s (may i) j v e k)) (ne-eqb e (suc u) (omega arith)))
               (x .waits e v (omega arith) (omega arith) h);
+          thin = x .thin;
         }
 
 -- ---- a walk's hops
@@ -191,7 +213,7 @@ few-hops p fits s v c h f q = walks-few p fits s h (arrivesBy v c) (f .some q)
 -- ---- a record is folded in
 
 module _ (p : Plan) (q : ℕ) (waits : Waits p q) (fits : SlotsWithin p) (few : p .slots ≤ 255) (s : ℕ) (may : ℕ → ℕ → Bool)
-    (n block : ℕ) (old : List ℕ) (area : Area n block q old) where
+    (lay : Lanes) (n block : ℕ) (old : List ℕ) (area : Area n block q old) where
   -- settled walks can take one hop more
   one-more : {h : ℕ} (v c : ℕ) → Fewest (kept p s everywhere v c) h → h < 65535 → h + 1 < 65535
   one-more {h} v c f g = let most = few-hops p fits s v c h f g in omega arith
@@ -199,12 +221,12 @@ module _ (p : Plan) (q : ℕ) (waits : Waits p q) (fits : SlotsWithin p) (few : 
   -- (kept) Folding the contact at position j, in slot u: its walks have arrived too.
   pub folded-state : (u j : ℕ) (c : Contact) (w : List ℕ) → getElem? (p .contacts) j ≡ some c → c .slot ≡ u
       → 0 < u → u ≤ p .slots → c .sender < n → c .hearer < n
-      → AreaState n block q (u - q) old (walksAt p s may (u - q) j) w
-      → AreaState n block q (u - q) old (walksAt p s may (u - q) (j + 1)) (foldedArea n block (partAt n block q u) w c)
+      → AreaState lay n block q (u - q) old (walksAt p s may (u - q) j) w
+      → AreaState lay n block q (u - q) old (walksAt p s may (u - q) (j + 1)) (foldedArea n block (partAt n block q u) w c)
   unfolding foldedArea walksAt
   folded-state u j c w there slot low high sender hearer state =
       let parts = waits .some in
-      sent-state n block q (u - q) old area (walksAt p s may (u - q) j) (walksAt p s may (u - q) (j + 1)) w u (c .sender)
+      sent-state lay n block q (u - q) old area (walksAt p s may (u - q) j) (walksAt p s may (u - q) (j + 1)) w u (c .sender)
       (c .hearer) (omega arith) (omega arith) sender hearer
       (sound-at p s may (u - q) j) state (one-more (c .sender) (u - q) (state .settled (c .sender) sender .entry .fewest))
       (λ v k. refl) (λ v i k. refl)

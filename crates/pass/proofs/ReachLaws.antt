@@ -25,6 +25,8 @@ use Rattle.pass.specs.declared.Ended.the-variants as ended
 use Rattle.pass.specs.Entry.{reachedEntry}
 use Rattle.pass.specs.PassedColumns.{lastEnded}
 use Rattle.pass.proofs.ColumnLaws.{mayLeave}
+use Rattle.pass.specs.Column.{Lanes}
+use Rattle.pass.proofs.MaskLaws.{Filled}
 use Rattle.pass.proofs.StateLaws.{AreaState}
 use Rattle.pass.proofs.PlanWalks.{walksAt}
 use Rattle.pass.proofs.EndLaws.{at-hops}
@@ -66,9 +68,9 @@ module _ (bs : List ℕ) (n t : ℕ) (terms : Terms) (ok : planFault bs n t ≡ 
   unfolding walksBy planOf
   few-hops-by e = hops-bound (bounded-ends (planOf bs n t terms) (slots-within bs n t terms ok) s (arrivesBy until e))
 
-  module _ (col : ℕ → ℕ) (block q : ℕ) (old w : List ℕ) (e j : ℕ) where
+  module _ (lay : Lanes) (full : Filled lay) (col : ℕ → ℕ) (block q : ℕ) (old w : List ℕ) (e j : ℕ) where
     -- not reached by slot e: the arrival is later
-    pub not-yet : e ≤ t → s < n → AreaState n block q e old (walksAt (planOf bs n t terms) s (mayLeave s col) e j) w
+    pub not-yet : e ≤ t → s < n → AreaState lay n block q e old (walksAt (planOf bs n t terms) s (mayLeave s col) e j) w
         → reachedEntry n w until ≡ false
         → e < arrival (planOf bs n t terms) s until
     unfolding reachedEntry planOf
@@ -78,7 +80,7 @@ module _ (bs : List ℕ) (n t : ℕ) (terms : Terms) (ok : planFault bs n t ≡ 
             → e < arrival (planOf bs n t terms) s until
         go true r f =
             let many = ltb-false (getD w until 0) 65535 f in
-            let here = at-hops bs n t terms ok s col block q old w e j state until (ltb-true until n r) in
+            let here = at-hops bs n t terms ok s lay full col block q old w e j state until (ltb-true until n r) in
             let most = accepted bs n t ok .slots in
             ⊎-elim
             (λ empty. arrival-past (planOf bs n t terms) (slots-within bs n t terms ok) s until (few-slots bs n t terms ok) e inside empty)
@@ -90,7 +92,7 @@ module _ (bs : List ℕ) (n t : ℕ) (terms : Terms) (ok : planFault bs n t ≡ 
             omega arith
 
     -- reached by slot e: the arrival is not later
-    pub now-reached : AreaState n block q e old (walksAt (planOf bs n t terms) s (mayLeave s col) e j) w
+    pub now-reached : AreaState lay n block q e old (walksAt (planOf bs n t terms) s (mayLeave s col) e j) w
         → reachedEntry n w until ≡ true
         → arrival (planOf bs n t terms) s until ≤ e
     unfolding reachedEntry
@@ -100,7 +102,7 @@ module _ (bs : List ℕ) (n t : ℕ) (terms : Terms) (ok : planFault bs n t ≡ 
             → arrival (planOf bs n t terms) s until ≤ e
         go true r f =
             let few = ltb-true (getD w until 0) 65535 f in
-            let here = at-hops bs n t terms ok s col block q old w e j state until (ltb-true until n r) in
+            let here = at-hops bs n t terms ok s lay full col block q old w e j state until (ltb-true until n r) in
             ⊎-elim
             (λ empty. absurd (let many = hops-empty (walksBy (planOf bs n t terms) s until e) empty in omega arith))
             (λ m. arrival-by (planOf bs n t terms) (slots-within bs n t terms ok) s until e (m .0) (m .1))

@@ -1,41 +1,55 @@
--- Settling, over any sequences: one station, then all of them, with the counts over 2^64 - 1 that are met.
+-- Settling, over any sequences: one station, then the hearers of a slot's records, up to a count over 2^64 - 1.
 -- Assumes nothing.
-use Prim.Native.Nat.{ℕ, zero, suc, _+_, _*_, _<_, _≤_, min}
+use Prim.Native.Nat.{ℕ, zero, suc, _+_, _*_, _^_, _<_, _≤_, min}
+use native.Mathlib.Nat.{pos-of-ne-zero}
 use native.Mathlib.Omega.{arith}
 use native.Mathlib.Decide.{decLe, ℕ-discrete}
-use mathlib.Core.Path.{_≡_, refl, sym, ap, _∙_, fun-ext}
-use mathlib.Core.Bool.{Bool, true, false, cond, _||_}
+use mathlib.Core.Path.{_≡_, refl, sym, ap, subst, _∙_, fun-ext}
+use mathlib.Core.Bool.{Bool, true, false, cond, _||_, _&&_, or-false}
 use mathlib.Core.List.{List}
 use mathlib.Core.Logic.{_⊎_, inl, inr, ⊎-elim, by-cases, _≢_}
-use borrow.Author.Tests.{lt-ltb, le-ltb}
-use lib.Dec.{ltb}
+use borrow.Author.Tests.{lt-ltb, le-ltb, eq-eqb, ne-eqb, eqb-true, eqb-false, leb-false}
+use lib.Dec.{ltb, leb, eqb}
 use lib.ListN.{getD}
+use Rattle.temporal.proofs.ListLaws.{not-both}
 use Rattle.counting.proofs.Fewest.{plus}
 use Rattle.entries.proofs.EntryLaws.{plus-none, Large, Small, overflow-large, overflow-small}
+use Rattle.entries.specs.Entry.{mergedCount}
 use Rattle.pass.specs.Row.{partSize, rowAt, partAt}
+use Rattle.pass.specs.Column.{Lanes}
 use Rattle.pass.specs.Entry.{areaOverflows}
-use Rattle.pass.specs.Sweep.{settledOne, Sweep, sweepOf, settledNext, settledFrom, PartFits, Area}
+use Rattle.pass.specs.Sweep.{settledOne, tooLarge, tooWide, Sweep, sweepOf, stopsAt, settledBy, PartFits, Area}
 use Rattle.pass.proofs.PlaceLaws.{row-inside, area-kept, part-fits, parts-apart}
-use Rattle.pass.proofs.BestLaws.{best-ext, best-same, best-none, best-limit, best-merge, best-masked}
+use Rattle.pass.proofs.BestLaws.{best-ext, best-same, best-none, best-limit, best-merge}
 use Rattle.pass.proofs.ColumnLaws.{mayLeave}
 use Rattle.pass.proofs.TookLaws.{Settled, settled-took}
+use Rattle.pass.proofs.MaskLaws.{Thin, Filled, best-cleared}
 use Rattle.pass.proofs.StateLaws.{Walks, Sound, AreaState, state-ext, BestAt, row-outside, slots-apart, part-end}
 
-settled-none : (n block base s : ℕ) (col : ℕ → ℕ) (w : List ℕ) (v : ℕ) → 65535 ≤ getD w (base + v) 0
-    → settledOne n block base s col w v ≡ w
+settled-none : (lay : Lanes) (n block base s : ℕ) (col : ℕ → ℕ) (w : List ℕ) (v : ℕ) → 65535 ≤ getD w (base + v) 0
+    → settledOne lay n block base s col w v ≡ w
 unfolding settledOne
-settled-none n block base s col w v none = rw (le-ltb (getD w (base + v) 0) 65535 none)
+settled-none lay n block base s col w v none = rw (le-ltb (getD w (base + v) 0) 65535 none)
 
--- what settling station b, of slot u, makes of the sequences x is y; a walk of column j may go on from b where may j b
+-- What settling makes of a station's sequences: N and W, settled and waiting, become N′ and W′; M, P and M′ are those of them, by column,
+-- that avoid the column's stations. A walk of column j may go on from the station where may j.
+pub record SettlesAt (may : ℕ → Bool) (N W N′ W′ : ℕ → ℕ) (M P M′ : ℕ → ℕ → ℕ) : Type 0 where
+  pub closed : (j k : ℕ) → may j ≡ false → M j k ≡ 0
+  pub settled : (k : ℕ) → plus N W k ≡ N′ k
+  pub avoids : (j k : ℕ) → cond (may j) (plus (M j) (P j) k) 0 ≡ M′ j k
+  pub cleared : (k : ℕ) → W′ k ≡ 0
+
+-- of station v, in slot u
+abbrev SettlesStation : (ℕ → ℕ → Bool) → ℕ → ℕ → Walks → Walks → Type 0
+SettlesStation may u v x y =
+    SettlesAt (λ j. may j v) (x .settled v) (x .waits u v) (y .settled v) (y .waits u v) (x .settled-avoiding v)
+    (x .waits-avoiding u v) (y .settled-avoiding v)
+
+-- what settling station b, of slot u, makes of the sequences x is y
 record SettlesOne (may : ℕ → ℕ → Bool) (u b : ℕ) (x y : Walks) : Type 0 where
   sound : Sound x
   sound-after : Sound y
-  closed : (j k : ℕ) → may j b ≡ false → x .settled-avoiding b j k ≡ 0
-  settled : (k : ℕ) → plus (x .settled b) (x .waits u b) k ≡ y .settled b k
-  avoids : (j k : ℕ)
-      → cond (may j b) (plus (x .settled-avoiding b j) (x .waits-avoiding u b j) k) 0
-      ≡ y .settled-avoiding b j k
-  cleared : (k : ℕ) → y .waits u b k ≡ 0
+  here : SettlesStation may u b x y
   others-settled : (v k : ℕ) → v ≢ b → x .settled v k ≡ y .settled v k
   others-avoid : (v j k : ℕ) → v ≢ b → x .settled-avoiding v j k ≡ y .settled-avoiding v j k
   others-wait : (e v k : ℕ) → (e ≢ u) ⊎ (v ≢ b) → x .waits e v k ≡ y .waits e v k
@@ -46,194 +60,323 @@ chosen : (o : Bool) (a b : ℕ) → a ≡ b → (o ≡ false → a ≡ 0) → a 
 chosen true a b e z = e
 chosen false a b e z = z refl
 
-module _ (n block q c : ℕ) (old : List ℕ) (area : Area n block q old) (s : ℕ) (col : ℕ → ℕ) (u : ℕ) (low : c < u) (high : u ≤ c + q)
-  where
-    settled-state : (x y : Walks) (w : List ℕ) (b : ℕ) → b < n → SettlesOne (mayLeave s col) u b x y
-        → AreaState n block q c old x w
-        → AreaState n block q c old y (settledOne n block (partAt n block q u) s col w b)
-    settled-state x y w b hb z state =
-        by-cases (decLe 65535 (getD w (partAt n block q u + b) 0)) nothing (λ g. something (omega arith))
-      where
-        part : PartFits n block (partAt n block q u) w
-        part = part-fits (area-kept area (state .same)) u
+module _ {may : ℕ → Bool} {N W N′ W′ : ℕ → ℕ} {M P M′ : ℕ → ℕ → ℕ} (z : SettlesAt may N W N′ W′ M P M′) where
+  -- where nothing waits, nothing changes
+  quiet : ((k : ℕ) → W k ≡ 0) → (k : ℕ) → N k ≡ N′ k
+  quiet none k = plus-none N W k (none k) ∙ z .settled k
 
-        positive : 0 < n
-        positive = area .some
+  quiet-avoiding : ((j k : ℕ) → P j k ≤ W k) → ((k : ℕ) → W k ≡ 0) → (j k : ℕ) → M j k ≡ M′ j k
+  quiet-avoiding less none j k =
+      chosen (may j) _ _ (plus-none (M j) (P j) k (omega (arith, less j k, none k))) (z .closed j k) ∙ z .avoids j k
 
-        behind : (e : ℕ) → partSize n block ≤ partAt n block q e
-        behind e = part-fits area e .behind
+  -- a station that is settled can be settled again
+  again : {P′ : ℕ → ℕ → ℕ} → ((j k : ℕ) → P′ j k ≤ W′ k) → SettlesAt may N′ W′ N′ W′ M′ P′ M′
+  again {P′} less =
+      record {
+        closed = shut;
+        settled = λ k. sym (plus-none N′ W′ k (z .cleared k));
+        avoids = λ j k. sym (chosen (may j) _ _ (plus-none (M′ j) (P′ j) k (omega (arith, less j k, z .cleared k))) (shut j k));
+        cleared = z .cleared;
+      }
+    where
+      shut : (j k : ℕ) → may j ≡ false → M′ j k ≡ 0
+      shut j k e = sym (z .avoids j k) ∙ rw e
 
-        nothing : 65535 ≤ getD w (partAt n block q u + b) 0
-            → AreaState n block q c old y (settledOne n block (partAt n block q u) s col w b)
-        nothing none-there =
-            let f = state .waits u b low high hb .entry .fewest in
-            let none : (k : ℕ) → x .waits u b k ≡ 0 = f .never (let g = f .bound in omega arith) in
-            rw (settled-none n block (partAt n block q u) s col w b none-there) (state-ext (record {
-              settled = λ v i k. by-cases (ℕ-discrete v b)
-                  (λ e. rw e (plus-none (x .settled b) (x .waits u b) k (none k) ∙ z .settled k))
-                  (z .others-settled v k);
-              settled-avoiding = λ v i j k. by-cases (ℕ-discrete v b)
-                  (λ e. rw e
-                  (chosen (mayLeave s col j b) _ _
-                  (plus-none (x .settled-avoiding b j) (x .waits-avoiding u b j) k
-                  (omega (arith, z .sound .waits u b j k, none k)))
-                  (z .closed j k)
-                  ∙ z .avoids j k))
-                  (z .others-avoid v j k);
-              waits = λ e v i k. by-cases (ℕ-discrete e u)
-                  (λ se. by-cases (ℕ-discrete v b)
-                  (λ sv. rw (se, sv) (none k ∙ sym (z .cleared k)))
-                  (λ d. z .others-wait e v k (inr d)))
-                  (λ d. z .others-wait e v k (inl d));
-              waits-avoiding = λ e v i j k. by-cases (ℕ-discrete e u)
-                  (λ se. by-cases (ℕ-discrete v b)
-                  (λ sv. rw (se, sv)
-                  (omega (arith, z .sound .waits u b j k, none k, z .sound-after .waits u b j k, z .cleared k)))
-                  (λ d. z .others-wait-avoid e v j k (inr d)))
-                  (λ d. z .others-wait-avoid e v j k (inl d));
-            }) state)
+-- fewer of each are fewer together
+plus-less : (N W M P : ℕ → ℕ) (k : ℕ) → M k ≤ N k → P k ≤ W k → plus M P k ≤ plus N W k
+unfolding plus
+plus-less N W M P k a b = omega arith
 
-        something : getD w (partAt n block q u + b) 0 < 65535
-            → AreaState n block q c old y (settledOne n block (partAt n block q u) s col w b)
-        something some =
-            record {
-              same = took .same ∙ state .same;
-              beyond = λ i g. let f = area-end in let h = part .behind in far i (omega arith) ∙ state .beyond i g;
-              settled = λ v i. by-cases (ℕ-discrete v b)
-                  (λ e. rw e (best-same (took .hops) (took .count) (λ j l g. took .entries j l)
-                  (best-ext (z .settled) (z .avoids)
-                  (best-masked (λ j. mayLeave s col j b)
-                  (best-merge (x .settled b) (x .waits u b) (x .settled-avoiding b) (x .waits-avoiding u b)
-                  (z .sound .settled b) (z .sound .waits u b)
-                  (getD w b 0) (getD w (b + n) 0) (getD w (partAt n block q u + b) 0) (getD w (partAt n block q u + b + n) 0)
-                  65535 (min 65535 (getD w b 0 + 1)) 65535 (state .settled b hb) (state .waits u b low high hb)
-                  (λ g o. omega arith) (λ g o. omega arith))))))
-                  (λ d. let g = part .behind in best-ext (λ k. z .others-settled v k d) (λ j k. z .others-avoid v j k d)
-                  (best-same
-                  (took .other v (omega arith) (omega arith) (omega arith) (omega arith) (inl (omega arith)))
-                  (took .other (v + n) (omega arith) (omega arith) (omega arith) (omega arith) (inl (omega arith)))
-                  (λ j l h. let r = row-inside n block v i in
-                  took .other (rowAt n block v + j) (omega arith) (omega arith) (omega arith) (omega arith)
-                  (row-outside n block v b j d l))
-                  (state .settled v i)));
-              waits = λ e v from to i. by-cases (ℕ-discrete e u)
-                  (λ same. rw same (here v i))
-                  (λ other. there e v from to i other);
-            }
-          where
-            took : Settled n block (partAt n block q u) s col b w (settledOne n block (partAt n block q u) s col w b)
-            took = settled-took n block (partAt n block q u) s col w b part hb some
+-- the count that settling b would leave
+abbrev pub settledCount : ℕ → List ℕ → ℕ → ℕ → ℕ
+settledCount n w at b = mergedCount (getD w b 0) (getD w (b + n) 0) (getD w at 0) (getD w (at + n) 0)
 
-            area-end : partAt n block q u + partSize n block ≤ (1 + q) * partSize n block
-            area-end = part-end n block q u (area .parts)
+-- an or that is true, and one that is false
+pub or-inv : (a b : Bool) → (a || b) ≡ true → (a ≡ true) ⊎ (b ≡ true)
+or-inv true b e = inl refl
+or-inv false b e = inr e
 
-            row-b : rowAt n block b + block ≤ partSize n block
-            row-b = row-inside n block b hb
+pub or-none : (a b : Bool) → (a || b) ≡ false → (a ≡ false) × (b ≡ false)
+or-none true b e = let z : _≡_ {A = ℕ} 0 1 = cc in absurd (omega arith)
+or-none false b e = (refl, e)
 
-            -- behind the part of slot u, or between it and what is settled
-            far : (i : ℕ) → partAt n block q u + partSize n block ≤ i → getD (settledOne n block (partAt n block q u) s col w b) i 0 ≡ getD w i 0
-            far i h =
-                let g = part .behind in
-                let r = row-b in
-                took .other i (omega arith) (omega arith) (omega arith) (omega arith) (inr (omega arith))
+-- a count that passes the test fits its lane; one that does not is in an entry of several lanes
+module _ (lay : Lanes) (h c l d : ℕ) where
+  pub tested-thin : tooWide lay h c l d ≡ false → Thin lay (mergedCount h c l d)
+  unfolding tooWide
+  tested-thin = go (eqb (lay .lanes) 1) refl
+    where
+      go : (r : Bool) → eqb (lay .lanes) 1 ≡ r → cond r false (tooLarge (lay .width) (mergedCount h c l d)) ≡ false
+          → Thin lay (mergedCount h c l d)
+      go true f o = inl (eqb-true (lay .lanes) 1 f)
+      go false f o =
+          let (some, few) = or-none (eqb (mergedCount h c l d) 0) (leb (2 ^ lay .width) (mergedCount h c l d)) o in
+          inr (pos-of-ne-zero (eqb-false (mergedCount h c l d) 0 some), leb-false (2 ^ lay .width) (mergedCount h c l d) few)
 
-            near : (i : ℕ) → partSize n block ≤ i → i < partAt n block q u → getD (settledOne n block (partAt n block q u) s col w b) i 0 ≡ getD w i 0
-            near i h k =
-                let r = row-b in
-                took .other i (omega arith) (omega arith) (omega arith) (omega arith) (inr (omega arith))
+  pub tested-wide : tooWide lay h c l d ≡ true → lay .lanes ≢ 1
+  unfolding tooWide
+  tested-wide e one = not-both e (rw (eq-eqb (lay .lanes) 1 one))
 
-            -- settled hops do not rise
-            fewer : (v : ℕ) → v < n → getD (settledOne n block (partAt n block q u) s col w b) v 0 ≤ getD w v 0
-            fewer v i =
-                by-cases (ℕ-discrete v b)
-                (λ e. rw e (omega (arith, took .hops)))
-                (λ d. let g = part .behind in
-                omega (arith, took .other v (omega arith) (omega arith) (omega arith) (omega arith) (inl (omega arith))))
+-- where settling stops, and where it goes on
+module _ (lay : Lanes) (n base : ℕ) (w : List ℕ) (b : ℕ) where
+  -- the second reason to stop
+  abbrev wide : Bool
+  wide =
+      ltb (getD w (base + b) 0) 65535 &&
+      tooWide lay (getD w b 0) (getD w (b + n) 0) (getD w (base + b) 0) (getD w (base + b + n) 0)
 
-            -- in the part of slot u
-            here : (v : ℕ) → v < n
-                → BestAt block (min 65535 (getD (settledOne n block (partAt n block q u) s col w b) v 0 + 1)) (y .waits u v)
-                (y .waits-avoiding u v) n (partAt n block q u + v) (partAt n block q u + rowAt n block v)
-                (settledOne n block (partAt n block q u) s col w b)
-            here v i =
-                by-cases (ℕ-discrete v b)
-                (λ e. rw e (best-same (took .no-hops) (took .no-count) (λ j l g. refl)
-                (best-none (omega arith) (z .cleared))))
-                (λ d.
-                let g = part .behind in
-                let r = row-b in
-                best-limit (let f = fewer v i in omega arith)
-                (best-ext (λ k. z .others-wait u v k (inr d)) (λ j k. z .others-wait-avoid u v j k (inr d))
+  pub goes-small : stopsAt lay n base w b ≡ false → areaOverflows n w (base + b) ≡ false
+  unfolding stopsAt
+  goes-small e = or-none (areaOverflows n w (base + b)) wide e .0
+
+  -- with one lane there is no other reason
+  pub stops-whole : lay .lanes ≡ 1 → stopsAt lay n base w b ≡ true → areaOverflows n w (base + b) ≡ true
+  unfolding stopsAt tooWide
+  stops-whole one e =
+      ⊎-elim (λ o. o) (λ (o : wide ≡ true). absurd (none (ltb (getD w (base + b) 0) 65535) _ _ (eq-eqb (lay .lanes) 1 one) o))
+      (or-inv (areaOverflows n w (base + b)) wide e)
+    where
+      none : (t r d : Bool) → r ≡ true → (t && cond r false d) ≡ true → ⊥
+      none true r d f o = not-both o (rw f)
+      none false r d f o = not-both o refl
+
+  pub goes-thin : stopsAt lay n base w b ≡ false → getD w (base + b) 0 < 65535 → Thin lay (settledCount n w (base + b) b)
+  unfolding stopsAt tooWide
+  goes-thin e some = go (eqb (lay .lanes) 1) refl (or-none (areaOverflows n w (base + b)) wide e .1)
+    where
+      count : ℕ
+      count = mergedCount (getD w b 0) (getD w (b + n) 0) (getD w (base + b) 0) (getD w (base + b + n) 0)
+
+      go : (r : Bool) → eqb (lay .lanes) 1 ≡ r → (ltb (getD w (base + b) 0) 65535 && cond r false (tooLarge (lay .width) count)) ≡ false
+          → Thin lay count
+      go true f o = inl (eqb-true (lay .lanes) 1 f)
+      go false f o =
+          let small = rw (lt-ltb (getD w (base + b) 0) 65535 some) at o in
+          let (some, few) = or-none (eqb count 0) (leb (2 ^ lay .width) count) small in
+          inr (pos-of-ne-zero (eqb-false count 0 some), leb-false (2 ^ lay .width) count few)
+
+module _ (lay : Lanes) (full : Filled lay) (n block q c : ℕ) (old : List ℕ) (area : Area n block q old) (s : ℕ) (col : ℕ → ℕ) (u : ℕ)
+    (low : c < u) (high : u ≤ c + q) where
+  settled-state : (x y : Walks) (w : List ℕ) (b : ℕ) → b < n → SettlesOne (mayLeave s col) u b x y
+      → (getD w (partAt n block q u + b) 0 < 65535 → Thin lay (settledCount n w (partAt n block q u + b) b))
+      → AreaState lay n block q c old x w
+      → AreaState lay n block q c old y (settledOne lay n block (partAt n block q u) s col w b)
+  settled-state x y w b hb z narrow state =
+      by-cases (decLe 65535 (getD w (partAt n block q u + b) 0)) nothing (λ g. something (omega arith))
+    where
+      part : PartFits n block (partAt n block q u) w
+      part = part-fits (area-kept area (state .same)) u
+
+      positive : 0 < n
+      positive = area .some
+
+      behind : (e : ℕ) → partSize n block ≤ partAt n block q e
+      behind e = part-fits area e .behind
+
+      nothing : 65535 ≤ getD w (partAt n block q u + b) 0
+          → AreaState lay n block q c old y (settledOne lay n block (partAt n block q u) s col w b)
+      nothing none-there =
+          let f = state .waits u b low high hb .entry .fewest in
+          let none : (k : ℕ) → x .waits u b k ≡ 0 = f .never (let g = f .bound in omega arith) in
+          rw (settled-none lay n block (partAt n block q u) s col w b none-there) (state-ext (record {
+            settled = λ v i k. by-cases (ℕ-discrete v b) (λ e. rw e (quiet (z .here) none k)) (z .others-settled v k);
+            settled-avoiding = λ v i j k. by-cases (ℕ-discrete v b)
+                (λ e. rw e (quiet-avoiding (z .here) (z .sound .waits u b) none j k)) (z .others-avoid v j k);
+            waits = λ e v i k. by-cases (ℕ-discrete e u)
+                (λ se. by-cases (ℕ-discrete v b)
+                (λ sv. rw (se, sv) (none k ∙ sym (z .here .cleared k)))
+                (λ d. z .others-wait e v k (inr d)))
+                (λ d. z .others-wait e v k (inl d));
+            waits-avoiding = λ e v i j k. by-cases (ℕ-discrete e u)
+                (λ se. by-cases (ℕ-discrete v b)
+                (λ sv. rw (se, sv)
+                (omega (arith, z .sound .waits u b j k, none k, z .sound-after .waits u b j k, z .here .cleared k)))
+                (λ d. z .others-wait-avoid e v j k (inr d)))
+                (λ d. z .others-wait-avoid e v j k (inl d));
+          }) state)
+
+      something : getD w (partAt n block q u + b) 0 < 65535
+          → AreaState lay n block q c old y (settledOne lay n block (partAt n block q u) s col w b)
+      something some =
+          record {
+            same = took .same ∙ state .same;
+            beyond = λ i g. let f = area-end in let h = part .behind in far i (omega arith) ∙ state .beyond i g;
+            settled = λ v i. by-cases (ℕ-discrete v b)
+                (λ e. rw e (best-same (took .hops) (took .count) (λ j l g. took .entries j l)
+                (best-ext (z .here .settled) (z .here .avoids)
+                (best-cleared lay full s col block b
+                (λ j k. plus-less _ _ _ _ k (z .sound .settled b j k) (z .sound .waits u b j k))
+                (λ g. narrow some)
+                (best-merge lay (x .settled b) (x .waits u b) (x .settled-avoiding b) (x .waits-avoiding u b)
+                (z .sound .settled b) (z .sound .waits u b)
+                (getD w b 0) (getD w (b + n) 0) (getD w (partAt n block q u + b) 0) (getD w (partAt n block q u + b + n) 0)
+                65535 (min 65535 (getD w b 0 + 1)) 65535 (state .settled b hb) (state .waits u b low high hb)
+                (λ g o. omega arith) (λ g o. omega arith))))))
+                (λ d. let g = part .behind in best-ext (λ k. z .others-settled v k d) (λ j k. z .others-avoid v j k d)
                 (best-same
-                (took .other (partAt n block q u + v) (omega arith) (omega arith) (omega arith) (omega arith)
-                (inr (omega arith)))
-                (took .other (partAt n block q u + v + n) (omega arith) (omega arith) (omega arith) (omega arith)
-                (inr (omega arith)))
-                (λ j l h. took .other (partAt n block q u + rowAt n block v + j) (omega arith) (omega arith) (omega arith)
-                (omega arith) (inr (omega arith)))
-                (state .waits u v low high i))))
+                (took .other v (omega arith) (omega arith) (omega arith) (omega arith) (inl (omega arith)))
+                (took .other (v + n) (omega arith) (omega arith) (omega arith) (omega arith) (inl (omega arith)))
+                (λ j l h. let r = row-inside n block v i in
+                took .other (rowAt n block v + j) (omega arith) (omega arith) (omega arith) (omega arith)
+                (row-outside n block v b j d l))
+                (state .settled v i)));
+            waits = λ e v from to i. by-cases (ℕ-discrete e u)
+                (λ same. rw same (here v i))
+                (λ other. there e v from to i other);
+            thin = λ v i g. by-cases (ℕ-discrete v b)
+                (λ e. rw e (rw (took .count) (narrow some)))
+                (λ d. rw (unmoved-count v i d) (state .thin v i (rw (unmoved-hops v i d) at g)));
+          }
+        where
+          took : Settled lay n block (partAt n block q u) s col b w (settledOne lay n block (partAt n block q u) s col w b)
+          took = settled-took lay (full .some) n block (partAt n block q u) s col w b part hb some
 
-            -- in another part
-            there : (e v : ℕ) → c < e → e ≤ c + q → v < n → e ≢ u
-                → BestAt block (min 65535 (getD (settledOne n block (partAt n block q u) s col w b) v 0 + 1)) (y .waits e v)
-                (y .waits-avoiding e v) n (partAt n block q e + v) (partAt n block q e + rowAt n block v)
-                (settledOne n block (partAt n block q u) s col w b)
-            there e v from to i other =
-                let r = row-inside n block v i in
-                best-limit (let f = fewer v i in omega arith)
-                (best-ext (λ k. z .others-wait e v k (inl other)) (λ j k. z .others-wait-avoid e v j k (inl other))
-                (best-same
-                (apart (partAt n block q e + v) v refl (omega arith))
-                (apart (partAt n block q e + v + n) (v + n) (omega arith) (omega arith))
-                (λ j l h. apart (partAt n block q e + rowAt n block v + j) (rowAt n block v + j) (omega arith) (omega arith))
-                (state .waits e v from to i)))
-              where
-                apart : (i o : ℕ) → i ≡ partAt n block q e + o → o < partSize n block
-                    → getD (settledOne n block (partAt n block q u) s col w b) i 0 ≡ getD w i 0
-                apart i o is small =
-                    let g = behind e in
-                    ⊎-elim (λ (a : partAt n block q e + partSize n block ≤ partAt n block q u). near i (omega arith) (omega arith))
-                    (λ (a : partAt n block q u + partSize n block ≤ partAt n block q e). far i (omega arith))
-                    (parts-apart n block q e u (slots-apart q c e u from to low high other))
+          area-end : partAt n block q u + partSize n block ≤ (1 + q) * partSize n block
+          area-end = part-end n block q u (area .parts)
 
--- ---- every station
+          row-b : rowAt n block b + block ≤ partSize n block
+          row-b = row-inside n block b hb
 
--- f below v, and g from v on
-unfoldable upto : {A : Type 0} → ℕ → (ℕ → A) → (ℕ → A) → ℕ → A
-upto v f g u = cond (ltb u v) (f u) (g u)
+          -- behind the part of slot u, or between it and what is settled
+          far : (i : ℕ) → partAt n block q u + partSize n block ≤ i
+              → getD (settledOne lay n block (partAt n block q u) s col w b) i 0 ≡ getD w i 0
+          far i h =
+              let g = part .behind in
+              let r = row-b in
+              took .other i (omega arith) (omega arith) (omega arith) (omega arith) (inr (omega arith))
+
+          near : (i : ℕ) → partSize n block ≤ i → i < partAt n block q u
+              → getD (settledOne lay n block (partAt n block q u) s col w b) i 0 ≡ getD w i 0
+          near i h k =
+              let r = row-b in
+              took .other i (omega arith) (omega arith) (omega arith) (omega arith) (inr (omega arith))
+
+          -- the settled entry of another station stays
+          unmoved-hops : (v : ℕ) → v < n → v ≢ b → getD (settledOne lay n block (partAt n block q u) s col w b) v 0 ≡ getD w v 0
+          unmoved-hops v i d =
+              let g = part .behind in
+              took .other v (omega arith) (omega arith) (omega arith) (omega arith) (inl (omega arith))
+
+          unmoved-count : (v : ℕ) → v < n → v ≢ b
+              → getD (settledOne lay n block (partAt n block q u) s col w b) (v + n) 0 ≡ getD w (v + n) 0
+          unmoved-count v i d =
+              let g = part .behind in
+              took .other (v + n) (omega arith) (omega arith) (omega arith) (omega arith) (inl (omega arith))
+
+          -- settled hops do not rise
+          fewer : (v : ℕ) → v < n → getD (settledOne lay n block (partAt n block q u) s col w b) v 0 ≤ getD w v 0
+          fewer v i =
+              by-cases (ℕ-discrete v b)
+              (λ e. rw e (omega (arith, took .hops)))
+              (λ d. let g = part .behind in
+              omega (arith, took .other v (omega arith) (omega arith) (omega arith) (omega arith) (inl (omega arith))))
+
+          -- in the part of slot u
+          here : (v : ℕ) → v < n
+              → BestAt lay block (min 65535 (getD (settledOne lay n block (partAt n block q u) s col w b) v 0 + 1)) (y .waits u v)
+              (y .waits-avoiding u v) n (partAt n block q u + v) (partAt n block q u + rowAt n block v)
+              (settledOne lay n block (partAt n block q u) s col w b)
+          here v i =
+              by-cases (ℕ-discrete v b)
+              (λ e. rw e (best-same (took .no-hops) (took .no-count) (λ j l g. refl)
+              (best-none (omega arith) (z .here .cleared))))
+              (λ d.
+              let g = part .behind in
+              let r = row-b in
+              best-limit (let f = fewer v i in omega arith)
+              (best-ext (λ k. z .others-wait u v k (inr d)) (λ j k. z .others-wait-avoid u v j k (inr d))
+              (best-same
+              (took .other (partAt n block q u + v) (omega arith) (omega arith) (omega arith) (omega arith)
+              (inr (omega arith)))
+              (took .other (partAt n block q u + v + n) (omega arith) (omega arith) (omega arith) (omega arith)
+              (inr (omega arith)))
+              (λ j l h. took .other (partAt n block q u + rowAt n block v + j) (omega arith) (omega arith) (omega arith)
+              (omega arith) (inr (omega arith)))
+              (state .waits u v low high i))))
+
+          -- in another part
+          there : (e v : ℕ) → c < e → e ≤ c + q → v < n → e ≢ u
+              → BestAt lay block (min 65535 (getD (settledOne lay n block (partAt n block q u) s col w b) v 0 + 1)) (y .waits e v)
+              (y .waits-avoiding e v) n (partAt n block q e + v) (partAt n block q e + rowAt n block v)
+              (settledOne lay n block (partAt n block q u) s col w b)
+          there e v from to i other =
+              let r = row-inside n block v i in
+              best-limit (let f = fewer v i in omega arith)
+              (best-ext (λ k. z .others-wait e v k (inl other)) (λ j k. z .others-wait-avoid e v j k (inl other))
+              (best-same
+              (apart (partAt n block q e + v) v refl (omega arith))
+              (apart (partAt n block q e + v + n) (v + n) (omega arith) (omega arith))
+              (λ j l h. apart (partAt n block q e + rowAt n block v + j) (rowAt n block v + j) (omega arith) (omega arith))
+              (state .waits e v from to i)))
+            where
+              apart : (i o : ℕ) → i ≡ partAt n block q e + o → o < partSize n block
+                  → getD (settledOne lay n block (partAt n block q u) s col w b) i 0 ≡ getD w i 0
+              apart i o is small =
+                  let g = behind e in
+                  ⊎-elim (λ (a : partAt n block q e + partSize n block ≤ partAt n block q u). near i (omega arith) (omega arith))
+                  (λ (a : partAt n block q u + partSize n block ≤ partAt n block q e). far i (omega arith))
+                  (parts-apart n block q e u (slots-apart q c e u from to low high other))
+
+-- ---- the stations of a test
+
+-- f for the stations of a test, and g for the others
+unfoldable among : {A : Type 0} → (ℕ → Bool) → (ℕ → A) → (ℕ → A) → ℕ → A
+among h f g v = cond (h v) (f v) (g v)
+
+-- the stations of a test, and b
+unfoldable also : (ℕ → Bool) → ℕ → ℕ → Bool
+also h b v = eqb v b || h v
+
+also-own : (h : ℕ → Bool) (b : ℕ) → also h b b ≡ true
+unfolding also
+also-own h b = rw (eq-eqb b b refl)
+
+also-other : (h : ℕ → Bool) (b v : ℕ) → v ≢ b → also h b v ≡ h v
+unfolding also
+also-other h b v d = rw (ne-eqb v b d)
 
 module _ {A : Type 0} (f g : ℕ → A) where
-  upto-below : (v u : ℕ) → u < v → upto v f g u ≡ f u
-  unfolding upto
-  upto-below v u h = rw (lt-ltb u v h)
-
-  upto-from : (v u : ℕ) → v ≤ u → upto v f g u ≡ g u
-  unfolding upto
-  upto-from v u h = rw (le-ltb u v h)
-
   -- one station more changes no other
-  upto-other : (v u : ℕ) → u ≢ v → upto v f g u ≡ upto (v + 1) f g u
-  upto-other v u d =
-      by-cases (decLe (suc u) v)
-      (λ h. upto-below v u h ∙ sym (upto-below (v + 1) u (omega arith)))
-      (λ h. upto-from v u (omega arith) ∙ sym (upto-from (v + 1) u (omega arith)))
+  among-other : (h : ℕ → Bool) (b v : ℕ) → v ≢ b → among h f g v ≡ among (also h b) f g v
+  unfolding among
+  among-other h b v d = sym (ap (λ t. cond t (f v) (g v)) (also-other h b v d))
 
--- the stations below v are settled
-between : ℕ → Walks → Walks → Walks
-between v x y =
+  -- either way it is the same
+  among-same : (h h′ : ℕ → Bool) (v : ℕ) → g v ≡ f v → among h f g v ≡ among h′ f g v
+  unfolding among
+  among-same h h′ v e = go (h v) (h′ v)
+    where
+      go : (t t′ : Bool) → cond t (f v) (g v) ≡ cond t′ (f v) (g v)
+      go true true = refl
+      go true false = sym e
+      go false true = e
+      go false false = refl
+
+  -- it is f, where the others are the same
+  among-all : (h : ℕ → Bool) (v : ℕ) → (h v ≡ false → g v ≡ f v) → among h f g v ≡ f v
+  unfolding among
+  among-all h v e = go (h v) e
+    where
+      go : (t : Bool) → (t ≡ false → g v ≡ f v) → cond t (f v) (g v) ≡ f v
+      go true e = refl
+      go false e = e refl
+
+-- the stations of a test are settled
+pub between : (ℕ → Bool) → Walks → Walks → Walks
+between h x y =
     record {
-      settled = upto v (y .settled) (x .settled);
-      settled-avoiding = upto v (y .settled-avoiding) (x .settled-avoiding);
-      waits = λ e. upto v (y .waits e) (x .waits e);
-      waits-avoiding = λ e. upto v (y .waits-avoiding e) (x .waits-avoiding e);
+      settled = among h (y .settled) (x .settled);
+      settled-avoiding = among h (y .settled-avoiding) (x .settled-avoiding);
+      waits = λ e. among h (y .waits e) (x .waits e);
+      waits-avoiding = λ e. among h (y .waits-avoiding e) (x .waits-avoiding e);
     }
 
-sound-between : (v : ℕ) (x y : Walks) → Sound x → Sound y → Sound (between v x y)
-unfolding between upto
-sound-between v x y sx sy =
+sound-between : (h : ℕ → Bool) (x y : Walks) → Sound x → Sound y → Sound (between h x y)
+unfolding between among
+sound-between h x y sx sy =
     record {
-      settled = λ u j k. go _ _ _ _ j k (ltb u v) (sy .settled u j k) (sx .settled u j k);
-      waits = λ e u j k. go _ _ _ _ j k (ltb u v) (sy .waits e u j k) (sx .waits e u j k);
+      settled = λ v j k. go _ _ _ _ j k (h v) (sy .settled v j k) (sx .settled v j k);
+      waits = λ e v j k. go _ _ _ _ j k (h v) (sy .waits e v j k) (sx .waits e v j k);
     }
   where
     go : (N M : ℕ → ℕ) (P Q : ℕ → ℕ → ℕ) (j k : ℕ) (b : Bool) → P j k ≤ N k → Q j k ≤ M k
@@ -245,56 +388,64 @@ sound-between v x y sx sy =
 pub record Settles (may : ℕ → ℕ → Bool) (u : ℕ) (x y : Walks) : Type 0 where
   pub sound : Sound x
   pub sound-after : Sound y
-  pub closed : (v j k : ℕ) → may j v ≡ false → x .settled-avoiding v j k ≡ 0
-  pub settled : (v k : ℕ) → plus (x .settled v) (x .waits u v) k ≡ y .settled v k
-  pub avoids : (v j k : ℕ)
-      → cond (may j v) (plus (x .settled-avoiding v j) (x .waits-avoiding u v j) k) 0
-      ≡ y .settled-avoiding v j k
-  pub cleared : (v k : ℕ) → y .waits u v k ≡ 0
+  pub here : (v : ℕ) → SettlesStation may u v x y
   pub others : (e v k : ℕ) → e ≢ u → x .waits e v k ≡ y .waits e v k
   pub others-avoid : (e v j k : ℕ) → e ≢ u → x .waits-avoiding e v j k ≡ y .waits-avoiding e v j k
 
--- either way it is the same
-upto-same : {A : Type 0} (f g : ℕ → A) (v v′ u : ℕ) → g u ≡ f u → upto v f g u ≡ upto v′ f g u
-unfolding upto
-upto-same f g v v′ u e = go (ltb u v) (ltb u v′)
-  where
-    go : (b d : Bool) → cond b (f u) (g u) ≡ cond d (f u) (g u)
-    go true true = refl
-    go true false = sym e
-    go false true = e
-    go false false = refl
+module _ (may : ℕ → ℕ → Bool) (u : ℕ) (x y : Walks) (z : Settles may u x y) where
+  -- one station more is settled, or one once more
+  settles-one : (h : ℕ → Bool) (b : ℕ) → SettlesOne may u b (between h x y) (between (also h b) x y)
+  unfolding between among
+  settles-one h b =
+      record {
+        sound = sound-between h x y (z .sound) (z .sound-after);
+        sound-after = sound-between (also h b) x y (z .sound) (z .sound-after);
+        here = at-one;
+        others-settled = λ v k d. ap (λ f. f k) (among-other (y .settled) (x .settled) h b v d);
+        others-avoid = λ v j k d. ap (λ f. f j k) (among-other (y .settled-avoiding) (x .settled-avoiding) h b v d);
+        others-wait = λ e v k d. ⊎-elim
+            (λ other. ap (λ f. f k) (among-same (y .waits e) (x .waits e) h (also h b) v
+            (fun-ext (λ k. z .others e v k other))))
+            (λ other. ap (λ f. f k) (among-other (y .waits e) (x .waits e) h b v other)) d;
+        others-wait-avoid = λ e v j k d. ⊎-elim
+            (λ other. ap (λ f. f j k) (among-same (y .waits-avoiding e) (x .waits-avoiding e) h (also h b) v
+            (fun-ext (λ j. fun-ext (λ k. z .others-avoid e v j k other)))))
+            (λ other. ap (λ f. f j k) (among-other (y .waits-avoiding e) (x .waits-avoiding e) h b v other)) d;
+      }
+    where
+      go : (t : Bool) → SettlesAt (λ j. may j b) (cond t (y .settled b) (x .settled b)) (cond t (y .waits u b) (x .waits u b))
+          (y .settled b) (y .waits u b) (cond t (y .settled-avoiding b) (x .settled-avoiding b))
+          (cond t (y .waits-avoiding u b) (x .waits-avoiding u b)) (y .settled-avoiding b)
+      go true = again (z .here b) (z .sound-after .waits u b)
+      go false = z .here b
 
-settles-one : (may : ℕ → ℕ → Bool) (u : ℕ) (x y : Walks) → Settles may u x y → (v : ℕ)
-    → SettlesOne may u v (between v x y) (between (v + 1) x y)
-unfolding between
-settles-one may u x y z v =
-    record {
-      sound = sound-between v x y (z .sound) (z .sound-after);
-      sound-after = sound-between (v + 1) x y (z .sound) (z .sound-after);
-      closed = λ j k e. ap (λ f. f j k) (upto-from (y .settled-avoiding) (x .settled-avoiding) v v (omega arith))
-          ∙ z .closed v j k e;
-      settled = λ k. rw (
-        upto-from (y .settled) (x .settled) v v (omega arith),
-        upto-from (y .waits u) (x .waits u) v v (omega arith),
-        upto-below (y .settled) (x .settled) (v + 1) v (omega arith),
-      ) (z .settled v k);
-      avoids = λ j k. rw (
-        upto-from (y .settled-avoiding) (x .settled-avoiding) v v (omega arith),
-        upto-from (y .waits-avoiding u) (x .waits-avoiding u) v v (omega arith),
-        upto-below (y .settled-avoiding) (x .settled-avoiding) (v + 1) v (omega arith),
-      ) (z .avoids v j k);
-      cleared = λ k. ap (λ f. f k) (upto-below (y .waits u) (x .waits u) (v + 1) v (omega arith)) ∙ z .cleared v k;
-      others-settled = λ w k d. ap (λ f. f k) (upto-other (y .settled) (x .settled) v w d);
-      others-avoid = λ w j k d. ap (λ f. f j k) (upto-other (y .settled-avoiding) (x .settled-avoiding) v w d);
-      others-wait = λ e w k d. ⊎-elim
-          (λ other. ap (λ f. f k) (upto-same (y .waits e) (x .waits e) v (v + 1) w (fun-ext (λ k. z .others e w k other))))
-          (λ other. ap (λ f. f k) (upto-other (y .waits e) (x .waits e) v w other)) d;
-      others-wait-avoid = λ e w j k d. ⊎-elim
-          (λ other. ap (λ f. f j k) (upto-same (y .waits-avoiding e) (x .waits-avoiding e) v (v + 1) w
-          (fun-ext (λ j. fun-ext (λ k. z .others-avoid e w j k other)))))
-          (λ other. ap (λ f. f j k) (upto-other (y .waits-avoiding e) (x .waits-avoiding e) v w other)) d;
-    }
+      at-one : SettlesStation may u b (between h x y) (between (also h b) x y)
+      at-one = rw (also-own h b) (go (h b))
+
+  -- the state is that of all settled, where nothing waits for the others
+  state-all : {lay : Lanes} {n block q c : ℕ} {old : List ℕ} (h : ℕ → Bool) (w : List ℕ)
+      → ((v : ℕ) → v < n → h v ≡ false → (k : ℕ) → x .waits u v k ≡ 0)
+      → AreaState lay n block q c old (between h x y) w
+      → AreaState lay n block q c old y w
+  unfolding between
+  state-all h w none state =
+      state-ext (record {
+        settled = λ v i k. ap (λ f. f k) (among-all (y .settled) (x .settled) h v
+            (λ e. fun-ext (quiet (z .here v) (none v i e))));
+        settled-avoiding = λ v i j k. ap (λ f. f j k) (among-all (y .settled-avoiding) (x .settled-avoiding) h v
+            (λ e. fun-ext (λ j. fun-ext (quiet-avoiding (z .here v) (z .sound .waits u v) (none v i e) j))));
+        waits = λ e v i k. ap (λ f. f k) (among-all (y .waits e) (x .waits e) h v
+            (λ f. fun-ext (λ k. by-cases (ℕ-discrete e u)
+            (λ same. rw same (none v i f k ∙ sym (z .here v .cleared k)))
+            (z .others e v k))));
+        waits-avoiding = λ e v i j k. ap (λ f. f j k) (among-all (y .waits-avoiding e) (x .waits-avoiding e) h v
+            (λ f. fun-ext (λ j. fun-ext (λ k. by-cases (ℕ-discrete e u)
+            (λ same. rw same
+            (omega (arith, z .sound .waits u v j k, none v i f k, z .sound-after .waits u v j k, z .here v .cleared k)))
+            (z .others-avoid e v j k)))));
+      }) state
+
+-- ---- stations in turn
 
 -- some sequence that waits of slot u is large
 pub record SomeLarge (n u : ℕ) (x : Walks) : Type 0 where
@@ -302,104 +453,115 @@ pub record SomeLarge (n u : ℕ) (x : Walks) : Type 0 where
   pub inside : station < n
   pub large : Large (x .waits u station)
 
--- what a sweep from station v on leaves, from the sweep z
-record Swept (n block q c : ℕ) (old : List ℕ) (u : ℕ) (x y : Walks) (v : ℕ) (z out : Sweep) : Type 0 where
-  state : AreaState n block q c old y (out .work)
-  over : out .over ≡ true → (z .over ≡ true) ⊎ SomeLarge n u x
-  within : out .over ≡ false → (z .over ≡ false) × ((w : ℕ) → v ≤ w → w < n → Small (x .waits u w))
+-- What settling stations in turn leaves: the stations of a test are settled. It stops at a large sequence, or where a count
+-- does not fit one of several lanes; else every sequence is small, and all are settled.
+pub record Swept (lay : Lanes) (n block q c : ℕ) (old : List ℕ) (u : ℕ) (x y : Walks) (out : Sweep) : Type 0 where
+  pub test : ℕ → Bool
+  pub state : AreaState lay n block q c old (between test x y) (out .work)
+  pub over : out .over ≡ true → lay .lanes ≡ 1 → SomeLarge n u x
+  pub all : out .over ≡ false → AreaState lay n block q c old y (out .work)
+  pub small : out .over ≡ false → (v : ℕ) → v < n → Small (x .waits u v)
 
--- an or that is true, and one that is false
-pub or-inv : (a b : Bool) → (a || b) ≡ true → (a ≡ true) ⊎ (b ≡ true)
-or-inv true b e = inl refl
-or-inv false b e = inr e
+-- a sequence of none is small, and not large
+none-small : {N : ℕ → ℕ} → ((k : ℕ) → N k ≡ 0) → Small N
+none-small z = record { small = λ h f. omega (arith, z h) }
 
-pub or-none : (a b : Bool) → (a || b) ≡ false → (a ≡ false) × (b ≡ false)
-or-none true b e = let z : _≡_ {A = ℕ} 0 1 = cc in absurd (omega arith)
-or-none false b e = (refl, e)
+none-large : {N : ℕ → ℕ} → ((k : ℕ) → N k ≡ 0) → Large N → ⊥
+none-large z l = omega (arith, z (l .hops), l .large)
 
-module _ (n block q c : ℕ) (old : List ℕ) (area : Area n block q old) (s : ℕ) (col : ℕ → ℕ) (u : ℕ) (low : c < u) (high : u ≤ c + q)
-    (x y : Walks) (z : Settles (mayLeave s col) u x y) where
-  swept : (k v : ℕ) (b : Sweep) → v + k ≡ n → AreaState n block q c old (between v x y) (b .work)
-      → Swept n block q c old u x y v b (settledFrom n block (partAt n block q u) s col b v k)
-  unfolding settledFrom settledNext between
-  swept zero v b e state =
+module _ (f : ℕ → ℕ) (lay : Lanes) (full : Filled lay) (n block q c : ℕ) (old : List ℕ) (area : Area n block q old) (s : ℕ)
+    (col : ℕ → ℕ) (u : ℕ) (low : c < u) (high : u ≤ c + q) (x y : Walks) (z : Settles (mayLeave s col) u x y) where
+  -- from f i on, with the stations of a test settled
+  swept : (k i : ℕ) (h : ℕ → Bool) (w : List ℕ)
+      → ((m : ℕ) → i ≤ m → m < i + k → f m < n)
+      → ((v : ℕ) → v < n → h v ≡ true → Small (x .waits u v))
+      → ((v : ℕ) → v < n → h v ≡ false → ((m : ℕ) → i ≤ m → m < i + k → v ≢ f m)
+      → (k : ℕ) → x .waits u v k ≡ 0)
+      → AreaState lay n block q c old (between h x y) w
+      → Swept lay n block q c old u x y (settledBy f lay n block (partAt n block q u) s col w i k)
+  unfolding settledBy between among
+  swept zero i h w inside few rest state =
       record {
-        state = state-ext (record {
-          settled = λ w h k. ap (λ f. f k) (upto-below (y .settled) (x .settled) v w (omega arith));
-          settled-avoiding = λ w h j k. ap (λ f. f j k)
-              (upto-below (y .settled-avoiding) (x .settled-avoiding) v w (omega arith));
-          waits = λ i w h k. ap (λ f. f k) (upto-below (y .waits i) (x .waits i) v w (omega arith));
-          waits-avoiding = λ i w h j k. ap (λ f. f j k)
-              (upto-below (y .waits-avoiding i) (x .waits-avoiding i) v w (omega arith));
-        }) state;
-        over = inl;
-        within = λ h. (h, λ w from inside. absurd (omega arith));
+        test = h;
+        state = state;
+        over = λ e. absurd (not-both e refl);
+        all = λ e. state-all (mayLeave s col) u x y z h w none state;
+        small = λ e v hv. go v hv (h v) refl;
       }
-  swept (suc k) v b e state =
-      after (swept k (v + 1) (settledNext n block (partAt n block q u) s col b v) (omega arith) next)
     where
-      next : AreaState n block q c old (between (v + 1) x y) (settledNext n block (partAt n block q u) s col b v .work)
-      next =
-          settled-state n block q c old area s col u low high (between v x y) (between (v + 1) x y) (b .work) v (omega arith)
-          (settles-one (mayLeave s col) u x y z v) state
+      none : (v : ℕ) → v < n → h v ≡ false → (k : ℕ) → x .waits u v k ≡ 0
+      none v hv e = rest v hv e (λ m low high. absurd (omega arith))
 
-      holds : BestAt block (min 65535 (getD (b .work) v 0 + 1)) (x .waits u v) (x .waits-avoiding u v) n (partAt n block q u + v)
-          (partAt n block q u + rowAt n block v) (b .work)
-      holds =
-          best-ext (λ k. ap (λ f. f k) (upto-from (y .waits u) (x .waits u) v v (omega arith)))
-          (λ j k. ap (λ f. f j k) (upto-from (y .waits-avoiding u) (x .waits-avoiding u) v v (omega arith)))
-          (state .waits u v low high (omega arith))
+      go : (v : ℕ) → v < n → (t : Bool) → h v ≡ t → Small (x .waits u v)
+      go v hv true e = few v hv e
+      go v hv false e = none-small (none v hv e)
+  swept (suc k) i h w inside few rest state =
+      go (stopsAt lay n (partAt n block q u) w b) refl (λ e. swept k (i + 1) (also h b) _ (λ m from to. inside m (omega arith) (omega arith))
+      (now-few e) now-rest (next e))
+    where
+      b : ℕ
+      b = f i
 
-      after : Swept n block q c old u x y (v + 1) (settledNext n block (partAt n block q u) s col b v)
-          (settledFrom n block (partAt n block q u) s col (settledNext n block (partAt n block q u) s col b v) (v + 1) k)
-          → Swept n block q c old u x y v b
-          (settledFrom n block (partAt n block q u) s col (settledNext n block (partAt n block q u) s col b v) (v + 1) k)
-      after r =
+      here : b < n
+      here = inside i (omega arith) (omega arith)
+
+      -- what waits for it, settled already or not
+      waits-at : (t : Bool) → h b ≡ t → between h x y .waits u b ≡ cond t (y .waits u b) (x .waits u b)
+      waits-at t e = rw e
+
+      next : stopsAt lay n (partAt n block q u) w b ≡ false
+          → AreaState lay n block q c old (between (also h b) x y) (settledOne lay n block (partAt n block q u) s col w b)
+      next e =
+          settled-state lay full n block q c old area s col u low high (between h x y) (between (also h b) x y) w b here
+          (settles-one (mayLeave s col) u x y z h b) (goes-thin lay n (partAt n block q u) w b e) state
+
+      -- the stations that are settled then have small sequences
+      now-few : stopsAt lay n (partAt n block q u) w b ≡ false → (v : ℕ) → v < n → also h b v ≡ true → Small (x .waits u v)
+      now-few e v hv t =
+          by-cases (ℕ-discrete v b) (λ same. rw same (go (h b) refl)) (λ d. few v hv (sym (also-other h b v d) ∙ t))
+        where
+          go : (t : Bool) → h b ≡ t → Small (x .waits u b)
+          go true g = few b here g
+          go false g = subst Small (waits-at false g) (overflow-small (state .waits u b low high here .entry) (goes-small lay n (partAt n block q u) w b e))
+
+      -- nothing waits for a station that is not, and that no record left has as hearer
+      now-rest : (v : ℕ) → v < n → also h b v ≡ false
+          → ((m : ℕ) → i + 1 ≤ m → m < i + 1 + k → v ≢ f m) → (k : ℕ) → x .waits u v k ≡ 0
+      now-rest v hv t other =
+          by-cases (ℕ-discrete v b) (λ same. absurd (not-both (also-own h b) (rw same at t)))
+          (λ d. rest v hv (sym (also-other h b v d) ∙ t) (λ m from to. by-cases (ℕ-discrete m i) (λ at. rw at d)
+          (λ past. other m (omega arith) (omega arith))))
+
+      -- a sequence that is large is not settled yet
+      large : Large (between h x y .waits u b) → SomeLarge n u x
+      large l = go (h b) refl
+        where
+          go : (t : Bool) → h b ≡ t → SomeLarge n u x
+          go true g = absurd (none-large (z .here b .cleared) (subst Large (waits-at true g) l))
+          go false g = record { station = b; inside = here; large = subst Large (waits-at false g) l }
+
+      go : (t : Bool) → stopsAt lay n (partAt n block q u) w b ≡ t
+          → (t ≡ false → Swept lay n block q c old u x y (settledBy f lay n block (partAt n block q u) s col
+          (settledOne lay n block (partAt n block q u) s col w b) (i + 1) k))
+          → Swept lay n block q c old u x y (cond t (sweepOf true w) (settledBy f lay n block (partAt n block q u) s col
+          (settledOne lay n block (partAt n block q u) s col w b) (i + 1) k))
+      go true e r =
           record {
-            state = r .state;
-            over = λ h. ⊎-elim
-                (λ i. ⊎-elim inl
-                (λ o. inr (record { station = v; inside = omega arith; large = overflow-large (holds .entry) o }))
-                (or-inv (b .over) (areaOverflows n (b .work) (partAt n block q u + v)) i))
-                inr (r .over h);
-            within = λ h.
-                let (a, rest) = r .within h in
-                let (f, d) = or-none (b .over) (areaOverflows n (b .work) (partAt n block q u + v)) a in (
-                  f,
-                  λ w from inside. by-cases (ℕ-discrete w v)
-                      (λ same. rw same (overflow-small (holds .entry) d)) (λ ne. rest w (omega arith) inside),
-                );
+            test = h;
+            state = state;
+            over = λ g one. large (overflow-large (state .waits u b low high here .entry) (stops-whole lay n (partAt n block q u) w b one e));
+            all = λ g. absurd (not-both refl g);
+            small = λ g. absurd (not-both refl g);
           }
+      go false e r = r refl
 
-  begin : (w : List ℕ) → AreaState n block q c old x w → AreaState n block q c old (between 0 x y) w
-  unfolding between
-  begin w state =
-      state-ext (record {
-        settled = λ v h k. ap (λ f. f k) (sym (upto-from (y .settled) (x .settled) 0 v (omega arith)));
-        settled-avoiding = λ v h j k. ap (λ f. f j k)
-            (sym (upto-from (y .settled-avoiding) (x .settled-avoiding) 0 v (omega arith)));
-        waits = λ e v h k. ap (λ f. f k) (sym (upto-from (y .waits e) (x .waits e) 0 v (omega arith)));
-        waits-avoiding = λ e v h j k. ap (λ f. f j k)
-            (sym (upto-from (y .waits-avoiding e) (x .waits-avoiding e) 0 v (omega arith)));
-      }) state
-
-  -- Settling a slot: the state is that of the sequences after it; a count over 2^64 - 1 is met just where a sequence that waits
-  -- is large.
-  pub settled-all : (w : List ℕ) → AreaState n block q c old x w
-      → AreaState n block q c old y (settledFrom n block (partAt n block q u) s col (sweepOf false w) 0 n .work)
-  settled-all w state = swept n 0 (sweepOf false w) (omega arith) (begin w state) .state
-
-  -- where the flag is set, one is large
-  pub settled-over : (w : List ℕ) → AreaState n block q c old x w
-      → settledFrom n block (partAt n block q u) s col (sweepOf false w) 0 n .over ≡ true
-      → SomeLarge n u x
-  settled-over w state e =
-      ⊎-elim (λ (h : _≡_ {A = Bool} false true). let z : _≡_ {A = ℕ} 0 1 = cc in absurd (omega arith)) (λ h. h)
-      (swept n 0 (sweepOf false w) (omega arith) (begin w state) .over e)
-
-  -- where it is not, every one is small
-  pub settled-within : (w : List ℕ) → AreaState n block q c old x w
-      → settledFrom n block (partAt n block q u) s col (sweepOf false w) 0 n .over ≡ false
-      → (v : ℕ) → v < n → Small (x .waits u v)
-  settled-within w state e v inside =
-      swept n 0 (sweepOf false w) (omega arith) (begin w state) .within e .1 v (omega arith) inside
+  -- Settling k stations from f i on, where nothing waits for any other.
+  pub settled-stations : (k i : ℕ) (w : List ℕ)
+      → ((m : ℕ) → i ≤ m → m < i + k → f m < n)
+      → ((v : ℕ) → v < n → ((m : ℕ) → i ≤ m → m < i + k → v ≢ f m) → (k : ℕ) → x .waits u v k ≡ 0)
+      → AreaState lay n block q c old x w
+      → Swept lay n block q c old u x y (settledBy f lay n block (partAt n block q u) s col w i k)
+  unfolding between among
+  settled-stations k i w inside rest state =
+      swept k i (λ v. false) w inside (λ v hv e. absurd (not-both e refl)) (λ v hv e. rest v hv)
+      (record { same = state .same; beyond = state .beyond; settled = state .settled; waits = state .waits; thin = state .thin })

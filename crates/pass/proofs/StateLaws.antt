@@ -10,17 +10,19 @@ use mathlib.Core.Logic.{_⊎_, inl, inr, ⊎-elim, by-cases, _≢_}
 use lib.ListN.{length, getD}
 use Rattle.counting.proofs.Fewest.{plus, delayed}
 use Rattle.pass.specs.Row.{mergedRow, partSize, rowAt, partAt}
+use Rattle.pass.specs.Column.{Lanes}
 use Rattle.entries.specs.Entry.{mergedCount}
 use Rattle.entries.proofs.EntryLaws.{delayed-zero, plus-none}
 use Rattle.pass.specs.Sweep.{sentArea, PartFits, Area}
 use Rattle.pass.proofs.PlaceLaws.{row-before, row-inside, row-settled, row-waiting, area-kept, part-fits}
 use Rattle.pass.proofs.PlaceLaws.{place-apart, parts-apart, part-again, sent-row, sent-pruned, sent-none}
 use Rattle.pass.proofs.BestLaws.{Best, best-ext, best-same, best-empty, best-merge, best-delayed, row-more}
+use Rattle.pass.proofs.MaskLaws.{Thin}
 use Rattle.pass.proofs.TookLaws.{Took, merged-took, absorbed-took, took-outside}
 
 -- the entry at a place, with the row at another, is the best of N and M
-abbrev pub BestAt : ℕ → ℕ → (ℕ → ℕ) → (ℕ → ℕ → ℕ) → ℕ → ℕ → ℕ → List ℕ → Type 0
-BestAt block limit N M n at row w = Best block limit N M (getD w at 0) (getD w (at + n) 0) (λ j. getD w (row + j) 0)
+abbrev pub BestAt : Lanes → ℕ → ℕ → (ℕ → ℕ) → (ℕ → ℕ → ℕ) → ℕ → ℕ → ℕ → List ℕ → Type 0
+BestAt lay block limit N M n at row w = Best lay block limit N M (getD w at 0) (getD w (at + n) 0) (λ j. getD w (row + j) 0)
 
 -- the sequences of the stations, settled and waiting by slot, and those of them, by column, that avoid the column's stations
 pub record Walks : Type 0 where
@@ -35,15 +37,16 @@ pub record Sound (x : Walks) : Type 0 where
   pub waits : (e v j k : ℕ) → x .waits-avoiding e v j k ≤ x .waits e v k
 
 -- The work area holds them, with what waits of the q slots past c. The row of a waiting entry with more hops than the settled one is
--- not looked at.
-pub record AreaState (n block q c : ℕ) (old : List ℕ) (x : Walks) (w : List ℕ) : Type 0 where
+-- not looked at. Settled counts fit their lanes.
+pub record AreaState (lay : Lanes) (n block q c : ℕ) (old : List ℕ) (x : Walks) (w : List ℕ) : Type 0 where
   pub same : length w ≡ length old
   pub beyond : (i : ℕ) → (1 + q) * partSize n block ≤ i → getD w i 0 ≡ getD old i 0
   pub settled : (v : ℕ) → v < n
-      → BestAt block 65535 (x .settled v) (x .settled-avoiding v) n v (rowAt n block v) w
+      → BestAt lay block 65535 (x .settled v) (x .settled-avoiding v) n v (rowAt n block v) w
   pub waits : (e v : ℕ) → c < e → e ≤ c + q → v < n
-      → BestAt block (min 65535 (getD w v 0 + 1)) (x .waits e v) (x .waits-avoiding e v) n (partAt n block q e + v)
+      → BestAt lay block (min 65535 (getD w v 0 + 1)) (x .waits e v) (x .waits-avoiding e v) n (partAt n block q e + v)
       (partAt n block q e + rowAt n block v) w
+  pub thin : (v : ℕ) → v < n → getD w v 0 < 65535 → Thin lay (getD w (v + n) 0)
 
 -- fewer walks are fewer one hop later
 pub delayed-less : {N M : ℕ → ℕ} → ((k : ℕ) → M k ≤ N k) → (k : ℕ) → delayed M k ≤ delayed N k
@@ -59,22 +62,23 @@ pub record Agree (n : ℕ) (x y : Walks) : Type 0 where
   pub waits-avoiding : (e v : ℕ) → v < n → (j k : ℕ) → x .waits-avoiding e v j k ≡ y .waits-avoiding e v j k
 
 -- the state is one of sequences that agree
-pub state-ext : {n block q c : ℕ} {old : List ℕ} {x y : Walks} {w : List ℕ} → Agree n x y → AreaState n block q c old x w
-    → AreaState n block q c old y w
+pub state-ext : {lay : Lanes} {n block q c : ℕ} {old : List ℕ} {x y : Walks} {w : List ℕ} → Agree n x y → AreaState lay n block q c old x w
+    → AreaState lay n block q c old y w
 state-ext a s =
     record {
       same = s .same;
       beyond = s .beyond;
       settled = λ v h. best-ext (a .settled v h) (a .settled-avoiding v h) (s .settled v h);
       waits = λ e v low high h. best-ext (a .waits e v h) (a .waits-avoiding e v h) (s .waits e v low high h);
+      thin = s .thin;
     }
 
 -- the q slots past c are the q slots past c + 1, where nothing waits of the first and of the new one
-pub state-on : {n block q c : ℕ} {old : List ℕ} {x : Walks} {w : List ℕ} → 0 < q
+pub state-on : {lay : Lanes} {n block q c : ℕ} {old : List ℕ} {x : Walks} {w : List ℕ} → 0 < q
     → ((v k : ℕ) → x .waits (c + 1) v k ≡ 0) → ((v k : ℕ) → x .waits (c + 1 + q) v k ≡ 0)
-    → AreaState n block q c old x w
-    → AreaState n block q (c + 1) old x w
-state-on {n} {block} {q} {c} {old} {x} {w} some first last s =
+    → AreaState lay n block q c old x w
+    → AreaState lay n block q (c + 1) old x w
+state-on {lay} {n} {block} {q} {c} {old} {x} {w} some first last s =
     record {
       same = s .same;
       beyond = s .beyond;
@@ -83,6 +87,7 @@ state-on {n} {block} {q} {c} {old} {x} {w} some first last s =
           (λ new. rw new (rw (part-again n block q (c + 1))
           (best-empty (omega arith) (first v) (last v) (s .waits (c + 1) v (omega arith) (omega arith) h))))
           (λ old. s .waits e v (omega arith) (omega arith) h);
+      thin = s .thin;
     }
 
 -- two of the q slots past c have different parts
@@ -108,18 +113,18 @@ row-outside n block e f j d q =
     (λ h. inl (let a = row-before block e f h in omega arith))
     (λ h. inr (let a = row-before block f e (omega arith) in omega arith))
 
-module _ (n block q c : ℕ) (old : List ℕ) (area : Area n block q old) where
+module _ (lay : Lanes) (n block q c : ℕ) (old : List ℕ) (area : Area n block q old) where
   -- ---- one waiting entry took walks in
 
-  took-state : (x y : Walks) (w w′ : List ℕ) (u b : ℕ) → c < u → u ≤ c + q → b < n → AreaState n block q c old x w
+  took-state : (x y : Walks) (w w′ : List ℕ) (u b : ℕ) → c < u → u ≤ c + q → b < n → AreaState lay n block q c old x w
       → (h d : ℕ) (r : ℕ → ℕ)
       → Took n block (partAt n block q u + b) (partAt n block q u + rowAt n block b) w w′ h d r
-      → Best block (min 65535 (getD w b 0 + 1)) (y .waits u b) (y .waits-avoiding u b) h d r
+      → Best lay block (min 65535 (getD w b 0 + 1)) (y .waits u b) (y .waits-avoiding u b) h d r
       → ((v k : ℕ) → x .settled v k ≡ y .settled v k)
       → ((v j k : ℕ) → x .settled-avoiding v j k ≡ y .settled-avoiding v j k)
       → ((e v k : ℕ) → (e ≢ u) ⊎ (v ≢ b) → x .waits e v k ≡ y .waits e v k)
       → ((e v j k : ℕ) → (e ≢ u) ⊎ (v ≢ b) → x .waits-avoiding e v j k ≡ y .waits-avoiding e v j k)
-      → AreaState n block q c old y w′
+      → AreaState lay n block q c old y w′
   took-state x y w w′ u b low high hb s h d r took best es esa ep epa =
       record {
         same = took .same ∙ s .same;
@@ -133,6 +138,7 @@ module _ (n block q c : ℕ) (old : List ℕ) (area : Area n block q old) where
         waits = λ e v from to hv. by-cases (ℕ-discrete e u)
             (λ same. rw same (here v hv))
             (λ other. there e v from to hv other);
+        thin = λ v hv g. rw (outside (v + n) (inl (let f = part .behind in omega arith))) (s .thin v hv (rw (settled-hops v hv) at g));
       }
     where
       part : PartFits n block (partAt n block q u) w
@@ -149,7 +155,7 @@ module _ (n block q c : ℕ) (old : List ℕ) (area : Area n block q old) where
 
       -- in the same part
       here : (v : ℕ) → v < n
-          → BestAt block (min 65535 (getD w′ v 0 + 1)) (y .waits u v) (y .waits-avoiding u v) n (partAt n block q u + v)
+          → BestAt lay block (min 65535 (getD w′ v 0 + 1)) (y .waits u v) (y .waits-avoiding u v) n (partAt n block q u + v)
           (partAt n block q u + rowAt n block v) w′
       here v hv =
           by-cases (ℕ-discrete v b)
@@ -165,7 +171,7 @@ module _ (n block q c : ℕ) (old : List ℕ) (area : Area n block q old) where
 
       -- in another part
       there : (e v : ℕ) → c < e → e ≤ c + q → v < n → e ≢ u
-          → BestAt block (min 65535 (getD w′ v 0 + 1)) (y .waits e v) (y .waits-avoiding e v) n (partAt n block q e + v)
+          → BestAt lay block (min 65535 (getD w′ v 0 + 1)) (y .waits e v) (y .waits-avoiding e v) n (partAt n block q e + v)
           (partAt n block q e + rowAt n block v) w′
       there e v from to hv other =
           let row = row-inside n block v hv in
@@ -187,7 +193,7 @@ module _ (n block q c : ℕ) (old : List ℕ) (area : Area n block q old) where
 
   -- what is settled for a, one hop later, waits for b too, of slot u
   pub sent-state : (x y : Walks) (w : List ℕ) (u a b : ℕ) → c < u → u ≤ c + q → a < n → b < n → Sound x
-      → AreaState n block q c old x w
+      → AreaState lay n block q c old x w
       → (getD w a 0 < 65535 → getD w a 0 + 1 < 65535)
       → ((v k : ℕ) → x .settled v k ≡ y .settled v k)
       → ((v j k : ℕ) → x .settled-avoiding v j k ≡ y .settled-avoiding v j k)
@@ -195,7 +201,7 @@ module _ (n block q c : ℕ) (old : List ℕ) (area : Area n block q old) where
       → ((j k : ℕ) → plus (x .waits-avoiding u b j) (delayed (x .settled-avoiding a j)) k ≡ y .waits-avoiding u b j k)
       → ((e v k : ℕ) → (e ≢ u) ⊎ (v ≢ b) → x .waits e v k ≡ y .waits e v k)
       → ((e v j k : ℕ) → (e ≢ u) ⊎ (v ≢ b) → x .waits-avoiding e v j k ≡ y .waits-avoiding e v j k)
-      → AreaState n block q c old y (sentArea n block (partAt n block q u) w a b)
+      → AreaState lay n block q c old y (sentArea n block (partAt n block q u) w a b)
   sent-state x y w u a b low high ha hb sound s few es esa here herea ep epa =
       by-cases (decLe 65535 (getD w a 0)) nothing (λ g. something (omega arith))
     where
@@ -208,7 +214,7 @@ module _ (n block q c : ℕ) (old : List ℕ) (area : Area n block q old) where
       less : (j k : ℕ) → delayed (x .settled-avoiding a j) k ≤ delayed (x .settled a) k
       less j = delayed-less (sound .settled a j)
 
-      nothing : 65535 ≤ getD w a 0 → AreaState n block q c old y (sentArea n block (partAt n block q u) w a b)
+      nothing : 65535 ≤ getD w a 0 → AreaState lay n block q c old y (sentArea n block (partAt n block q u) w a b)
       nothing none-there =
           let f = s .settled a ha .entry .fewest in
           let none : (k : ℕ) → x .settled a k ≡ 0 = f .never (let g = f .bound in omega arith) in
@@ -230,7 +236,7 @@ module _ (n block q c : ℕ) (old : List ℕ) (area : Area n block q old) where
                 (λ d. epa e v j k (inl d));
           }) s)
 
-      something : getD w a 0 < 65535 → AreaState n block q c old y (sentArea n block (partAt n block q u) w a b)
+      something : getD w a 0 < 65535 → AreaState lay n block q c old y (sentArea n block (partAt n block q u) w a b)
       something some =
           let behind = part .behind in
           let fits = part .fits in
@@ -256,7 +262,7 @@ module _ (n block q c : ℕ) (old : List ℕ) (area : Area n block q old) where
           (inr (omega arith)))
           best es esa ep epa))
         where
-          best : Best block (min 65535 (getD w b 0 + 1)) (y .waits u b) (y .waits-avoiding u b)
+          best : Best lay block (min 65535 (getD w b 0 + 1)) (y .waits u b) (y .waits-avoiding u b)
               (min (getD w (partAt n block q u + b) 0) (getD w a 0 + 1))
               (mergedCount (getD w (partAt n block q u + b) 0) (getD w (partAt n block q u + b + n) 0) (getD w a 0 + 1)
               (getD w (a + n) 0))
@@ -264,7 +270,7 @@ module _ (n block q c : ℕ) (old : List ℕ) (area : Area n block q old) where
               (getD w (partAt n block q u + rowAt n block b + j) 0) (getD w (rowAt n block a + j) 0))
           best =
               best-ext here herea
-              (best-merge (x .waits u b) (delayed (x .settled a)) (x .waits-avoiding u b)
+              (best-merge lay (x .waits u b) (delayed (x .settled a)) (x .waits-avoiding u b)
               (λ j. delayed (x .settled-avoiding a j)) (sound .waits u b) less
               (getD w (partAt n block q u + b) 0) (getD w (partAt n block q u + b + n) 0) (getD w a 0 + 1) (getD w (a + n) 0)
               (min 65535 (getD w b 0 + 1)) 65535 (min 65535 (getD w b 0 + 1))

@@ -1,26 +1,25 @@
 -- What stands in every place of the work area after an entry and its row took walks in, after a mask, and after a
 -- station is settled. Assumes nothing.
-use Prim.Native.Nat.{ℕ, _+_, _*_, _<_, _≤_, min}
+use Prim.Native.Nat.{ℕ, _+_, _*_, _/_, _%_, _<_, _≤_, min}
 use native.Mathlib.Omega.{arith}
-use native.Mathlib.Decide.{decLe, ℕ-discrete}
+use native.Mathlib.Nat.{div-lt-iff-lt-mul}
 use mathlib.Core.Path.{_≡_, refl, sym, ap, _∙_}
-use mathlib.Core.Bool.{Bool, true, false, cond, not, or-true, or-false}
+use mathlib.Core.Bool.{Bool, true, false, cond, not, _&&_}
 use mathlib.Core.List.{List}
-use mathlib.Core.Logic.{_⊎_, inl, inr, ⊎-elim, by-cases, _≢_}
-use borrow.Author.Tests.{ltb-true, lt-ltb, eq-eqb, ne-eqb}
+use mathlib.Core.Logic.{_⊎_, inl, inr, ⊎-elim, _≢_}
+use borrow.Author.Tests.{ltb-true, lt-ltb, eqb-true, eqb-false}
 use lib.Dec.{ltb, eqb}
 use lib.ListN.{length, getD, set, length-set}
 use lib.Seq.{getD-set-same, getD-set-other, lt-length-set}
-use Rattle.counting.proofs.Through.{avoidingSet}
 use Rattle.pass.specs.Row.{combined, mergedRow, partSize, rowAt}
 use Rattle.entries.specs.Entry.{mergedCount}
 use Rattle.pass.specs.Entry.{mergedArea, absorbed, Absorbable}
-use Rattle.pass.specs.Sweep.{masked, settledOne, PartFits}
+use Rattle.lanes.specs.Lane.{withoutLane}
+use Rattle.pass.specs.Column.{Lanes}
+use Rattle.pass.specs.Sweep.{clearedColumn, masked, settledOne, PartFits}
 use Rattle.pass.proofs.RowLaws.{combined-length, combined-other, combined-at}
 use Rattle.pass.proofs.EntryLaws.{merged-length}
-use Rattle.pass.proofs.PlaceLaws.{masked-source, masked-none, masked-own}
 use Rattle.pass.proofs.PlaceLaws.{row-inside, row-settled, row-waiting, set-twice-length}
-use Rattle.pass.proofs.ColumnLaws.{mayLeave}
 
 -- the entry at a place has new hops, a new count and a new row, and every other place is as it was
 pub record Took (n block at row : ℕ) (old new : List ℕ) (h c : ℕ) (r : ℕ → ℕ) : Type 0 where
@@ -90,56 +89,66 @@ absorbed-took n block w at row from l d a apart =
 
 -- ---- a mask
 
-module _ (n block s : ℕ) (col : ℕ → ℕ) (w : List ℕ) (v : ℕ) where
-  masked-length : length (masked n block s col w v) ≡ length w
-  unfolding masked
-  masked-length = go (eqb v s) (ltb (col v) block)
+-- the column of v lies in entry e of v's own row, and v is not the source
+unfoldable pub ownIn : Lanes → ℕ → ℕ → (ℕ → ℕ) → ℕ → ℕ → Bool
+ownIn lay block s col v e = not (eqb v s) && (ltb (col v) (block * lay .lanes) && eqb (col v / lay .lanes) e)
+
+-- entry e of v's own row, with its column cleared
+unfoldable pub clearedEntry : Lanes → ℕ → ℕ → (ℕ → ℕ) → ℕ → ℕ → ℕ → ℕ
+clearedEntry lay block s col v e x = cond (ownIn lay block s col v e) (withoutLane (lay .width) x (col v % lay .lanes)) x
+
+module _ (lay : Lanes) (some-lane : 0 < lay .lanes) (n block s : ℕ) (col : ℕ → ℕ) (w : List ℕ) (v : ℕ) where
+  masked-length : length (masked lay n block s col w v) ≡ length w
+  unfolding masked clearedColumn
+  masked-length = go (eqb v s) (ltb (col v) (block * lay .lanes))
     where
-      go : (a b : Bool) → length (cond a w (cond b (set w (rowAt n block v + col v) 0) w)) ≡ length w
+      go : (a b : Bool) → length (cond a w (cond b (clearedColumn lay w (rowAt n block v) (col v)) w)) ≡ length w
       go true b = refl
-      go false true = length-set w (rowAt n block v + col v) 0
+      go false true = length-set w (rowAt n block v + col v / lay .lanes) _
       go false false = refl
+
+  -- a column lies in an entry of the row
+  column-inside : col v < block * lay .lanes → col v / lay .lanes < block
+  column-inside h = div-lt-iff-lt-mul some-lane .1 h
 
   -- a place outside of the row stays
   masked-other : (i : ℕ) → (i < rowAt n block v) ⊎ (rowAt n block v + block ≤ i)
-      → getD (masked n block s col w v) i 0 ≡ getD w i 0
-  unfolding masked
-  masked-other i out = go (eqb v s) (ltb (col v) block) refl
+      → getD (masked lay n block s col w v) i 0 ≡ getD w i 0
+  unfolding masked clearedColumn
+  masked-other i out = go (eqb v s) (ltb (col v) (block * lay .lanes)) refl
     where
-      go : (a b : Bool) → ltb (col v) block ≡ b →
-          getD (cond a w (cond b (set w (rowAt n block v + col v) 0) w)) i 0 ≡ getD w i 0
+      go : (a b : Bool) → ltb (col v) (block * lay .lanes) ≡ b →
+          getD (cond a w (cond b (clearedColumn lay w (rowAt n block v) (col v)) w)) i 0 ≡ getD w i 0
       go true b e = refl
       go false true e =
-          let inside = ltb-true (col v) block e in
-          getD-set-other w (rowAt n block v + col v) i 0 0
+          let inside = column-inside (ltb-true (col v) (block * lay .lanes) e) in
+          getD-set-other w (rowAt n block v + col v / lay .lanes) i _ 0
           (⊎-elim (λ (h : i < rowAt n block v). omega arith) (λ (h : rowAt n block v + block ≤ i). omega arith) out)
       go false false e = refl
 
-  -- a column in which no walk may go on from v becomes 0
-  masked-at : (j : ℕ) → j < block → rowAt n block v + block ≤ length w
-      → getD (masked n block s col w v) (rowAt n block v + j) 0
-      ≡ cond (mayLeave s col j v) (getD w (rowAt n block v + j) 0) 0
-  unfolding mayLeave avoidingSet
-  masked-at j q fits =
-      by-cases (ℕ-discrete v s)
-      (λ e. rw (masked-source n block s col w v e, eq-eqb v s e, or-true (not (eqb (col v) j))))
-      (λ d. rw (ne-eqb v s d, or-false (not (eqb (col v) j)))
-      (by-cases (ℕ-discrete (col v) j)
-      (λ own. rw (eq-eqb (col v) j own)
-      (sym (ap (λ l. getD l (rowAt n block v + j) 0)
-      (masked-own n block s col w v (rowAt n block v) j refl (sym own) d q))
-      ∙ getD-set-same w (rowAt n block v + j) 0 0 (omega arith)))
-      (λ other. rw (ne-eqb (col v) j other) (elsewhere d other))))
+  -- an entry of the row has the column of v cleared, where it holds it
+  masked-at : (e : ℕ) → e < block → rowAt n block v + block ≤ length w
+      → getD (masked lay n block s col w v) (rowAt n block v + e) 0 ≡ clearedEntry lay block s col v e (getD w (rowAt n block v + e) 0)
+  unfolding masked clearedColumn clearedEntry ownIn
+  masked-at e q fits = go (eqb v s) (ltb (col v) (block * lay .lanes)) refl
     where
-      elsewhere : v ≢ s → col v ≢ j
-          → getD (masked n block s col w v) (rowAt n block v + j) 0 ≡ getD w (rowAt n block v + j) 0
-      elsewhere d other =
-          by-cases (decLe block (col v))
-          (λ past. rw (masked-none n block s col w v d past))
-          (λ inside.
-          sym (ap (λ l. getD l (rowAt n block v + j) 0)
-          (masked-own n block s col w v (rowAt n block v) (col v) refl refl d (omega arith)))
-          ∙ getD-set-other w (rowAt n block v + col v) (rowAt n block v + j) 0 0 (omega arith))
+      here : (t : Bool) → eqb (col v / lay .lanes) e ≡ t
+          → getD (clearedColumn lay w (rowAt n block v) (col v)) (rowAt n block v + e) 0
+          ≡ cond t (withoutLane (lay .width) (getD w (rowAt n block v + e) 0) (col v % lay .lanes)) (getD w (rowAt n block v + e) 0)
+      here true o =
+          let at : col v / lay .lanes ≡ e = eqb-true _ _ o in
+          rw at (getD-set-same w (rowAt n block v + e) _ 0 (omega arith))
+      here false o =
+          let apart : col v / lay .lanes ≢ e = eqb-false _ _ o in
+          getD-set-other w (rowAt n block v + col v / lay .lanes) (rowAt n block v + e) _ 0 (omega arith)
+
+      go : (a b : Bool) → ltb (col v) (block * lay .lanes) ≡ b
+          → getD (cond a w (cond b (clearedColumn lay w (rowAt n block v) (col v)) w)) (rowAt n block v + e) 0
+          ≡ cond (not a && (b && eqb (col v / lay .lanes) e))
+          (withoutLane (lay .width) (getD w (rowAt n block v + e) 0) (col v % lay .lanes)) (getD w (rowAt n block v + e) 0)
+      go true b f = refl
+      go false true f = here (eqb (col v / lay .lanes) e) refl
+      go false false f = refl
 
 -- ---- a part in which an entry took walks in
 
@@ -158,14 +167,14 @@ took-outside n block base v old new h c r inside took i out =
 -- ---- a station settled
 
 -- its entry took in what waited in a part, with its column 0; nothing waits there; every other place is as it was
-pub record Settled (n block base s : ℕ) (col : ℕ → ℕ) (v : ℕ) (old new : List ℕ) : Type 0 where
+pub record Settled (lay : Lanes) (n block base s : ℕ) (col : ℕ → ℕ) (v : ℕ) (old new : List ℕ) : Type 0 where
   pub hops : getD new v 0 ≡ min (getD old v 0) (getD old (base + v) 0)
   pub count : getD new (v + n) 0
       ≡ mergedCount (getD old v 0) (getD old (v + n) 0) (getD old (base + v) 0) (getD old (base + v + n) 0)
-  pub entries : (j : ℕ) → j < block → getD new (rowAt n block v + j) 0
-      ≡ cond (mayLeave s col j v)
-      (mergedRow (getD old v 0) (getD old (base + v) 0) (getD old (rowAt n block v + j) 0)
-      (getD old (base + rowAt n block v + j) 0)) 0
+  pub entries : (e : ℕ) → e < block → getD new (rowAt n block v + e) 0
+      ≡ clearedEntry lay block s col v e
+      (mergedRow (getD old v 0) (getD old (base + v) 0) (getD old (rowAt n block v + e) 0)
+      (getD old (base + rowAt n block v + e) 0))
   pub no-hops : getD new (base + v) 0 ≡ 65535
   pub no-count : getD new (base + v + n) 0 ≡ 0
   pub other : (i : ℕ) → i ≢ v → i ≢ v + n → i ≢ base + v → i ≢ base + v + n
@@ -174,25 +183,25 @@ pub record Settled (n block base s : ℕ) (col : ℕ → ℕ) (v : ℕ) (old new
   pub same : length new ≡ length old
 
 -- settling a station for which something waits leaves that
-pub settled-took : (n block base s : ℕ) (col : ℕ → ℕ) (w : List ℕ) (v : ℕ) → PartFits n block base w → v < n
+pub settled-took : (lay : Lanes) → 0 < lay .lanes → (n block base s : ℕ) (col : ℕ → ℕ) (w : List ℕ) (v : ℕ) → PartFits n block base w → v < n
     → getD w (base + v) 0 < 65535
-    → Settled n block base s col v w (settledOne n block base s col w v)
+    → Settled lay n block base s col v w (settledOne lay n block base s col w v)
 unfolding settledOne
-settled-took n block base s col w v part inside some =
+settled-took lay lane n block base s col w v part inside some =
     rw (lt-ltb (getD w (base + v) 0) 65535 some)
     record {
       hops = outer v (omega arith) (omega arith)
-          ∙ masked-other n block s col one v v (inl (omega arith)) ∙ took .hops;
+          ∙ masked-other lay lane n block s col one v v (inl (omega arith)) ∙ took .hops;
       count = outer (v + n) (omega arith) (omega arith)
-          ∙ masked-other n block s col one v (v + n) (inl (omega arith)) ∙ took .count;
+          ∙ masked-other lay lane n block s col one v (v + n) (inl (omega arith)) ∙ took .count;
       entries = λ j q. outer (rowAt n block v + j) (omega (arith, row, behind)) (omega (arith, row, behind))
-          ∙ masked-at n block s col one v j q (let k = took .same in let f = row-settled inside part in omega arith)
-          ∙ ap (λ x. cond (mayLeave s col j v) x 0) (took .entries j q);
+          ∙ masked-at lay lane n block s col one v j q (let k = took .same in let f = row-settled inside part in omega arith)
+          ∙ ap (clearedEntry lay block s col v j) (took .entries j q);
       no-hops = getD-set-other (set two (base + v) 65535) (base + v + n) (base + v) 0 0 (omega arith)
           ∙ getD-set-same two (base + v) 65535 0 (omega (arith, two-length));
       no-count = getD-set-same (set two (base + v) 65535) (base + v + n) 0 0
           (lt-length-set two (base + v) 65535 (omega (arith, two-length)));
-      other = λ i a b c d out. outer i c d ∙ masked-other n block s col one v i out ∙ took .other i a b out;
+      other = λ i a b c d out. outer i c d ∙ masked-other lay lane n block s col one v i out ∙ took .other i a b out;
       same = set-twice-length two (base + v) (base + v + n) 65535 0 ∙ two-length;
     }
   where
@@ -229,10 +238,10 @@ settled-took n block base s col w v part inside some =
         (inl (omega arith))
 
     two : List ℕ
-    two = masked n block s col one v
+    two = masked lay n block s col one v
 
     two-length : length two ≡ length w
-    two-length = masked-length n block s col one v ∙ took .same
+    two-length = masked-length lay lane n block s col one v ∙ took .same
 
     outer : (i : ℕ) → i ≢ base + v → i ≢ base + v + n
         → getD (set (set two (base + v) 65535) (base + v + n) 0) i 0 ≡ getD two i 0

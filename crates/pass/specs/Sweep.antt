@@ -3,16 +3,21 @@
 -- row at base + rowAt v.
 -- Definitions only.
 -- Assumes nothing.
-use Prim.Native.Nat.{ℕ, zero, suc, _+_, _*_, _<_, _≤_}
-use mathlib.Core.Bool.{Bool, cond, _||_}
+use Prim.Native.Nat.{ℕ, zero, suc, _+_, _*_, _/_, _%_, _^_, _<_, _≤_}
+use mathlib.Core.Bool.{Bool, true, false, cond, _||_, _&&_}
+use mathlib.Core.Path.{_≡_}
 use mathlib.Core.List.{List}
-use lib.Dec.{ltb, eqb}
+use mathlib.Core.Logic.{_≢_}
+use lib.Dec.{ltb, leb, eqb}
 use lib.ListN.{length, getD, set}
 use Rattle.temporal.specs.Plan.{Contact}
 use Rattle.temporal.specs.Bytes.{contactAt}
 use Rattle.memory.specs.Fill.{filled}
+use Rattle.entries.specs.Entry.{mergedCount}
+use Rattle.lanes.specs.Lane.{withoutLane}
 use Rattle.pass.specs.Row.{partSize, rowAt}
 use Rattle.pass.specs.Entry.{mergedArea, absorbed, areaOverflows}
+use Rattle.pass.specs.Column.{Lanes}
 
 -- What is settled for v goes on over one hop more, to what waits for x. The row stays where the settled entry of x has fewer
 -- hops: it is not looked at.
@@ -28,26 +33,31 @@ sentArea n block base w v x =
 unfoldable pub foldedArea : ℕ → ℕ → ℕ → List ℕ → Contact → List ℕ
 foldedArea n block base w c = sentArea n block base w (c .sender) (c .hearer)
 
+-- column j of the row that begins at a place becomes 0
+unfoldable pub clearedColumn : Lanes → List ℕ → ℕ → ℕ → List ℕ
+clearedColumn lay w row j = set w (row + j / lay .lanes) (withoutLane (lay .width) (getD w (row + j / lay .lanes) 0) (j % lay .lanes))
+
 -- the column that stands for v becomes 0 in v's own row, where one stands for it and v is not the source; col gives the column of
--- a station, block or more where none stands for it
-unfoldable pub masked : ℕ → ℕ → ℕ → (ℕ → ℕ) → List ℕ → ℕ → List ℕ
-masked n block s col w v =
-    cond (eqb v s) w (cond (ltb (col v) block) (set w (rowAt n block v + col v) 0) w)
+-- a station, the number of columns or more where none stands for it
+unfoldable pub masked : Lanes → ℕ → ℕ → ℕ → (ℕ → ℕ) → List ℕ → ℕ → List ℕ
+masked lay n block s col w v =
+    cond (eqb v s) w
+    (cond (ltb (col v) (block * lay .lanes)) (clearedColumn lay w (rowAt n block v) (col v)) w)
 
 -- what waits for v in a part is taken into its settled entry, and nothing waits there any more
-unfoldable pub settledOne : ℕ → ℕ → ℕ → ℕ → (ℕ → ℕ) → List ℕ → ℕ → List ℕ
-settledOne n block base s col w v =
+unfoldable pub settledOne : Lanes → ℕ → ℕ → ℕ → ℕ → (ℕ → ℕ) → List ℕ → ℕ → List ℕ
+settledOne lay n block base s col w v =
     cond (ltb (getD w (base + v) 0) 65535)
     (set
     (set
-    (masked n block s col
+    (masked lay n block s col
     (absorbed n block w v (rowAt n block v) (base + rowAt n block v) (getD w (base + v) 0) (getD w (base + v + n) 0))
     v)
     (base + v) 65535)
     (base + v + n) 0)
     w
 
--- a work area, and whether a count over 2^64 - 1 was met
+-- a work area, and whether settling stopped
 pub record Sweep : Type 0 where
   pub over : Bool
   pub work : List ℕ
@@ -55,16 +65,36 @@ pub record Sweep : Type 0 where
 abbrev pub sweepOf : Bool → List ℕ → Sweep
 sweepOf b w = record { over = b; work = w }
 
--- station v is settled
-unfoldable pub settledNext : ℕ → ℕ → ℕ → ℕ → (ℕ → ℕ) → Sweep → ℕ → Sweep
-settledNext n block base s col x v =
-    sweepOf (x .over || areaOverflows n (x .work) (base + v)) (settledOne n block base s col (x .work) v)
+-- a count that does not fit a lane of b bits; 0 stands for one over 2^64 - 1
+abbrev pub tooLarge : ℕ → ℕ → Bool
+tooLarge b c = eqb c 0 || leb (2 ^ b) c
 
--- k stations from v on are settled
-unfoldable pub settledFrom : ℕ → ℕ → ℕ → ℕ → (ℕ → ℕ) → Sweep → ℕ → ℕ → Sweep
-settledFrom n block base s col x v zero = x
-settledFrom n block base s col x v (suc k) =
-    settledFrom n block base s col (settledNext n block base s col x v) (v + 1) k
+-- whether the count of d walks of l hops, taken in beside c of h hops, does not fit a lane; an entry with one lane holds any
+unfoldable pub tooWide : Lanes → ℕ → ℕ → ℕ → ℕ → Bool
+tooWide lay h c l d = cond (eqb (lay .lanes) 1) false (tooLarge (lay .width) (mergedCount h c l d))
+
+-- whether settling stops at station v: what waits for it has a count over 2^64 - 1, or its settled count would not fit a lane
+unfoldable pub stopsAt : Lanes → ℕ → ℕ → List ℕ → ℕ → Bool
+stopsAt lay n base w v =
+    areaOverflows n w (base + v) ||
+    (ltb (getD w (base + v) 0) 65535 &&
+    tooWide lay (getD w v 0) (getD w (v + n) 0) (getD w (base + v) 0) (getD w (base + v + n) 0))
+
+-- station v is settled, or nothing is changed where settling stops there
+unfoldable pub settledNext : Lanes → ℕ → ℕ → ℕ → ℕ → (ℕ → ℕ) → List ℕ → ℕ → Sweep
+settledNext lay n block base s col w v =
+    cond (stopsAt lay n base w v) (sweepOf true w) (sweepOf false (settledOne lay n block base s col w v))
+
+-- the stations f i, f (i + 1) and so on are settled, k of them, up to the first at which settling stops
+unfoldable pub settledBy : (ℕ → ℕ) → Lanes → ℕ → ℕ → ℕ → ℕ → (ℕ → ℕ) → List ℕ → ℕ → ℕ → Sweep
+settledBy f lay n block base s col w i zero = sweepOf false w
+settledBy f lay n block base s col w i (suc k) =
+    cond (stopsAt lay n base w (f i)) (sweepOf true w)
+    (settledBy f lay n block base s col (settledOne lay n block base s col w (f i)) (i + 1) k)
+
+-- the hearer of the record at i
+abbrev pub hearerAt : List ℕ → ℕ → ℕ
+hearerAt bs i = contactAt bs i .hearer
 
 -- no walks in the part that begins at a place
 unfoldable pub emptied : ℕ → List ℕ → ℕ → List ℕ
@@ -75,12 +105,12 @@ unfoldable pub emptiedFrom : ℕ → ℕ → List ℕ → ℕ → ℕ → List �
 emptiedFrom n size w at zero = w
 emptiedFrom n size w at (suc k) = emptiedFrom n size (emptied n w at) (at + size) k
 
--- no walks but the empty one, settled for the source, with a row of ones; nothing waits in any of q parts
-unfoldable pub begunArea : ℕ → ℕ → ℕ → List ℕ → ℕ → List ℕ
-begunArea n block q w s =
+-- no walks but the empty one, settled for the source, with a row whose entries have 1 in each lane; nothing waits in any of q parts
+unfoldable pub begunArea : ℕ → ℕ → ℕ → List ℕ → ℕ → ℕ → List ℕ
+begunArea n block q w s one =
     filled
     (set (set (emptiedFrom n (partSize n block) w 0 (1 + q)) s 0) (s + n) 1)
-    (rowAt n block s) block 1
+    (rowAt n block s) block one
 
 -- a part that begins at base lies behind what is settled, within the list
 pub record PartFits (n block base : ℕ) (w : List ℕ) : Type 0 where
@@ -100,3 +130,26 @@ pub record FoldableArea (bs : List ℕ) (n block base j : ℕ) (w : List ℕ) : 
   pub sender-station : contactAt bs j .sender < n
   pub hearer-station : contactAt bs j .hearer < n
   pub part : PartFits n block base w
+
+-- the hearer of the record at i can be settled: the record is there, and its hearer lies within the plan
+pub record HearerFits (bs : List ℕ) (n i : ℕ) : Type 0 where
+  pub inside : i * 6 + 5 < length bs
+  pub hearer-station : contactAt bs i .hearer < n
+
+-- and those of the records from j to before e
+abbrev pub HearersFit : List ℕ → ℕ → ℕ → ℕ → Type 0
+HearersFit bs n j e = (i : ℕ) → j ≤ i → i < e → HearerFits bs n i
+
+-- k stations from f i on are stations of the plan, with every hearer of the records from j to before e among them
+pub record Chosen (bs : List ℕ) (n j e : ℕ) (f : ℕ → ℕ) (i k : ℕ) : Type 0 where
+  pub inside : (m : ℕ) → i ≤ m → m < i + k → f m < n
+  pub covers : (v : ℕ) → v < n → ((m : ℕ) → i ≤ m → m < i + k → v ≢ f m) → (m : ℕ) → j ≤ m → m < e → v ≢ hearerAt bs m
+
+-- what settling a slot leaves, whose records are those from j to before e
+pub record SlotSettled (bs : List ℕ) (lay : Lanes) (n block base s : ℕ) (col : ℕ → ℕ) (j e : ℕ) (old : List ℕ) (r : Bool) (new : List ℕ)
+    : Type 0 where
+  pub stations : ℕ → ℕ
+  pub from : ℕ
+  pub many : ℕ
+  pub chosen : Chosen bs n j e stations from many
+  pub out : sweepOf r new ≡ settledBy stations lay n block base s col old from many

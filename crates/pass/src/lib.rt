@@ -2,44 +2,53 @@
 // shortest walks do not have it inside; or how many shortest walks of a pair have no member of a set of stations inside. Everything
 // lives in a lent work area: what may be sent on, and behind it what is heard and waits, in a part for each slot of the turnaround.
 ghost use mathlib.Core.Path.{_≡_};
-ghost use mathlib.Core.Bool.{false};
-ghost use Prim.Native.Nat.{_+_, _-_, _*_, _<_, _≤_, min};
-ghost use lib.ListN.{length};
+ghost use Prim.Native.Nat.{_+_, _-_, _*_, _/_, _^_, _<_, _≤_, min};
+ghost use lib.ListN.{length, getD};
 ghost use Rattle.temporal.specs.Lists.{any, below};
 ghost use Rattle.temporal.specs.Plan.{units};
 ghost use Rattle.temporal.specs.Bytes.{contactAt};
 ghost use Rattle.temporal.specs.Struck.{lackingRecord};
+ghost use Rattle.entries.specs.Entry.{mergedCount};
+ghost use Rattle.lanes.specs.Lane.{ones};
 ghost use Rattle.pass.specs.Row.{combined, second, wrapped, mergedRow, partSize, rowAt, partAt, RowsFit};
 ghost use Rattle.pass.specs.Entry.{mergedArea, absorbed, areaOverflows, reachedEntry, Absorbable};
 ghost use Rattle.pass.specs.Sweep.{
   sentArea,
   foldedArea,
+  clearedColumn,
   masked,
-  settledNext,
+  tooWide,
   sweepOf,
-  settledFrom,
+  settledNext,
+  settledBy,
+  hearerAt,
   emptied,
   emptiedFrom,
   begunArea,
   PartFits,
   Area,
   FoldableArea,
+  HearerFits,
+  HearersFit,
+  SlotSettled,
 };
-ghost use Rattle.pass.specs.Column.{columnOf};
-ghost use Rattle.pass.specs.PassedColumns.{waiting, areaSize, ColumnsReady, ColumnsPassed, lastEnded};
+ghost use Rattle.pass.specs.Column.{columnOf, lanesBy, splitOf};
+ghost use Rattle.pass.specs.PassedColumns.{waiting, areaSize, ColumnsReady, ColumnsPassed, lastEnded, stoppedEnd};
 
-// Which column of a row stands for a station. From(low): column j for station low + j. Members(z): column 0 for each member
-// of a lent set of bytes but z, a byte for each station, 1 for a member.
+// Which column of a row stands for a station. From(low, split): column j for station low + j; an entry of a row holds 2^split columns,
+// split up to 3. Members(z): column 0 for each member of a lent set of bytes but z, a byte for each station, 1 for a member.
 pub enum Columns {
-    From(usize),
+    From(usize, usize),
     Members(usize),
 }
 
-// How a pass ends: settled in a slot; with a station that has over 2^64 - 1 shortest walks; with an appearance that has.
+// How a pass ends: settled in a slot; with a station that has over 2^64 - 1 shortest walks; with an appearance that has; or with a count
+// that does not fit a lane, where an entry has several.
 pub enum Ended {
     Settled(usize),
     StationTooMany,
     AppearanceTooMany,
+    TooWide,
 }
 
 // The smaller of two numbers.
@@ -176,7 +185,7 @@ pub fn column_of(columns: Columns, set: &[u8], v: usize, none: usize) -> usize
     ensures { λ r. ⌜ r ≡ columnOf columns (now (set .entry)) none v ⌝ }
 {
     match columns {
-        Columns::From(low) => {
+        Columns::From(low, _) => {
             if v < low {
                 return none;
             }
@@ -196,6 +205,31 @@ pub fn column_of(columns: Columns, set: &[u8], v: usize, none: usize) -> usize
     }
 }
 
+// In how many halves the entries of a row are split, again and again.
+pub fn split_of(columns: Columns) -> usize
+    ensures { λ r. ⌜ r ≡ splitOf columns ⌝ }
+{
+    match columns {
+        Columns::From(_, split) => {
+            return split;
+        }
+        Columns::Members(_) => {
+            return 0;
+        }
+    }
+}
+
+// Writes 0 to column j of the row that begins at a place.
+pub fn clear_column(work: &mut [u64], row: usize, j: usize, split: usize)
+    requires { ⌜ (split ≤ 3) × (j < 2 ^ 63) × (row + j / 2 ^ split < length (now work)) ⌝ }
+    ensures { λ _. ⌜ now (work .exit) ≡ clearedColumn (lanesBy split) (now (work .entry)) row j ⌝ }
+{
+    let at = row + lanes::entry_of(j, split);
+    let w = lanes::width_of(split);
+    let l = lanes::lane_of(j, split);
+    work[at] = lanes::without_lane(work[at], w, l);
+}
+
 // Writes 0 to the column that stands for v in its own row, where there is one and v is not the source.
 fn mask(
     work: &mut [u64],
@@ -206,20 +240,62 @@ fn mask(
     set: &[u8],
     v: usize,
 )
-    requires { ⌜ rowAt n block v + block ≤ length (now work) ⌝ }
-    ensures { λ _. ⌜ now (work .exit) ≡ masked n block source (columnOf columns (now (set .entry)) block) (now (work .entry)) v ⌝ }
+    requires { ⌜ (rowAt n block v + block ≤ length (now work)) × (splitOf columns ≤ 3) ⌝ }
+    ensures { λ _. ⌜ now (work .exit) ≡ masked (lanesBy (splitOf columns)) n block source
+        (columnOf columns (now (set .entry)) (block * 2 ^ splitOf columns)) (now (work .entry)) v ⌝ }
 {
     if v == source {
         return;
     }
-    let j = column_of(columns, set, v, block);
-    if j < block {
+    let split = split_of(columns);
+    let count = lanes::columns_of(block, split);
+    let j = column_of(columns, set, v, count);
+    if j < count {
         let row = row_at(n, block, v);
-        work[row + j] = 0;
+        clear_column(work, row, j, split);
     }
 }
 
-// Settles what waits for v in the part that begins at base. True where the flag was, or where its count is over 2^64 - 1.
+// The count beside the fewer of h and l hops; both counts where they are equal. 0 stands for one over 2^64 - 1.
+fn merged_count(h: u64, c: u64, l: u64, d: u64) -> u64
+    ensures { λ r. ⌜ r ≡ mergedCount h c l d ⌝ }
+{
+    if l < h {
+        return d;
+    }
+    if l == h {
+        return entries::add_counts(c, d);
+    }
+    c
+}
+
+// Whether the count of d walks of l hops, taken in beside c of h hops, does not fit a lane.
+pub fn too_wide(split: usize, h: u64, c: u64, l: u64, d: u64) -> bool
+    requires { ⌜ split ≤ 3 ⌝ }
+    ensures { λ r. ⌜ r ≡ tooWide (lanesBy split) h c l d ⌝ }
+{
+    if split == 0 {
+        return false;
+    }
+    let merged = merged_count(h, c, l, d);
+    if merged == 0 {
+        return true;
+    }
+    lanes::limit_of(split) < merged
+}
+
+// The same for the settled entry of station v.
+pub fn wide_at(work: &[u64], n: usize, v: usize, l: u64, d: u64, columns: Columns) -> bool
+    requires { ⌜ (v + n < length (now work)) × (splitOf columns ≤ 3) ⌝ }
+    ensures { λ r. ⌜ r ≡ tooWide (lanesBy (splitOf columns)) (getD (now (work .entry)) v 0) (getD (now (work .entry)) (v + n) 0) l d ⌝ }
+{
+    let split = split_of(columns);
+    let counted = v + n;
+    too_wide(split, work[v], work[counted], l, d)
+}
+
+// Settles what waits for v in the part that begins at base. Where its count is over 2^64 - 1, or the settled count would not fit a lane:
+// true, and nothing is changed.
 fn settle_one(
     work: &mut [u64],
     n: usize,
@@ -229,31 +305,86 @@ fn settle_one(
     columns: Columns,
     set: &[u8],
     v: usize,
-    over: bool,
 ) -> bool
-    requires { ⌜ PartFits n block base (now work) × (v < n) ⌝ }
+    requires { ⌜ PartFits n block base (now work) × (v < n) × (splitOf columns ≤ 3) ⌝ }
     ensures { λ r. ⌜ sweepOf r (now (work .exit)) ≡
-        settledNext n block base source (columnOf columns (now (set .entry)) block) (sweepOf over (now (work .entry))) v ⌝ }
+        settledNext (lanesBy (splitOf columns)) n block base source (columnOf columns (now (set .entry)) (block * 2 ^ splitOf columns))
+        (now (work .entry)) v ⌝ }
 {
     let at = base + v;
     let h = work[at];
     if h < 65535 {
         let counted = at + n;
         let d = work[counted];
+        if d == 0 {
+            return true;
+        }
+        if wide_at(work, n, v, h, d, columns) {
+            return true;
+        }
         let row = row_at(n, block, v);
         absorb(work, n, block, v, row, base + row, h, d);
         mask(work, n, block, source, columns, set, v);
         work[at] = 65535;
         work[counted] = 0;
-        if d == 0 {
-            return true;
-        }
     }
-    over
+    false
 }
 
-// Settles a part for every station. True where a count is over 2^64 - 1.
+// The same for the hearer of the record at i, of the plan without the record at position out.
+fn settle_record(
+    work: &mut [u64],
+    plan: &[u8],
+    out: usize,
+    n: usize,
+    block: usize,
+    base: usize,
+    source: usize,
+    columns: Columns,
+    set: &[u8],
+    i: usize,
+) -> bool
+    requires { ⌜ PartFits n block base (now work) × HearerFits (lackingRecord (now plan) out) n i × (splitOf columns ≤ 3) ⌝ }
+    ensures { λ r. ⌜ sweepOf r (now (work .exit)) ≡
+        settledNext (lanesBy (splitOf columns)) n block base source (columnOf columns (now (set .entry)) (block * 2 ^ splitOf columns))
+        (now (work .entry)) (contactAt (lackingRecord (now (plan .entry)) out) i .hearer) ⌝ }
+{
+    let c = plan::kept_contact(plan, out, i);
+    settle_one(work, n, block, base, source, columns, set, c.hearer)
+}
+
+// Settles a part for the hearers of the records from j to before end. True where a count is over 2^64 - 1 or does not fit a lane, at the
+// first that is or does not.
 fn settle(
+    work: &mut [u64],
+    plan: &[u8],
+    out: usize,
+    n: usize,
+    block: usize,
+    base: usize,
+    source: usize,
+    columns: Columns,
+    set: &[u8],
+    j: usize,
+    end: usize,
+) -> bool
+    requires { ⌜ PartFits n block base (now work) × HearersFit (lackingRecord (now plan) out) n j end × (splitOf columns ≤ 3) ⌝ }
+    ensures { λ r. ⌜ sweepOf r (now (work .exit)) ≡
+        settledBy (hearerAt (lackingRecord (now (plan .entry)) out)) (lanesBy (splitOf columns)) n block base source
+        (columnOf columns (now (set .entry)) (block * 2 ^ splitOf columns)) (now (work .entry)) j (end - j) ⌝ }
+{
+    let mut i = j;
+    while i < end {
+        if settle_record(work, plan, out, n, block, base, source, columns, set, i) {
+            return true;
+        }
+        i += 1;
+    }
+    false
+}
+
+// The same for every station.
+fn settle_all(
     work: &mut [u64],
     n: usize,
     block: usize,
@@ -262,17 +393,55 @@ fn settle(
     columns: Columns,
     set: &[u8],
 ) -> bool
-    requires { ⌜ PartFits n block base (now work) ⌝ }
+    requires { ⌜ PartFits n block base (now work) × (splitOf columns ≤ 3) ⌝ }
     ensures { λ r. ⌜ sweepOf r (now (work .exit)) ≡
-        settledFrom n block base source (columnOf columns (now (set .entry)) block) (sweepOf false (now (work .entry))) 0 n ⌝ }
+        settledBy (λ v. v) (lanesBy (splitOf columns)) n block base source
+        (columnOf columns (now (set .entry)) (block * 2 ^ splitOf columns)) (now (work .entry)) 0 n ⌝ }
 {
-    let mut over = false;
     let mut v = 0;
     while v < n {
-        over = settle_one(work, n, block, base, source, columns, set, v, over);
+        if settle_one(work, n, block, base, source, columns, set, v) {
+            return true;
+        }
         v += 1;
     }
-    over
+    false
+}
+
+// Settles a slot whose records are those from j to before end: for their hearers, or where they are more than the stations, for every station.
+fn settle_slot(
+    work: &mut [u64],
+    plan: &[u8],
+    out: usize,
+    n: usize,
+    block: usize,
+    base: usize,
+    source: usize,
+    columns: Columns,
+    set: &[u8],
+    j: usize,
+    end: usize,
+) -> bool
+    requires { ⌜ PartFits n block base (now work) × HearersFit (lackingRecord (now plan) out) n j end × (splitOf columns ≤ 3) × (j ≤ end) ⌝ }
+    ensures { λ r. ⌜ SlotSettled (lackingRecord (now (plan .entry)) out) (lanesBy (splitOf columns)) n block base source
+        (columnOf columns (now (set .entry)) (block * 2 ^ splitOf columns)) j end (now (work .entry)) r (now (work .exit)) ⌝ }
+{
+    if n < end - j {
+        return settle_all(work, n, block, base, source, columns, set);
+    }
+    settle(
+        work,
+        plan,
+        out,
+        n,
+        block,
+        base,
+        source,
+        columns,
+        set,
+        j,
+        end,
+    )
 }
 
 // Empties the part that begins at a place.
@@ -298,16 +467,34 @@ fn empty_parts(work: &mut [u64], n: usize, size: usize, k: usize)
     }
 }
 
-// Clears the work area and settles the empty walk of the source.
-pub fn begin(work: &mut [u64], n: usize, block: usize, q: usize, source: usize)
+// Clears the work area and settles the empty walk of the source; one is what each entry of its row holds.
+pub fn begin(work: &mut [u64], n: usize, block: usize, q: usize, source: usize, one: u64)
     requires { ⌜ Area n block q (now work) × (source < n) ⌝ }
-    ensures { λ _. ⌜ now (work .exit) ≡ begunArea n block q (now (work .entry)) source ⌝ }
+    ensures { λ _. ⌜ now (work .exit) ≡ begunArea n block q (now (work .entry)) source one ⌝ }
 {
     empty_parts(work, n, 2 * n + n * block, 1 + q);
     work[source] = 0;
     work[source + n] = 1;
     let row = row_at(n, block, source);
-    memory::fill_part(work, row, block, 1);
+    memory::fill_part(work, row, block, one);
+}
+
+// The same with 1 in every column of the source's row.
+pub fn begin_columns(
+    work: &mut [u64],
+    n: usize,
+    block: usize,
+    q: usize,
+    source: usize,
+    columns: Columns,
+)
+    requires { ⌜ Area n block q (now work) × (source < n) × (splitOf columns ≤ 3) ⌝ }
+    ensures { λ _. ⌜ now (work .exit) ≡ begunArea n block q (now (work .entry)) source
+        (ones (lanesBy (splitOf columns) .width) (lanesBy (splitOf columns) .lanes)) ⌝ }
+{
+    let split = split_of(columns);
+    let one = lanes::ones_of(split);
+    begin(work, n, block, q, source, one);
 }
 
 // Where the part begins in which waits what is heard in slot u, of q parts.
@@ -358,9 +545,20 @@ pub fn end_pass(work: &[u64], n: usize, t: usize, until: usize) -> Ended
     Ended::Settled(t)
 }
 
+// How a pass ends that stops while it settles.
+pub fn stopped(columns: Columns) -> Ended
+    ensures { λ r. ⌜ r ≡ stoppedEnd (splitOf columns) ⌝ }
+{
+    if split_of(columns) == 0 {
+        return Ended::AppearanceTooMany;
+    }
+    Ended::TooWide
+}
+
 // The pass: the records slot by slot, until the station until is reached or the last slot is settled. What is heard in a slot
-// waits in its part and is settled, q slots later, before that part is used again; past the last slot the parts are settled one by
-// one. The record at position out is left out; where there is none, the plan is whole.
+// waits in its part and is settled, q slots later, before that part is used again, for the hearers of that slot's records; past the last
+// slot the parts are settled one by one. The records from j on are not folded in yet, those from i on not settled. The record at position
+// out is left out; where there is none, the plan is whole.
 pub fn pass_columns(
     work: &mut [u64],
     plan: &[u8],
@@ -375,16 +573,17 @@ pub fn pass_columns(
     block: usize,
     until: usize,
 ) -> Ended
-    requires { ⌜ ColumnsReady (lackingRecord (now plan) out) n t (units g h) source until block (now work) ⌝ }
-    ensures { λ r. ⌜ ColumnsPassed (lackingRecord (now (plan .entry)) out) n t (units g h) source until
-        (columnOf columns (now (set .entry)) block) block (areaSize n (waiting t (units g h)) block)
+    requires { ⌜ ColumnsReady (lackingRecord (now plan) out) n t (units g h) source until block (now work) × (splitOf columns ≤ 3) ⌝ }
+    ensures { λ r. ⌜ ColumnsPassed (lackingRecord (now (plan .entry)) out) n t (units g h) source until (lanesBy (splitOf columns))
+        (columnOf columns (now (set .entry)) (block * 2 ^ splitOf columns)) block (areaSize n (waiting t (units g h)) block)
         (now (work .entry)) (now (work .exit)) r ⌝ }
 {
     let q = smaller(g, t);
-    begin(work, n, block, q, source);
+    begin_columns(work, n, block, q, source, columns);
     let mut base = part_at(n, block, q, 1);
     let mut u = 1;
     let mut j = 0;
+    let mut i = 0;
     while u < t + q {
         if plan::kept_in_slot(plan, out, j, u) {
             fold_record(work, plan, out, n, block, base, j);
@@ -394,9 +593,23 @@ pub fn pass_columns(
         u += 1;
         base = part_at(n, block, q, u);
         if q < u {
-            if settle(work, n, block, base, source, columns, set) {
-                return Ended::AppearanceTooMany;
+            let end = plan::kept_slot_end(plan, out, i, u - q);
+            if settle_slot(
+                work,
+                plan,
+                out,
+                n,
+                block,
+                base,
+                source,
+                columns,
+                set,
+                i,
+                end,
+            ) {
+                return stopped(columns);
             }
+            i = end;
             if reached(work, n, until) {
                 return Ended::Settled(u - q);
             }

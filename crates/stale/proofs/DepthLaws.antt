@@ -41,7 +41,7 @@ module _ (bs : List ℕ) (v : ℕ) where
   pub heard-more : (j : ℕ) → contactAt bs j .hearer ≡ v → heardBefore bs v (j + 1) ≡ heardBefore bs v j + 1
   heard-more j e = heard-suc j ∙ rw (eq-eqb (contactAt bs j .hearer) v e)
 
-  pub heard-same : (j : ℕ) → contactAt bs j .hearer ≢ v → heardBefore bs v (j + 1) ≡ heardBefore bs v j
+  heard-same : (j : ℕ) → contactAt bs j .hearer ≢ v → heardBefore bs v (j + 1) ≡ heardBefore bs v j
   heard-same j d = heard-suc j ∙ rw (ne-eqb (contactAt bs j .hearer) v d) (omega arith)
 
   heard-step : (j : ℕ) → (heardBefore bs v j ≤ heardBefore bs v (j + 1)) × (heardBefore bs v (j + 1) ≤ heardBefore bs v j + 1)

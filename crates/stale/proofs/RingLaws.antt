@@ -11,6 +11,7 @@ use lib.ListN.{length, getD, set, length-set}
 use lib.Seq.{getD-set-same, getD-set-other}
 use Rattle.counting.proofs.Fewest.{plus}
 use Rattle.pass.specs.Row.{partSize, rowAt}
+use Rattle.pass.specs.Column.{Lanes}
 use Rattle.pass.proofs.PlaceLaws.{place-apart, row-inside}
 use Rattle.pass.proofs.BestLaws.{best-ext}
 use Rattle.stale.specs.Size.{windowSize}
@@ -38,14 +39,14 @@ slotOf n block d v w k = getD w (markAt n block d (k % d) v) 0
 
 -- By slot c, at most m appearances of v were kept. The slots beside those that are still there rise and lie as far back as appearances
 -- came after them; their cells hold the walks of their slots; and every slot that may still be followed has one, or no walks.
-pub record Ring (n block d h c v m : ℕ) (F : ℕ → ℕ → ℕ) (F′ : ℕ → ℕ → ℕ → ℕ) (w : List ℕ) : Type 0 where
+pub record Ring (lay : Lanes) (n block d h c v m : ℕ) (F : ℕ → ℕ → ℕ) (F′ : ℕ → ℕ → ℕ → ℕ) (w : List ℕ) : Type 0 where
   pub few : counterOf n block d v w ≤ m
   pub after : (k : ℕ) → Recent d (counterOf n block d v w) k → 0 < slotOf n block d v w k
   pub before : (k : ℕ) → Recent d (counterOf n block d v w) k → slotOf n block d v w k + counterOf n block d v w ≤ c + 1 + k
   pub rising : (k l : ℕ) → Recent d (counterOf n block d v w) k → k < l → l < counterOf n block d v w
       → slotOf n block d v w k < slotOf n block d v w l
   pub holds : (k : ℕ) → Recent d (counterOf n block d v w) k
-      → Holds n block w (ringAt n block (k % d)) v (F (slotOf n block d v w k)) (λ j. F′ j (slotOf n block d v w k))
+      → Holds lay n block w (ringAt n block (k % d)) v (F (slotOf n block d v w k)) (λ j. F′ j (slotOf n block d v w k))
   pub whole : (x : ℕ) → 0 < x → x ≤ c → c < x + h
       → ((k : ℕ) × Recent d (counterOf n block d v w) k × (slotOf n block d v w k ≡ x)) ⊎ ((i : ℕ) → F x i ≡ 0)
 
@@ -56,9 +57,9 @@ pub record SameRing (n block d v : ℕ) (old new : List ℕ) : Type 0 where
   pub cells : (i : ℕ) → i < d → Alike n block (ringAt n block i) v old new
   pub marks : (i : ℕ) → i ≤ d → getD new (markAt n block d i v) 0 ≡ getD old (markAt n block d i v) 0
 
-pub ring-same : {n block d h c v m : ℕ} {F : ℕ → ℕ → ℕ} {F′ : ℕ → ℕ → ℕ → ℕ} {old new : List ℕ} → 0 < d → SameRing n block d v old new
-    → Ring n block d h c v m F F′ old → Ring n block d h c v m F F′ new
-ring-same {n} {block} {d} {h} {c} {v} {m} {F} {F′} {old} {new} deep same r =
+pub ring-same : {lay : Lanes} {n block d h c v m : ℕ} {F : ℕ → ℕ → ℕ} {F′ : ℕ → ℕ → ℕ → ℕ} {old new : List ℕ} → 0 < d
+    → SameRing n block d v old new → Ring lay n block d h c v m F F′ old → Ring lay n block d h c v m F F′ new
+ring-same {lay} {n} {block} {d} {h} {c} {v} {m} {F} {F′} {old} {new} deep same r =
     record {
       few = omega (arith, counter, r .few);
       after = λ k q. omega (arith, slot k, r .after k (back k q));
@@ -95,8 +96,8 @@ part-ring {n} {block} {d} {base} v hv apart end o =
 
 -- ---- nothing more is heard
 
-pub ring-skip : {n block d h c v m m′ : ℕ} {F : ℕ → ℕ → ℕ} {F′ : ℕ → ℕ → ℕ → ℕ} {w : List ℕ} → ((i : ℕ) → F (c + 1) i ≡ 0) → m ≤ m′
-    → Ring n block d h c v m F F′ w → Ring n block d h (c + 1) v m′ F F′ w
+pub ring-skip : {lay : Lanes} {n block d h c v m m′ : ℕ} {F : ℕ → ℕ → ℕ} {F′ : ℕ → ℕ → ℕ → ℕ} {w : List ℕ}
+    → ((i : ℕ) → F (c + 1) i ≡ 0) → m ≤ m′ → Ring lay n block d h c v m F F′ w → Ring lay n block d h (c + 1) v m′ F F′ w
 ring-skip {c = c} {F = F} none more r =
     record {
       few = omega (arith, r .few);
@@ -243,10 +244,10 @@ module _ (n block d : ℕ) (w : List ℕ) (u v : ℕ) (area : WindowArea n block
       (omega (arith, length-set taken (markAt n block d cell v) u, cell-only .same, mark-fits area d v (omega arith) hv))
       ∙ mod-eq-of-lt small)
 
-  new-holds : {A : ℕ → ℕ} {A′ : ℕ → ℕ → ℕ} → ((j i : ℕ) → A′ j i ≤ A i) → Holds n block w (partSize n block) v A A′
-      → Holds n block (pushedCell n block d w u v) (ringAt n block cell) v A A′
+  new-holds : {lay : Lanes} {A : ℕ → ℕ} {A′ : ℕ → ℕ → ℕ} → ((j i : ℕ) → A′ j i ≤ A i) → Holds lay n block w (partSize n block) v A A′
+      → Holds lay n block (pushedCell n block d w u v) (ringAt n block cell) v A A′
   unfolding plus taken bare marked
-  new-holds {A} {A′} less heard =
+  new-holds {lay} {A} {A′} less heard =
       let l = low in
       holds-alike wrote
       (best-ext {N = plus (λ i. 0) A} {M = λ j. plus (λ i. 0) (A′ j)} (λ i. omega arith) (λ j i. omega arith)
@@ -255,7 +256,7 @@ module _ (n block d : ℕ) (w : List ℕ) (u v : ℕ) (area : WindowArea n block
       (bare-holds (λ i. refl))
       (holds-alike (part-alike (partSize n block) v (inl (ring-first n block cell)) hv (cell-part hv bare-only)) heard)))
     where
-      bare-holds : {N : ℕ → ℕ} {M : ℕ → ℕ → ℕ} → ((i : ℕ) → N i ≡ 0) → Holds n block bare (ringAt n block cell) v N M
+      bare-holds : {N : ℕ → ℕ} {M : ℕ → ℕ → ℕ} → ((i : ℕ) → N i ≡ 0) → Holds lay n block bare (ringAt n block cell) v N M
       bare-holds none = emptied-holds n block w (ringAt n block cell) v hv (ring-fits area cell (let l = low in omega arith)) none
 
       stays : (q : ℕ) → q < (3 + d) * partSize n block → getD (pushedCell n block d w u v) q 0 ≡ getD taken q 0
@@ -277,12 +278,12 @@ module _ (n block d : ℕ) (w : List ℕ) (u v : ℕ) (area : WindowArea n block
 
 -- In slot c + 1 an appearance more of v is kept. What it takes the place of is too old, where there are as many cells as a reading is kept
 -- for slots; or there is no such.
-pub ring-push : {n block d h c v m m′ : ℕ} {F : ℕ → ℕ → ℕ} {F′ : ℕ → ℕ → ℕ → ℕ} {w : List ℕ} → WindowArea n block d w → v < n
+pub ring-push : {lay : Lanes} {n block d h c v m m′ : ℕ} {F : ℕ → ℕ → ℕ} {F′ : ℕ → ℕ → ℕ → ℕ} {w : List ℕ} → WindowArea n block d w → v < n
     → (d ≡ h) ⊎ (m′ ≤ d) → m < m′ → m′ < 18446744073709551616 → ((j i : ℕ) → F′ j (c + 1) i ≤ F (c + 1) i)
-    → Holds n block w (partSize n block) v (F (c + 1)) (λ j. F′ j (c + 1))
-    → Ring n block d h c v m F F′ w → Ring n block d h (c + 1) v m′ F F′ (pushedCell n block d w (c + 1) v)
+    → Holds lay n block w (partSize n block) v (F (c + 1)) (λ j. F′ j (c + 1))
+    → Ring lay n block d h c v m F F′ w → Ring lay n block d h (c + 1) v m′ F F′ (pushedCell n block d w (c + 1) v)
 unfolding cell
-ring-push {n} {block} {d} {h} {c} {v} {m} {m′} {F} {F′} {w} area hv deep more small less heard r =
+ring-push {lay} {n} {block} {d} {h} {c} {v} {m} {m′} {F} {F′} {w} area hv deep more small less heard r =
     record {
       few = omega (arith, counter, r .few);
       after = λ k q. by-cases (ℕ-discrete k (counterOf n block d v w))
@@ -322,7 +323,8 @@ ring-push {n} {block} {d} {h} {c} {v} {m} {m′} {F} {F′} {w} area hv deep mor
     newest : slotOf n block d v (pushedCell n block d w (c + 1) v) (counterOf n block d v w) ≡ c + 1
     newest = new-slot n block d w (c + 1) v area hv
 
-    here : Holds n block (pushedCell n block d w (c + 1) v) (ringAt n block (counterOf n block d v w % d)) v (F (c + 1)) (λ j. F′ j (c + 1))
+    here : Holds lay n block (pushedCell n block d w (c + 1) v) (ringAt n block (counterOf n block d v w % d)) v (F (c + 1))
+        (λ j. F′ j (c + 1))
     here = new-holds n block d w (c + 1) v area hv less heard
 
     back : (k : ℕ) → Recent d (counterOf n block d v (pushedCell n block d w (c + 1) v)) k → k ≢ counterOf n block d v w
@@ -375,11 +377,11 @@ module _ (n block d v first end : ℕ) (hv : v < n) (F : ℕ → ℕ → ℕ) (F
         rw (sym (kept-early n block w (ringAt n block d) v (ringAt n block c) (markAt n block d c v) first end (omega arith))) cell-refl)
 
     -- and it holds the cell's walks besides, where their slot is one of the window's
-    kept-holds : (x : ℕ) (N : ℕ → ℕ) (M : ℕ → ℕ → ℕ) → ((j i : ℕ) → M j i ≤ N i) → getD w (markAt n block d c v) 0 ≡ x
-        → Holds n block w (ringAt n block d) v N M
-        → Holds n block w (ringAt n block c) v (F x) (λ j. F′ j x)
-        → Holds n block (keptCell n block w (ringAt n block d) v (ringAt n block c) (markAt n block d c v) first end) (ringAt n block d) v
-        (plus N (λ i. picked first end (λ y. F y i) x)) (λ j. plus (M j) (λ i. picked first end (λ y. F′ j y i) x))
+    kept-holds : {lay : Lanes} (x : ℕ) (N : ℕ → ℕ) (M : ℕ → ℕ → ℕ) → ((j i : ℕ) → M j i ≤ N i) → getD w (markAt n block d c v) 0 ≡ x
+        → Holds lay n block w (ringAt n block d) v N M
+        → Holds lay n block w (ringAt n block c) v (F x) (λ j. F′ j x)
+        → Holds lay n block (keptCell n block w (ringAt n block d) v (ringAt n block c) (markAt n block d c v) first end)
+        (ringAt n block d) v (plus N (λ i. picked first end (λ y. F y i) x)) (λ j. plus (M j) (λ i. picked first end (λ y. F′ j y i) x))
     unfolding plus
     kept-holds x N M fewer slot held came =
         by-cases (decLe first x)
@@ -417,12 +419,12 @@ module _ (n block d v first end : ℕ) (hv : v < n) (F : ℕ → ℕ → ℕ) (F
       let one = kept-only w c (omega arith) area in
       cell-then one (gathered-only k _ (c + 1) (omega arith) (area-same area (one .same)))
 
-  gathered-holds : (slot : ℕ → ℕ) (k : ℕ) (w : List ℕ) (c : ℕ) (N : ℕ → ℕ) (M : ℕ → ℕ → ℕ) → c + k ≤ d → WindowArea n block d w
-      → ((j i : ℕ) → M j i ≤ N i)
-      → Holds n block w (ringAt n block d) v N M
+  gathered-holds : {lay : Lanes} (slot : ℕ → ℕ) (k : ℕ) (w : List ℕ) (c : ℕ) (N : ℕ → ℕ) (M : ℕ → ℕ → ℕ) → c + k ≤ d
+      → WindowArea n block d w → ((j i : ℕ) → M j i ≤ N i)
+      → Holds lay n block w (ringAt n block d) v N M
       → ((b : ℕ) → c ≤ b → b < c + k → getD w (markAt n block d b v) 0 ≡ slot b)
-      → ((b : ℕ) → c ≤ b → b < c + k → Holds n block w (ringAt n block b) v (F (slot b)) (λ j. F′ j (slot b)))
-      → Holds n block (gatheredCell n block d w (ringAt n block d) v first end c k) (ringAt n block d) v
+      → ((b : ℕ) → c ≤ b → b < c + k → Holds lay n block w (ringAt n block b) v (F (slot b)) (λ j. F′ j (slot b)))
+      → Holds lay n block (gatheredCell n block d w (ringAt n block d) v first end c k) (ringAt n block d) v
       (plus N (λ i. spread (λ b. picked first end (λ y. F y i) (slot b)) c k))
       (λ j. plus (M j) (λ i. spread (λ b. picked first end (λ y. F′ j y i) (slot b)) c k))
   unfolding gatheredCell spread plus
@@ -462,7 +464,8 @@ number-cell d K k deep r =
     (λ few. let same = mod-eq-of-lt {n = k} {m = d} (omega arith) in omega arith)
     (λ many. let low = mod-lt k deep in omega arith)
 
-module _ {n block d h c v m : ℕ} {F : ℕ → ℕ → ℕ} {F′ : ℕ → ℕ → ℕ → ℕ} {w : List ℕ} (deep : 0 < d) (r : Ring n block d h c v m F F′ w) where
+module _ {lay : Lanes} {n block d h c v m : ℕ} {F : ℕ → ℕ → ℕ} {F′ : ℕ → ℕ → ℕ → ℕ} {w : List ℕ} (deep : 0 < d)
+    (r : Ring lay n block d h c v m F F′ w) where
   -- what number a cell has
   number : (a : ℕ) → a < min (counterOf n block d v w) d → (k : ℕ) × Recent d (counterOf n block d v w) k × (k % d ≡ a)
   number a some = cell-number d (counterOf n block d v w) a deep (omega arith) (omega arith)
@@ -484,7 +487,7 @@ module _ {n block d h c v m : ℕ} {F : ℕ → ℕ → ℕ} {F′ : ℕ → ℕ
       (λ more. let rise = r .rising (y .0) (x .0) (y .1) (omega arith) (x .1 .kept) in omega arith))
 
   cells-hold : (a : ℕ) → a < min (counterOf n block d v w) d
-      → Holds n block w (ringAt n block a) v (F (getD w (markAt n block d a v) 0)) (λ j. F′ j (getD w (markAt n block d a v) 0))
+      → Holds lay n block w (ringAt n block a) v (F (getD w (markAt n block d a v) 0)) (λ j. F′ j (getD w (markAt n block d a v) 0))
   cells-hold a ha =
       let x = number a ha in
       rw (x .2) at (r .holds (x .0) (x .1))
@@ -501,8 +504,8 @@ module _ {n block d h c v m : ℕ} {F : ℕ → ℕ → ℕ} {F′ : ℕ → ℕ
   pub ring-window : (first end : ℕ) (one : List ℕ) → v < n → ((j x i : ℕ) → F′ j x i ≤ F x i)
       → ((x : ℕ) → first ≤ x → x < end → (0 < x) × (x ≤ c) × (c < x + h))
       → WindowArea n block d one → SameRing n block d v w one
-      → Holds n block one (ringAt n block d) v (λ i. 0) (λ j i. 0)
-      → Holds n block (gatheredCell n block d one (ringAt n block d) v first end 0 (keptCells n block d w v)) (ringAt n block d) v
+      → Holds lay n block one (ringAt n block d) v (λ i. 0) (λ j i. 0)
+      → Holds lay n block (gatheredCell n block d one (ringAt n block d) v first end 0 (keptCells n block d w v)) (ringAt n block d) v
       (λ i. spread (λ x. F x i) first (end - first)) (λ j i. spread (λ x. F′ j x i) first (end - first))
   unfolding keptCells plus
   ring-window first end one hv less window area same bare =

@@ -40,6 +40,11 @@ spread-zero f zero i e = refl
 spread-zero f (suc k) i e =
     omega (arith, e i (omega arith) (omega arith), spread-zero f k (i + 1) (λ c low high. e c (omega arith) (omega arith)))
 
+pub spread-less : {f g : ℕ → ℕ} (k i : ℕ) → ((c : ℕ) → f c ≤ g c) → spread f i k ≤ spread g i k
+unfolding spread
+spread-less zero i e = omega arith
+spread-less (suc k) i e = omega (arith, e i, spread-less k (i + 1) e)
+
 -- ---- one number
 
 module _ (f : ℕ → ℕ) where

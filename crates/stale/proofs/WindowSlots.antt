@@ -4,159 +4,200 @@ use Prim.Native.Nat.{ℕ, zero, suc, _+_, _*_, _<_, _≤_}
 use native.Mathlib.Omega.{arith}
 use native.Mathlib.Decide.{decLe, ℕ-discrete}
 use mathlib.Core.Path.{_≡_, refl, sym, ap, subst, _∙_}
-use mathlib.Core.Bool.{Bool, true, false, _&&_, _||_}
+use mathlib.Core.Bool.{Bool, true, false, _&&_}
 use mathlib.Core.List.{List}
 use mathlib.Core.Logic.{_⊎_, inl, inr, ⊎-elim, by-cases, _≢_}
 use mathlib.Core.Option.{some as present}
 use borrow.Author.Tests.{eq-eqb, ne-eqb, lt-ltb, le-ltb}
-use Rattle.pass.proofs.SettleLaws.{or-inv, or-none}
 use lib.ListN.{length, getD, getElem?}
 use Rattle.temporal.specs.Plan.{Contact, Plan, mayFollow}
 use Rattle.temporal.specs.Walk.{isAt}
 use Rattle.temporal.specs.Bytes.{contactAt}
+use Rattle.temporal.proofs.ListLaws.{not-both}
 use Rattle.temporal.proofs.WalkLaws.{SlotsWithin}
 use Rattle.counting.proofs.Weights.{everywhere}
 use Rattle.counting.proofs.Fewest.{Fewest, plus, delayed}
 use Rattle.counting.proofs.Recurrence.{before, arrivals, arrivals-suc, arrivals-less, inflow-to-hearer, inflow-other-station}
-use Rattle.entries.proofs.EntryLaws.{Large, Small, overflow-large, overflow-small}
+use Rattle.entries.proofs.EntryLaws.{Entry, Large, Small, overflow-large, overflow-small}
 use Rattle.entries.proofs.HopLaws.{walks-few}
 use Rattle.pass.specs.Row.{partSize}
-use Rattle.pass.specs.Entry.{areaOverflows}
-use Rattle.pass.specs.Sweep.{Sweep, emptied}
+use Rattle.pass.specs.Column.{Lanes}
+use Rattle.pass.specs.Sweep.{Sweep, stopsAt}
 use Rattle.pass.proofs.BestLaws.{best-ext}
 use Rattle.pass.proofs.ColumnLaws.{mayLeave}
+use Rattle.pass.proofs.MaskLaws.{Thin, Filled}
+use Rattle.pass.proofs.SettleLaws.{goes-small, stops-whole, goes-thin}
 use Rattle.pass.proofs.PlanWalks.{none-arrived}
 use Rattle.stale.specs.Depth.{heardBefore}
 use Rattle.stale.specs.Size.{windowSize}
-use Rattle.stale.specs.Window.{ringAt, takenCell, windowCell, windowNext, windowsOf, sentRecords, pushedCell}
-use Rattle.stale.specs.Window.{keptOne, keptNext, keptFrom}
-use Rattle.stale.specs.Window.{TwoParts, WindowArea}
-use Rattle.stale.proofs.DepthLaws.{heard-more, heard-same, rises}
+use Rattle.stale.specs.Window.{ringAt, takenCell, emptiedCell, windowCell, windowNext, windowsOf, sentRecords, pushedCell}
+use Rattle.stale.specs.Window.{goesOn, keptOne, keptRecords, TwoParts, WindowArea}
+use Rattle.stale.proofs.DepthLaws.{heard-more, rises}
 use Rattle.stale.proofs.RingPlaces.{Apart, area-same, ring-before, ring-first, parts-end, heard-fits, heard-windows, totals-heard}
-use Rattle.stale.proofs.WindowCells.{Holds, Alike, OnlyCell, OnlyPart, holds-alike, cell-part, cell-alike, part-alike}
-use Rattle.stale.proofs.WindowCells.{taken-cell, same-holds, later-holds, emptied-part, part-holds}
+use Rattle.stale.proofs.WindowSteps.{on-stop, on-rest, records-stop, records-on}
+use Rattle.stale.proofs.WindowCells.{Holds, ThinAt, Alike, OnlyCell, OnlyPart, holds-alike, thin-alike, cell-part, cell-alike}
+use Rattle.stale.proofs.WindowCells.{part-alike, part-refl, part-then, taken-cell, taken-count, same-holds, later-holds}
+use Rattle.stale.proofs.WindowCells.{emptied-cell, emptied-holds}
 use Rattle.stale.proofs.RingLaws.{Ring, SameRing, ring-same, part-ring, ring-skip, ring-push}
 use Rattle.stale.proofs.RingLaws.{pushed-length, pushed-first, pushed-beyond, pushed-other}
-use Rattle.stale.proofs.WindowWalks.{heardBy, heardIn, sendable, WindowState, WindowHolds, heard-less, in-less, sendable-less}
-use Rattle.stale.proofs.WindowWalks.{window-cell, window-holds, wider}
+use Rattle.stale.proofs.WindowWalks.{heardBy, heardIn, sendable, WindowState, NoneWaits, WindowHolds}
+use Rattle.stale.proofs.WindowWalks.{heard-less, in-less, sendable-less, window-cell, window-holds, window-wide, wider}
 
 -- ---- what stays
 
 -- the state stays where only a part changes that has no totals and no cell of a ring
-state-part : {bs : List ℕ} {p : Plan} {s : ℕ} {may : ℕ → ℕ → Bool} {n block h d c j : ℕ} {old w w′ : List ℕ} (base : ℕ) → 0 < d
-    → partSize n block ≤ base → ((i : ℕ) → i < d → Apart n block (ringAt n block i) base)
+state-part : {bs : List ℕ} {lay : Lanes} {p : Plan} {s : ℕ} {may : ℕ → ℕ → Bool} {n block h d c j : ℕ} {old w w′ : List ℕ}
+    (base : ℕ) → 0 < d → partSize n block ≤ base → ((i : ℕ) → i < d → Apart n block (ringAt n block i) base)
     → base + partSize n block ≤ (3 + d) * partSize n block → OnlyPart n block base w w′
-    → WindowState bs p s may n block h d c j old w → WindowState bs p s may n block h d c j old w′
-state-part {n = n} {block = block} {d = d} base deep low apart end o x =
+    → WindowState bs lay p s may n block h d c j old w → WindowState bs lay p s may n block h d c j old w′
+state-part {lay = lay} {n = n} {block = block} {d = d} base deep low apart end o x =
     record {
       same = o .same ∙ x .same;
       beyond = λ i far. o .other i (inr (omega arith)) ∙ x .beyond i far;
       totals = λ v hv. holds-alike (part-alike 0 v (inl (omega arith)) hv o) (x .totals v hv);
+      thin = λ v hv. thin-alike lay (part-alike {block = block} 0 v (inl (omega arith)) hv o) (x .thin v hv);
       rings = λ v hv. ring-same deep (part-ring v hv apart end o) (x .rings v hv);
     }
 
 -- the windows
-state-window : {bs : List ℕ} {p : Plan} {s : ℕ} {may : ℕ → ℕ → Bool} {n block h d c j : ℕ} {old w w′ : List ℕ} → 0 < d
+pub state-window : {bs : List ℕ} {lay : Lanes} {p : Plan} {s : ℕ} {may : ℕ → ℕ → Bool} {n block h d c j : ℕ} {old w w′ : List ℕ} → 0 < d
     → OnlyPart n block (ringAt n block d) w w′
-    → WindowState bs p s may n block h d c j old w → WindowState bs p s may n block h d c j old w′
+    → WindowState bs lay p s may n block h d c j old w → WindowState bs lay p s may n block h d c j old w′
 state-window {n = n} {block = block} {d = d} deep o x =
     state-part (ringAt n block d) deep (let f = ring-first n block d in omega arith) (λ i h. inl (ring-before n block i d h))
     (parts-end n block d d (omega arith)) o x
 
 -- what is heard
-state-heard : {bs : List ℕ} {p : Plan} {s : ℕ} {may : ℕ → ℕ → Bool} {n block h d c j : ℕ} {old w w′ : List ℕ} → 0 < d
+state-heard : {bs : List ℕ} {lay : Lanes} {p : Plan} {s : ℕ} {may : ℕ → ℕ → Bool} {n block h d c j : ℕ} {old w w′ : List ℕ} → 0 < d
     → OnlyPart n block (partSize n block) w w′
-    → WindowState bs p s may n block h d c j old w → WindowState bs p s may n block h d c j old w′
+    → WindowState bs lay p s may n block h d c j old w → WindowState bs lay p s may n block h d c j old w′
 state-heard {n = n} {block = block} {d = d} deep o x =
     state-part (partSize n block) deep (omega arith) (λ i h. inr (ring-first n block i))
     (let f = ring-first n block d in let e = parts-end n block d d (omega arith) in omega arith) o x
 
 -- ---- the windows are gathered
 
-module _ (p : Plan) (s : ℕ) (col : ℕ → ℕ) (n block c : ℕ) (turns : 0 < p .terms .turnaround) (some : 0 < p .terms .keeping)
-    (bs : List ℕ) (d j : ℕ) (old : List ℕ) (area : WindowArea n block d old) where
-  -- one window more: the state stays, so do the other windows
-  record Next (w w′ : List ℕ) (v : ℕ) : Type 0 where
-    state : WindowState bs p s (mayLeave s col) n block (p .terms .keeping) d c j old w′
-    here : WindowHolds p s (mayLeave s col) n block d (c + 1) w′ v
-    kept : (x : ℕ) → x < n → WindowHolds p s (mayLeave s col) n block d (c + 1) w x
-        → WindowHolds p s (mayLeave s col) n block d (c + 1) w′ x
+module _ (lay : Lanes) (full : Filled lay) (p : Plan) (s : ℕ) (col : ℕ → ℕ) (n block c : ℕ) (turns : 0 < p .terms .turnaround)
+    (some : 0 < p .terms .keeping) (bs : List ℕ) (d j : ℕ) (old : List ℕ) (area : WindowArea n block d old) where
+  -- One window more: what is no window stays; so do the other windows, where the flag is not up. It is up only where an entry has several
+  -- lanes.
+  record Next (w : List ℕ) (y : Sweep) (v : ℕ) : Type 0 where
+    only : OnlyPart n block (ringAt n block d) w (y .work)
+    here : y .over ≡ false → WindowHolds lay p s (mayLeave s col) n block d (c + 1) (y .work) v
+    kept : y .over ≡ false → (x : ℕ) → x < n → WindowHolds lay p s (mayLeave s col) n block d (c + 1) w x
+        → WindowHolds lay p s (mayLeave s col) n block d (c + 1) (y .work) x
+    wide : y .over ≡ true → lay .lanes ≢ 1
 
-  next : (w : List ℕ) (last v : ℕ) → v < n → WindowState bs p s (mayLeave s col) n block (p .terms .keeping) d c j old w
-      → (last < n → WindowHolds p s (mayLeave s col) n block d (c + 1) w last)
-      → Next w (windowNext n block d (p .terms) s col w last v (c + 1)) v
+  next : (w : List ℕ) (last v : ℕ) → v < n → WindowState bs lay p s (mayLeave s col) n block (p .terms .keeping) d c j old w
+      → (last < n → WindowHolds lay p s (mayLeave s col) n block d (c + 1) w last)
+      → Next w (windowNext lay n block d (p .terms) s col w last v (c + 1)) v
   unfolding windowNext
   next w last v hv state held =
       by-cases (ℕ-discrete v last)
       (λ same. rw (eq-eqb v last same)
       (record {
-        state = state;
-        here = subst (λ x. WindowHolds p s (mayLeave s col) n block d (c + 1) w x) (sym same) (held (omega arith));
-        kept = λ x hx there. there;
+        only = part-refl;
+        here = λ f. subst (λ x. WindowHolds lay p s (mayLeave s col) n block d (c + 1) w x) (sym same) (held (omega arith));
+        kept = λ f x hx there. there;
+        wide = λ f. absurd (not-both f refl);
       }))
       (λ other. rw (ne-eqb v last other)
-      (let full = area-same area (state .same) in
-      let only = window-cell p s col n block c turns some bs d j old w full state v hv in
-      let holds = window-holds p s col n block c turns some bs d j old w full state v hv in
+      (let full-area = area-same area (state .same) in
+      let only = window-cell lay full p s col n block c turns some bs d j old w full-area state v hv in
+      let holds = window-holds lay full p s col n block c turns some bs d j old w full-area state v hv in
       record {
-        state = state-window (area .deep) (cell-part hv only) state;
+        only = cell-part hv only;
         here = holds;
-        kept = λ x hx there. by-cases (ℕ-discrete x v)
-            (λ same. subst (λ y. WindowHolds p s (mayLeave s col) n block d (c + 1)
-            (windowCell n block d (p .terms) s col w v (c + 1)) y) (sym same) holds)
+        kept = λ f x hx there. by-cases (ℕ-discrete x v)
+            (λ same. subst (λ y. WindowHolds lay p s (mayLeave s col) n block d (c + 1)
+            (windowCell lay n block d (p .terms) s col w v (c + 1) .work) y) (sym same) (holds f))
             (λ d. holds-alike (cell-alike x d hx hv only) there);
+        wide = window-wide lay full p s col n block c turns some bs d j old w full-area state v hv;
       }))
 
   -- the windows of the senders of k records from position i₀ on
-  pub record Gathered (i₀ k : ℕ) (w w′ : List ℕ) : Type 0 where
-    pub state : WindowState bs p s (mayLeave s col) n block (p .terms .keeping) d c j old w′
-    pub here : (i : ℕ) → i₀ ≤ i → i < i₀ + k → WindowHolds p s (mayLeave s col) n block d (c + 1) w′ (contactAt bs i .sender)
-    pub kept : (x : ℕ) → x < n → WindowHolds p s (mayLeave s col) n block d (c + 1) w x
-        → WindowHolds p s (mayLeave s col) n block d (c + 1) w′ x
+  pub record Gathered (i₀ k : ℕ) (w : List ℕ) (y : Sweep) : Type 0 where
+    pub only : OnlyPart n block (ringAt n block d) w (y .work)
+    pub here : y .over ≡ false → (i : ℕ) → i₀ ≤ i → i < i₀ + k
+        → WindowHolds lay p s (mayLeave s col) n block d (c + 1) (y .work) (contactAt bs i .sender)
+    pub kept : y .over ≡ false → (x : ℕ) → x < n → WindowHolds lay p s (mayLeave s col) n block d (c + 1) w x
+        → WindowHolds lay p s (mayLeave s col) n block d (c + 1) (y .work) x
+    pub wide : y .over ≡ true → lay .lanes ≢ 1
 
   pub windows-gathered : (k : ℕ) (w : List ℕ) (last i₀ : ℕ)
-      → WindowState bs p s (mayLeave s col) n block (p .terms .keeping) d c j old w
-      → (last < n → WindowHolds p s (mayLeave s col) n block d (c + 1) w last)
+      → WindowState bs lay p s (mayLeave s col) n block (p .terms .keeping) d c j old w
+      → (last < n → WindowHolds lay p s (mayLeave s col) n block d (c + 1) w last)
       → ((i : ℕ) → i₀ ≤ i → i < i₀ + k → contactAt bs i .sender < n)
-      → Gathered i₀ k w (windowsOf bs n block d (p .terms) s col w (c + 1) last i₀ k)
+      → Gathered i₀ k w (windowsOf bs lay n block d (p .terms) s col w (c + 1) last i₀ k)
   unfolding windowsOf
   windows-gathered zero w last i₀ state held inside =
-      record { state = state; here = λ i low high. absurd (omega arith); kept = λ x hx there. there }
-  windows-gathered (suc k) w last i₀ state held inside =
-      let one = next w last (contactAt bs i₀ .sender) (inside i₀ (omega arith) (omega arith)) state held in
-      let rest =
-      windows-gathered k (windowNext n block d (p .terms) s col w last (contactAt bs i₀ .sender) (c + 1)) (contactAt bs i₀ .sender) (i₀ + 1)
-      (one .state) (λ h. one .here) (λ i low high. inside i (omega arith) (omega arith)) in
       record {
-        state = rest .state;
-        here = λ i low high. by-cases (ℕ-discrete i i₀)
-            (λ same. rw same (rest .kept (contactAt bs i₀ .sender) (inside i₀ (omega arith) (omega arith)) (one .here)))
-            (λ d. rest .here i (omega arith) (omega arith));
-        kept = λ x hx there. rest .kept x hx (one .kept x hx there);
+        only = part-refl;
+        here = λ f i low high. absurd (omega arith);
+        kept = λ f x hx there. there;
+        wide = λ f. absurd (not-both f refl);
       }
+  windows-gathered (suc k) w last i₀ state held inside =
+      go (one-window .over) refl
+      (λ down. windows-gathered k (one-window .work) (contactAt bs i₀ .sender) (i₀ + 1)
+      (state-window (area .deep) (one .only) state) (λ h. one .here down) (λ i low high. inside i (omega arith) (omega arith)))
+    where
+      one-window : Sweep
+      one-window = windowNext lay n block d (p .terms) s col w last (contactAt bs i₀ .sender) (c + 1)
+
+      hv : contactAt bs i₀ .sender < n
+      hv = inside i₀ (omega arith) (omega arith)
+
+      one : Next w one-window (contactAt bs i₀ .sender)
+      one = next w last (contactAt bs i₀ .sender) hv state held
+
+      others : List ℕ → Sweep
+      others y = windowsOf bs lay n block d (p .terms) s col y (c + 1) (contactAt bs i₀ .sender) (i₀ + 1) k
+
+      go : (b : Bool) → one-window .over ≡ b → (b ≡ false → Gathered (i₀ + 1) k (one-window .work) (others (one-window .work)))
+          → Gathered i₀ (suc k) w (goesOn one-window others)
+      go true e rest =
+          rw (on-stop one-window others e)
+          (record {
+            only = one .only;
+            here = λ f. absurd (not-both e f);
+            kept = λ f. absurd (not-both e f);
+            wide = one .wide;
+          })
+      go false e rest =
+          let more = rest refl in
+          rw (on-rest one-window others e)
+          (record {
+            only = part-then (one .only) (more .only);
+            here = λ f i low high. by-cases (ℕ-discrete i i₀)
+                (λ same. rw same (more .kept f (contactAt bs i₀ .sender) hv (one .here e)))
+                (λ d. more .here f i (omega arith) (omega arith));
+            kept = λ f x hx there. more .kept f x hx (one .kept e x hx there);
+            wide = more .wide;
+          })
 
 -- ---- what is heard in the slot
 
 -- The records from j to before i are folded in: part 1 has what they bring. The windows of the senders from j to before e are there, and so
 -- is the state.
-pub record Hearing (bs : List ℕ) (p : Plan) (s : ℕ) (may : ℕ → ℕ → Bool) (n block h d c : ℕ) (old : List ℕ) (j e i : ℕ) (w : List ℕ)
-    : Type 0 where
-  pub state : WindowState bs p s may n block h d c j old w
-  pub windows : (i : ℕ) → j ≤ i → i < e → WindowHolds p s may n block d (c + 1) w (contactAt bs i .sender)
+pub record Hearing (bs : List ℕ) (lay : Lanes) (p : Plan) (s : ℕ) (may : ℕ → ℕ → Bool) (n block h d c : ℕ) (old : List ℕ)
+    (j e i : ℕ) (w : List ℕ) : Type 0 where
+  pub state : WindowState bs lay p s may n block h d c j old w
+  pub windows : (i : ℕ) → j ≤ i → i < e → WindowHolds lay p s may n block d (c + 1) w (contactAt bs i .sender)
   pub heard : (v : ℕ) → v < n
-      → Holds n block w (partSize n block) v (arrivals p s everywhere i v (c + 1)) (λ m. arrivals p s (may m) i v (c + 1))
+      → Holds lay n block w (partSize n block) v (arrivals p s everywhere i v (c + 1)) (λ m. arrivals p s (may m) i v (c + 1))
 
-module _ (bs : List ℕ) (p : Plan) (s : ℕ) (may : ℕ → ℕ → Bool) (n block h d c : ℕ) (old : List ℕ) (area : WindowArea n block d old)
-    (j e : ℕ) (senders : (i : ℕ) → j ≤ i → i < e → contactAt bs i .sender < n) where
+module _ (bs : List ℕ) (lay : Lanes) (p : Plan) (s : ℕ) (may : ℕ → ℕ → Bool) (n block h d c : ℕ) (old : List ℕ)
+    (area : WindowArea n block d old) (j e : ℕ) (senders : (i : ℕ) → j ≤ i → i < e → contactAt bs i .sender < n) where
   -- part 1 lies before the windows
   before-windows : partSize n block + partSize n block ≤ ringAt n block d
   before-windows = ring-first n block d
 
   -- what does not lie in part 1 stays
-  hearing-on : (i i′ : ℕ) (w w′ : List ℕ) → OnlyPart n block (partSize n block) w w′ → Hearing bs p s may n block h d c old j e i w
+  hearing-on : (i i′ : ℕ) (w w′ : List ℕ) → OnlyPart n block (partSize n block) w w′ → Hearing bs lay p s may n block h d c old j e i w
       → ((v : ℕ) → v < n
-      → Holds n block w′ (partSize n block) v (arrivals p s everywhere i′ v (c + 1)) (λ m. arrivals p s (may m) i′ v (c + 1)))
-      → Hearing bs p s may n block h d c old j e i′ w′
+      → Holds lay n block w′ (partSize n block) v (arrivals p s everywhere i′ v (c + 1)) (λ m. arrivals p s (may m) i′ v (c + 1)))
+      → Hearing bs lay p s may n block h d c old j e i′ w′
   hearing-on i i′ w w′ o x fresh =
       record {
         state = state-heard (area .deep) o (x .state);
@@ -167,19 +208,16 @@ module _ (bs : List ℕ) (p : Plan) (s : ℕ) (may : ℕ → ℕ → Bool) (n bl
       }
 
   -- at first nothing is heard
-  pub hearing-none : (w : List ℕ) → WindowState bs p s may n block h d c j old w
-      → ((i : ℕ) → j ≤ i → i < e → WindowHolds p s may n block d (c + 1) w (contactAt bs i .sender))
+  pub hearing-none : (w : List ℕ) → WindowState bs lay p s may n block h d c j old w → NoneWaits lay n block w
+      → ((i : ℕ) → j ≤ i → i < e → WindowHolds lay p s may n block d (c + 1) w (contactAt bs i .sender))
       → ((i : ℕ) (d : Contact) → i < j → getElem? (p .contacts) i ≡ present d → d .slot ≢ c + 1)
-      → Hearing bs p s may n block h d c old j e j (emptied n w (partSize n block))
-  hearing-none w x windows none =
-      let o = emptied-part n block w (partSize n block) in
+      → Hearing bs lay p s may n block h d c old j e j w
+  hearing-none w x waits windows none =
       record {
-        state = state-heard (area .deep) o x;
-        windows = λ k low high.
-            holds-alike (part-alike (ringAt n block d) (contactAt bs k .sender) (inr before-windows) (senders k low high) o)
-            (windows k low high);
-        heard = λ v hv. part-holds n block w (partSize n block) v hv (heard-fits {w = w} (area-same area (x .same)))
-            (none-arrived p s everywhere j (c + 1) none v);
+        state = x;
+        windows = windows;
+        heard = λ v hv. best-ext (λ k. sym (none-arrived p s everywhere j (c + 1) none v k))
+            (λ m k. sym (none-arrived p s (may m) j (c + 1) none v k)) (waits v hv);
       }
 
   module _ (fits : SlotsWithin p) (few : p .slots ≤ 255) where
@@ -210,8 +248,8 @@ module _ (bs : List ℕ) (p : Plan) (s : ℕ) (may : ℕ → ℕ → Bool) (n bl
     -- a record more
     hearing-more : (i : ℕ) (w : List ℕ) → j ≤ i → i < e → getElem? (p .contacts) i ≡ present (contactAt bs i) → contactAt bs i .slot ≡ c + 1
         → contactAt bs i .hearer < n
-        → Hearing bs p s may n block h d c old j e i w
-        → Hearing bs p s may n block h d c old j e (i + 1)
+        → Hearing bs lay p s may n block h d c old j e i w
+        → Hearing bs lay p s may n block h d c old j e (i + 1)
         (takenCell n block w (partSize n block) (contactAt bs i .hearer) (ringAt n block d) (contactAt bs i .sender) 1)
     hearing-more i w low high there slot hearer x =
         hearing-on i (i + 1) w _ (cell-part hearer only) x (λ v hv.
@@ -244,36 +282,25 @@ module _ (bs : List ℕ) (p : Plan) (s : ℕ) (may : ℕ → ℕ → Bool) (n bl
         → ((x : ℕ) → j ≤ x → x < e → getElem? (p .contacts) x ≡ present (contactAt bs x))
         → ((x : ℕ) → j ≤ x → x < e → contactAt bs x .slot ≡ c + 1)
         → ((x : ℕ) → j ≤ x → x < e → contactAt bs x .hearer < n)
-        → Hearing bs p s may n block h d c old j e i w
-        → Hearing bs p s may n block h d c old j e e (sentRecords bs n block (ringAt n block d) (partSize n block) w i k)
+        → Hearing bs lay p s may n block h d c old j e i w
+        → Hearing bs lay p s may n block h d c old j e e (sentRecords bs n block (ringAt n block d) (partSize n block) w i k)
     unfolding sentRecords
     hearing-all zero i w low end there slot hearer x =
         let same : i ≡ e = omega arith in
-        subst (λ y. Hearing bs p s may n block h d c old j e y w) same x
+        subst (λ y. Hearing bs lay p s may n block h d c old j e y w) same x
     hearing-all (suc k) i w low end there slot hearer x =
         hearing-all k (i + 1) _ (omega arith) (omega arith) there slot hearer
         (hearing-more i w low (omega arith) (there i low (omega arith)) (slot i low (omega arith)) (hearer i low (omega arith)) x)
 
-    -- a station to which nothing came has no record more that it hears in, or it has
-    pub heard-moved : (v k i : ℕ) → j ≤ i → i + k ≡ e
+    -- to a station that no record of the slot has as hearer nothing comes
+    pub none-comes : (v k i : ℕ) → j ≤ i → i + k ≡ e
         → ((x : ℕ) → j ≤ x → x < e → getElem? (p .contacts) x ≡ present (contactAt bs x))
-        → (heardBefore bs v j < heardBefore bs v i) ⊎ ((m : ℕ) → arrivals p s everywhere i v (c + 1) m ≡ 0)
-        → (heardBefore bs v j < heardBefore bs v e) ⊎ ((m : ℕ) → arrivals p s everywhere e v (c + 1) m ≡ 0)
-    heard-moved v zero i low end there x =
-        let same : i ≡ e = omega arith in
-        subst (λ y. (heardBefore bs v j < heardBefore bs v y) ⊎ ((m : ℕ) → arrivals p s everywhere y v (c + 1) m ≡ 0)) same x
-    heard-moved v (suc k) i low end there x =
-        heard-moved v k (i + 1) (omega arith) (omega arith) there
-        (by-cases (ℕ-discrete v (contactAt bs i .hearer))
-        (λ same. inl (omega (arith, heard-more bs v i (sym same), up)))
-        (λ other. ⊎-elim
-        (λ (q : heardBefore bs v j < heardBefore bs v i). inl (omega (arith, heard-same bs v i (λ z. other (sym z)))))
-        (λ (q : (m : ℕ) → arrivals p s everywhere i v (c + 1) m ≡ 0). inr (λ m.
-        sym (at-other everywhere i (contactAt bs i) (there i low (omega arith)) v m other) ∙ q m))
-        x))
-      where
-        up : heardBefore bs v j ≤ heardBefore bs v i
-        up = rises bs v j i low
+        → ((x : ℕ) → j ≤ x → x < e → contactAt bs x .hearer ≢ v)
+        → (m : ℕ) → arrivals p s everywhere i v (c + 1) m ≡ arrivals p s everywhere e v (c + 1) m
+    none-comes v zero i low end there none m = let same : i ≡ e = omega arith in rw same
+    none-comes v (suc k) i low end there none m =
+        at-other everywhere i (contactAt bs i) (there i low (omega arith)) v m (λ q. none i low (omega arith) (sym q))
+        ∙ none-comes v k (i + 1) (omega arith) (omega arith) there none m
 
 -- ---- what was heard is taken into the totals and kept
 
@@ -292,207 +319,300 @@ ring-then : {n block d v : ℕ} {a b c : List ℕ} → SameRing n block d v a b 
 ring-then x y =
     record { cells = λ i h. alike-then (x .cells i h) (y .cells i h); marks = λ i h. y .marks i h ∙ x .marks i h }
 
+-- only station v's cells and its ring change
+record OnlyStation (n block d v : ℕ) (old new : List ℕ) : Type 0 where
+  same : length new ≡ length old
+  beyond : (q : ℕ) → windowSize n d block ≤ q → getD new q 0 ≡ getD old q 0
+  heard : (z : ℕ) → z < n → z ≢ v → Alike n block (partSize n block) z old new
+  totals : (z : ℕ) → z < n → z ≢ v → Alike n block 0 z old new
+  rings : (z : ℕ) → z < n → z ≢ v → SameRing n block d z old new
+
 module _ (n block d u : ℕ) (w : List ℕ) (v : ℕ) where
+  -- what is heard is in the total, then in the ring, and then it waits no more
+  total : List ℕ
+  total = takenCell n block w 0 v (partSize n block) v 0
+
+  pushed : List ℕ
+  pushed = pushedCell n block d total u v
+
+  gone : List ℕ
+  gone = emptiedCell n pushed (partSize n block) v
+
   kept-nothing : 65535 ≤ getD w (partSize n block + v) 0 → keptOne n block d u w v ≡ w
   unfolding keptOne
   kept-nothing none = rw (le-ltb (getD w (partSize n block + v) 0) 65535 none)
 
-  kept-something : getD w (partSize n block + v) 0 < 65535
-      → keptOne n block d u w v ≡ pushedCell n block d (takenCell n block w 0 v (partSize n block) v 0) u v
-  unfolding keptOne
+  kept-something : getD w (partSize n block + v) 0 < 65535 → keptOne n block d u w v ≡ gone
+  unfolding keptOne total pushed gone
   kept-something some = rw (lt-ltb (getD w (partSize n block + v) 0) 65535 some)
 
--- only station v's total and ring change
-record OnlyStation (n block d v : ℕ) (old new : List ℕ) : Type 0 where
-  same : length new ≡ length old
-  beyond : (q : ℕ) → windowSize n d block ≤ q → getD new q 0 ≡ getD old q 0
-  heard : (z : ℕ) → z < n → Alike n block (partSize n block) z old new
-  totals : (z : ℕ) → z < n → z ≢ v → Alike n block 0 z old new
-  rings : (z : ℕ) → z < n → z ≢ v → SameRing n block d z old new
+  module _ (area : WindowArea n block d w) (hv : v < n) where
+    parts-behind : partSize n block + partSize n block ≤ (3 + d) * partSize n block
+    parts-behind = let f = ring-first n block d in let e = parts-end n block d d (omega arith) in omega arith
 
-module _ (n block d : ℕ) (w : List ℕ) (v : ℕ) (area : WindowArea n block d w) (hv : v < n) where
-  total-only : OnlyCell n block 0 v w (takenCell n block w 0 v (partSize n block) v 0)
-  total-only = taken-cell n block w 0 v (partSize n block) v 0 (totals-heard area) hv hv (inl (omega arith))
+    total-only : OnlyCell n block 0 v w total
+    unfolding total
+    total-only = taken-cell n block w 0 v (partSize n block) v 0 (totals-heard area) hv hv (inl (omega arith))
 
-  total-part : OnlyPart n block 0 w (takenCell n block w 0 v (partSize n block) v 0)
-  total-part = cell-part hv total-only
+    -- where keeping goes on, its count fits a lane
+    total-thin : (lay : Lanes) → stopsAt lay n (partSize n block) w v ≡ false → getD w (partSize n block + v) 0 < 65535
+        → Thin lay (getD total (0 + v + n) 0)
+    unfolding total
+    total-thin lay goes some =
+        let place : 0 + v ≡ v = omega arith in
+        let hops : getD w (partSize n block + v) 0 + 0 ≡ getD w (partSize n block + v) 0 = omega arith in
+        rw (taken-count n block w 0 v (partSize n block) v 0 (totals-heard area) hv hv (inl (omega arith)) some)
+        (rw (place, hops) (goes-thin lay n (partSize n block) w v goes some))
 
-  total-ring : (z : ℕ) → z < n → SameRing n block d z w (takenCell n block w 0 v (partSize n block) v 0)
-  total-ring z hz =
-      part-ring z hz (λ i h. inr (let f = ring-first n block i in omega arith))
-      (let f = ring-first n block d in let e = parts-end n block d d (omega arith) in omega arith) total-part
+    total-part : OnlyPart n block 0 w total
+    total-part = cell-part hv total-only
 
-  total-area : WindowArea n block d (takenCell n block w 0 v (partSize n block) v 0)
-  total-area = area-same area (total-only .same)
+    total-ring : (z : ℕ) → z < n → SameRing n block d z w total
+    total-ring z hz =
+        part-ring z hz (λ i h. inr (let f = ring-first n block i in omega arith)) (let e = parts-behind in omega arith) total-part
 
-  one-only : (u : ℕ) → OnlyStation n block d v w (keptOne n block d u w v)
-  one-only u =
-      by-cases (decLe 65535 (getD w (partSize n block + v) 0))
-      (λ none. rw (kept-nothing n block d u w v none)
-      (record {
-        same = refl;
-        beyond = λ q far. refl;
-        heard = λ z hz. itself (partSize n block) z;
-        totals = λ z hz other. itself 0 z;
-        rings = λ z hz other. record { cells = λ i h. itself (ringAt n block i) z; marks = λ i h. refl };
-      }))
-      (λ some. rw (kept-something n block d u w v (omega arith))
-      (record {
-        same = pushed-length n block d one u v total-area hv ∙ total-only .same;
-        beyond = λ q far. pushed-beyond n block d one u v total-area hv q far
-            ∙ total-part .other q (inr (let f = ring-first n block d in let e = parts-end n block d d (omega arith) in omega arith));
-        heard = λ z hz. alike-then (part-alike (partSize n block) z (inr (omega arith)) hz total-part)
-            (pushed-first n block d one u v total-area hv (partSize n block) z hz (ring-first n block 0));
-        totals = λ z hz other. alike-then (cell-alike z other hz hv total-only)
-            (pushed-first n block d one u v total-area hv 0 z hz (let f = ring-first n block 0 in omega arith));
-        rings = λ z hz other. ring-then (total-ring z hz) (pushed-other n block d one u v total-area hv z hz other);
-      }))
-    where
-      one : List ℕ
-      one = takenCell n block w 0 v (partSize n block) v 0
+    total-area : WindowArea n block d total
+    total-area = area-same area (total-only .same)
 
-      itself : (base z : ℕ) → Alike n block base z w w
-      itself base z = record { hops = refl; count = refl; row = λ j q. refl }
+    pushed-area : WindowArea n block d pushed
+    unfolding pushed
+    pushed-area = area-same total-area (pushed-length n block d total u v total-area hv)
 
--- From slot c and position j to slot c + 1 and position e: A station hears in more records, or has no walks in the slot; the rings are deep
--- enough.
-module _ (bs : List ℕ) (p : Plan) (s : ℕ) (may : ℕ → ℕ → Bool) (n block h d c j e : ℕ)
-    (sum : (g : ℕ → Bool) (v k : ℕ) → plus (heardBy p s g v c) (heardIn p s g v (c + 1)) k ≡ heardBy p s g v (c + 1) k)
-    (rise : (v : ℕ) → heardBefore bs v j ≤ heardBefore bs v e)
-    (moved : (v : ℕ) → (heardBefore bs v j < heardBefore bs v e) ⊎ ((m : ℕ) → heardIn p s everywhere v (c + 1) m ≡ 0))
-    (small : (v : ℕ) → heardBefore bs v e < 18446744073709551616)
-    (deep : (v : ℕ) → v < n → (d ≡ h) ⊎ (heardBefore bs v e ≤ d)) where
-  -- what is known of a station before and after it is done
-  pub record Waits (v : ℕ) (w : List ℕ) : Type 0 where
-    pub total : Holds n block w 0 v (heardBy p s everywhere v c) (λ i. heardBy p s (may i) v c)
-    pub ring : Ring n block d h c v (heardBefore bs v j) (heardIn p s everywhere v) (λ i. heardIn p s (may i) v) w
+    -- parts 0 and 1
+    pushed-alike : (base z : ℕ) → z < n → base ≤ partSize n block → Alike n block base z total pushed
+    unfolding pushed
+    pushed-alike base z hz low = pushed-first n block d total u v total-area hv base z hz (let f = ring-first n block 0 in omega arith)
 
+    gone-only : OnlyCell n block (partSize n block) v pushed gone
+    unfolding gone
+    gone-only = emptied-cell n block pushed (partSize n block) v hv (heard-fits pushed-area)
+
+    gone-part : OnlyPart n block (partSize n block) pushed gone
+    gone-part = cell-part hv gone-only
+
+    gone-ring : (z : ℕ) → z < n → SameRing n block d z pushed gone
+    gone-ring z hz = part-ring z hz (λ i h. inr (ring-first n block i)) parts-behind gone-part
+
+    gone-total : (z : ℕ) → z < n → Alike n block 0 z pushed gone
+    gone-total z hz = part-alike 0 z (inl (omega arith)) hz gone-part
+
+    one-only : OnlyStation n block d v w (keptOne n block d u w v)
+    unfolding pushed
+    one-only =
+        by-cases (decLe 65535 (getD w (partSize n block + v) 0))
+        (λ none. rw (kept-nothing none)
+        (record {
+          same = refl;
+          beyond = λ q far. refl;
+          heard = λ z hz other. itself (partSize n block) z;
+          totals = λ z hz other. itself 0 z;
+          rings = λ z hz other. record { cells = λ i h. itself (ringAt n block i) z; marks = λ i h. refl };
+        }))
+        (λ some. rw (kept-something (omega arith))
+        (record {
+          same = gone-only .same ∙ pushed-length n block d total u v total-area hv ∙ total-only .same;
+          beyond = λ q far. let e = parts-behind in
+              gone-part .other q (inr (omega arith)) ∙ pushed-beyond n block d total u v total-area hv q far
+              ∙ total-part .other q (inr (omega arith));
+          heard = λ z hz other. alike-then (part-alike (partSize n block) z (inr (omega arith)) hz total-part)
+              (alike-then (pushed-alike (partSize n block) z hz (omega arith)) (cell-alike z other hz hv gone-only));
+          totals = λ z hz other. alike-then (cell-alike z other hz hv total-only)
+              (alike-then (pushed-alike 0 z hz (omega arith)) (gone-total z hz));
+          rings = λ z hz other. ring-then (total-ring z hz)
+              (ring-then (pushed-other n block d total u v total-area hv z hz other) (gone-ring z hz));
+        }))
+      where
+        itself : (base z : ℕ) → Alike n block base z w w
+        itself base z = record { hops = refl; count = refl; row = λ j q. refl }
+
+-- an entry of no walks has no hops
+none-hops : {h k : ℕ} → Entry (λ i. 0) h k → 65535 ≤ h
+none-hops {h} x = by-cases (decLe 65535 h) (λ q. q) (λ q. absurd (omega (arith, x .fewest .some (omega arith))))
+
+-- From slot c and position j to slot c + 1 and position e, on a work area that was old.
+module _ (bs : List ℕ) (lay : Lanes) (p : Plan) (s : ℕ) (may : ℕ → ℕ → Bool) (n block h d c j e : ℕ) (old : List ℕ) where
+  -- what is known of a station that no record before i has as hearer: what it heard waits
+  pub record Waits (i v : ℕ) (w : List ℕ) : Type 0 where
+    pub total : Holds lay n block w 0 v (heardBy p s everywhere v c) (λ m. heardBy p s (may m) v c)
+    pub ring : Ring lay n block d h c v (heardBefore bs v j) (heardIn p s everywhere v) (λ m. heardIn p s (may m) v) w
+    pub heard : Holds lay n block w (partSize n block) v (heardIn p s everywhere v (c + 1)) (λ m. heardIn p s (may m) v (c + 1))
+    pub thin : ThinAt lay n 0 v w
+    pub fresh : (x : ℕ) → j ≤ x → x < i → contactAt bs x .hearer ≢ v
+
+  -- and of one for which it is done: it is kept, not too many, and its total fits a lane
   pub record Done (v : ℕ) (w : List ℕ) : Type 0 where
-    pub total : Holds n block w 0 v (heardBy p s everywhere v (c + 1)) (λ i. heardBy p s (may i) v (c + 1))
-    pub ring : Ring n block d h (c + 1) v (heardBefore bs v e) (heardIn p s everywhere v) (λ i. heardIn p s (may i) v) w
+    pub total : Holds lay n block w 0 v (heardBy p s everywhere v (c + 1)) (λ m. heardBy p s (may m) v (c + 1))
+    pub ring : Ring lay n block d h (c + 1) v (heardBefore bs v e) (heardIn p s everywhere v) (λ m. heardIn p s (may m) v) w
+    pub none : Holds lay n block w (partSize n block) v (λ k. 0) (λ m k. 0)
+    pub thin : ThinAt lay n 0 v w
+    pub few : Small (heardIn p s everywhere v (c + 1))
 
-  abbrev Heard : ℕ → List ℕ → Type 0
-  Heard v w = Holds n block w (partSize n block) v (heardIn p s everywhere v (c + 1)) (λ i. heardIn p s (may i) v (c + 1))
+  -- the hearers of the records from j to before i are done; of the other stations what they heard waits, or they are done too
+  pub record Midway (i : ℕ) (w : List ℕ) : Type 0 where
+    pub same : length w ≡ length old
+    pub beyond : (q : ℕ) → windowSize n d block ≤ q → getD w q 0 ≡ getD old q 0
+    pub stations : (v : ℕ) → v < n → Done v w ⊎ Waits i v w
 
-  one-done : (w : List ℕ) (v : ℕ) → WindowArea n block d w → v < n → Heard v w → Waits v w → Done v (keptOne n block d (c + 1) w v)
-  unfolding plus
-  one-done w v area hv heard x =
-      by-cases (decLe 65535 (getD w (partSize n block + v) 0))
-      (λ none.
-      let f = heard .entry .fewest in
-      let nothing : (k : ℕ) → heardIn p s everywhere v (c + 1) k ≡ 0 = f .never (let b = f .bound in omega arith) in
-      rw (kept-nothing n block d (c + 1) w v none)
-      (record {
-        total = best-ext (λ k. omega (arith, sum everywhere v k, nothing k))
-            (λ i k. omega (arith, sum (may i) v k, nothing k, in-less p s (may i) v (c + 1) k)) (x .total);
-        ring = ring-skip nothing (rise v) (x .ring);
-      }))
-      (λ some.
-      let f = heard .entry .fewest in
-      let walks = f .some (omega arith) in
-      rw (kept-something n block d (c + 1) w v (omega arith))
-      (record {
-        total = holds-alike (pushed-first n block d one (c + 1) v (total-area n block d w v area hv) hv 0 v hv
-            (let q = ring-first n block 0 in omega arith))
-            (best-ext (sum everywhere v) (λ i. sum (may i) v)
-            (same-holds n block w 0 v (partSize n block) v (totals-heard area) hv hv (inl (omega arith)) (heardBy p s everywhere v c)
-            (heardIn p s everywhere v (c + 1)) (λ i. heardBy p s (may i) v c) (λ i. heardIn p s (may i) v (c + 1))
-            (λ i k. heard-less p s (may i) v c k) (λ i k. in-less p s (may i) v (c + 1) k) (x .total) heard));
-        ring = ring-push (total-area n block d w v area hv) hv (deep v hv)
-            (⊎-elim (λ (q : heardBefore bs v j < heardBefore bs v e). q)
-            (λ (q : (m : ℕ) → heardIn p s everywhere v (c + 1) m ≡ 0).
-            absurd (omega (arith, q (getD w (partSize n block + v) 0)))) (moved v))
-            (small v) (λ i k. in-less p s (may i) v (c + 1) k)
-            (holds-alike (part-alike (partSize n block) v (inr (omega arith)) hv (total-part n block d w v area hv)) heard)
-            (ring-same (area .deep) (total-ring n block d w v area hv v hv) (x .ring));
-      }))
-    where
-      one : List ℕ
-      one = takenCell n block w 0 v (partSize n block) v 0
+  -- the records up to a position are done: all of them, or those before a hearer that has too many or whose total does not fit a lane
+  pub record Kept (y : Sweep) : Type 0 where
+    pub position : ℕ
+    pub midway : Midway position (y .work)
+    pub over : y .over ≡ true → lay .lanes ≡ 1 → LargeHere n (λ v. heardIn p s everywhere v (c + 1))
+    pub all : y .over ≡ false → position ≡ e
 
-  -- the stations from v on are done; the flag says whether one of them is large
-  pub record Kept (v : ℕ) (x y : Sweep) : Type 0 where
-    pub same : length (y .work) ≡ length (x .work)
-    pub beyond : (q : ℕ) → windowSize n d block ≤ q → getD (y .work) q 0 ≡ getD (x .work) q 0
-    pub done : (z : ℕ) → z < n → Done z (y .work)
-    pub over : y .over ≡ true → (x .over ≡ true) ⊎ LargeHere n (λ z. heardIn p s everywhere z (c + 1))
-    pub within : y .over ≡ false → (x .over ≡ false) × ((z : ℕ) → v ≤ z → z < n → Small (heardIn p s everywhere z (c + 1)))
+  -- A station that no record between has as hearer has no walks in the slot; the rings are deep enough.
+  module _ (area : WindowArea n block d old) (from : j ≤ e)
+      (sum : (g : ℕ → Bool) (v k : ℕ) → plus (heardBy p s g v c) (heardIn p s g v (c + 1)) k ≡ heardBy p s g v (c + 1) k)
+      (unheard : (v : ℕ) → ((x : ℕ) → j ≤ x → x < e → contactAt bs x .hearer ≢ v) → (m : ℕ) → heardIn p s everywhere v (c + 1) m ≡ 0)
+      (small : (v : ℕ) → heardBefore bs v e < 18446744073709551616)
+      (deep : (v : ℕ) → v < n → (d ≡ h) ⊎ (heardBefore bs v e ≤ d)) where
+    waits-same : {i v : ℕ} {w w′ : List ℕ} → Alike n block 0 v w w′ → SameRing n block d v w w′ → Alike n block (partSize n block) v w w′
+        → contactAt bs i .hearer ≢ v
+        → Waits i v w → Waits (i + 1) v w′
+    waits-same {i} a r b other x =
+        record {
+          total = holds-alike a (x .total);
+          ring = ring-same (area .deep) r (x .ring);
+          heard = holds-alike b (x .heard);
+          thin = thin-alike lay a (x .thin);
+          fresh = λ y low high. by-cases (ℕ-discrete y i) (λ same. rw same other) (λ q. x .fresh y low (omega arith));
+        }
 
-  next-work : (x : Sweep) (v : ℕ) (P : List ℕ → Type 0)
-      → P (keptOne n block d (c + 1) (x .work) v) → P (keptNext n block d (c + 1) x v .work)
-  unfolding keptNext
-  next-work x v P h = h
+    done-same : {v : ℕ} {w w′ : List ℕ} → Alike n block 0 v w w′ → SameRing n block d v w w′ → Alike n block (partSize n block) v w w′
+        → Done v w → Done v w′
+    done-same a r b x =
+        record {
+          total = holds-alike a (x .total);
+          ring = ring-same (area .deep) r (x .ring);
+          none = holds-alike b (x .none);
+          thin = thin-alike lay a (x .thin);
+          few = x .few;
+        }
 
-  next-over : (x : Sweep) (v : ℕ) (b : Bool) → keptNext n block d (c + 1) x v .over ≡ b
-      → (x .over || areaOverflows n (x .work) (partSize n block + v)) ≡ b
-  unfolding keptNext
-  next-over x v b e = e
+    -- a station that has no walks in the slot is done
+    idle-done : (i v : ℕ) (w : List ℕ) → ((m : ℕ) → heardIn p s everywhere v (c + 1) m ≡ 0) → Waits i v w → Done v w
+    unfolding plus
+    idle-done i v w nothing x =
+        record {
+          total = best-ext (λ k. omega (arith, sum everywhere v k, nothing k))
+              (λ m k. omega (arith, sum (may m) v k, nothing k, in-less p s (may m) v (c + 1) k)) (x .total);
+          ring = ring-skip nothing (rises bs v j e from) (x .ring);
+          none = best-ext nothing (λ m k. omega (arith, nothing k, in-less p s (may m) v (c + 1) k)) (x .heard);
+          thin = x .thin;
+          few = record { small = λ k f. omega (arith, nothing k) };
+        }
 
-  waits-same : {v : ℕ} {w w′ : List ℕ} → 0 < d → Alike n block 0 v w w′ → SameRing n block d v w w′ → Waits v w → Waits v w′
-  waits-same some a r x = record { total = holds-alike a (x .total); ring = ring-same some r (x .ring) }
+    -- so is one whose walks are kept
+    one-done : (i v : ℕ) (w : List ℕ) → WindowArea n block d w → v < n → heardBefore bs v j < heardBefore bs v e
+        → stopsAt lay n (partSize n block) w v ≡ false
+        → Waits i v w → Done v (keptOne n block d (c + 1) w v)
+    unfolding total pushed gone
+    one-done i v w full hv more goes x =
+        by-cases (decLe 65535 (getD w (partSize n block + v) 0))
+        (λ none.
+        let f = x .heard .entry .fewest in
+        rw (kept-nothing n block d (c + 1) w v none) (idle-done i v w (f .never (let b = f .bound in omega arith)) x))
+        (λ some.
+        rw (kept-something n block d (c + 1) w v (omega arith))
+        (record {
+          total = holds-alike
+              (alike-then (pushed-alike n block d (c + 1) w v full hv 0 v hv (omega arith)) (gone-total n block d (c + 1) w v full hv v hv))
+              (best-ext (sum everywhere v) (λ m. sum (may m) v)
+              (same-holds n block w 0 v (partSize n block) v (totals-heard full) hv hv (inl (omega arith)) (heardBy p s everywhere v c)
+              (heardIn p s everywhere v (c + 1)) (λ m. heardBy p s (may m) v c) (λ m. heardIn p s (may m) v (c + 1))
+              (λ m k. heard-less p s (may m) v c k) (λ m k. in-less p s (may m) v (c + 1) k) (x .total) (x .heard)));
+          ring = ring-same (area .deep) (gone-ring n block d (c + 1) w v full hv v hv)
+              (ring-push (total-area n block d (c + 1) w v full hv) hv (deep v hv) more (small v) (λ m k. in-less p s (may m) v (c + 1) k)
+              (holds-alike (part-alike (partSize n block) v (inr (omega arith)) hv (total-part n block d (c + 1) w v full hv)) (x .heard))
+              (ring-same (area .deep) (total-ring n block d (c + 1) w v full hv v hv) (x .ring)));
+          none = emptied-holds n block (pushed n block d (c + 1) w v) (partSize n block) v hv
+              (heard-fits (pushed-area n block d (c + 1) w v full hv)) (λ k. refl);
+          thin = thin-alike lay
+              (alike-then (pushed-alike n block d (c + 1) w v full hv 0 v hv (omega arith)) (gone-total n block d (c + 1) w v full hv v hv))
+              (λ g. total-thin n block d (c + 1) w v full hv lay goes (omega arith));
+          few = overflow-small (x .heard .entry) (goes-small lay n (partSize n block) w v goes);
+        }))
 
-  done-same : {v : ℕ} {w w′ : List ℕ} → 0 < d → Alike n block 0 v w w′ → SameRing n block d v w w′ → Done v w → Done v w′
-  done-same some a r x = record { total = holds-alike a (x .total); ring = ring-same some r (x .ring) }
+    -- past the last record all are done
+    pub all-done : (w : List ℕ) → Midway e w → (v : ℕ) → v < n → Done v w
+    all-done w x v hv = ⊎-elim (λ q. q) (λ q. idle-done e v w (unheard v (q .fresh)) q) (x .stations v hv)
 
-  pub kept-all : (k v : ℕ) (x : Sweep) → v + k ≡ n → WindowArea n block d (x .work)
-      → ((z : ℕ) → z < n → Heard z (x .work))
-      → ((z : ℕ) → z < n → z < v → Done z (x .work))
-      → ((z : ℕ) → z < n → v ≤ z → Waits z (x .work))
-      → Kept v x (keptFrom n block d (c + 1) x v k)
-  unfolding keptFrom
-  kept-all zero v x end area heard done rest =
-      record {
-        same = refl;
-        beyond = λ q far. refl;
-        done = λ z hz. done z hz (omega arith);
-        over = inl;
-        within = λ f. (f, λ z low high. absurd (omega arith));
-      }
-  kept-all (suc k) v x end area heard done rest =
-      after (kept-all k (v + 1) (keptNext n block d (c + 1) x v) (omega arith) area′ heard′ done′ rest′)
-    where
-      hv : v < n
-      hv = omega arith
+    module _ (i : ℕ) (w : List ℕ) (low : j ≤ i) (high : i < e) (hv : contactAt bs i .hearer < n) (x : Midway i w) where
+      -- with one lane to an entry a count over 2^64 - 1 is that of a large sequence
+      midway-large : stopsAt lay n (partSize n block) w (contactAt bs i .hearer) ≡ true → lay .lanes ≡ 1
+          → LargeHere n (λ v. heardIn p s everywhere v (c + 1))
+      midway-large stops one =
+          let over = stops-whole lay n (partSize n block) w (contactAt bs i .hearer) one stops in
+          ⊎-elim
+          (λ (q : Done (contactAt bs i .hearer) w). absurd (let l = overflow-large (q .none .entry) over in omega (arith, l .large)))
+          (λ (q : Waits i (contactAt bs i .hearer) w).
+          record { station = contactAt bs i .hearer; inside = hv; large = overflow-large (q .heard .entry) over })
+          (x .stations (contactAt bs i .hearer) hv)
 
-      only : OnlyStation n block d v (x .work) (keptOne n block d (c + 1) (x .work) v)
-      only = one-only n block d (x .work) v area hv (c + 1)
-
-      here : Done v (keptOne n block d (c + 1) (x .work) v)
-      here = one-done (x .work) v area hv (heard v hv) (rest v hv (omega arith))
-
-      area′ : WindowArea n block d (keptNext n block d (c + 1) x v .work)
-      area′ = next-work x v (λ l. WindowArea n block d l) (area-same area (only .same))
-
-      heard′ : (z : ℕ) → z < n → Heard z (keptNext n block d (c + 1) x v .work)
-      heard′ z hz = next-work x v (λ l. Heard z l) (holds-alike (only .heard z hz) (heard z hz))
-
-      done′ : (z : ℕ) → z < n → z < v + 1 → Done z (keptNext n block d (c + 1) x v .work)
-      done′ z hz low = next-work x v (λ l. Done z l)
-          (by-cases (ℕ-discrete z v)
-          (λ same. subst (λ y. Done y (keptOne n block d (c + 1) (x .work) v)) (sym same) here)
-          (λ other. done-same (area .deep) (only .totals z hz other) (only .rings z hz other) (done z hz (omega arith))))
-
-      rest′ : (z : ℕ) → z < n → v + 1 ≤ z → Waits z (keptNext n block d (c + 1) x v .work)
-      rest′ z hz low = next-work x v (λ l. Waits z l)
-          (waits-same (area .deep) (only .totals z hz (omega arith)) (only .rings z hz (omega arith)) (rest z hz (omega arith)))
-
-      after : Kept (v + 1) (keptNext n block d (c + 1) x v) (keptFrom n block d (c + 1) (keptNext n block d (c + 1) x v) (v + 1) k)
-          → Kept v x (keptFrom n block d (c + 1) (keptNext n block d (c + 1) x v) (v + 1) k)
-      after r =
+      -- a record more; where its hearer is done already, nothing changes
+      midway-more : stopsAt lay n (partSize n block) w (contactAt bs i .hearer) ≡ false
+          → Midway (i + 1) (keptOne n block d (c + 1) w (contactAt bs i .hearer))
+      midway-more goes =
           record {
-            same = r .same ∙ next-work x v (λ l. length l ≡ length (x .work)) (only .same);
-            beyond = λ q far. r .beyond q far ∙ next-work x v (λ l. getD l q 0 ≡ getD (x .work) q 0) (only .beyond q far);
-            done = r .done;
-            over = λ f. ⊎-elim
-                (λ i. ⊎-elim inl
-                (λ o. inr (record { station = v; inside = hv; large = overflow-large (heard v hv .entry) o }))
-                (or-inv (x .over) (areaOverflows n (x .work) (partSize n block + v)) (next-over x v true i)))
-                inr (r .over f);
-            within = λ f.
-                let (a, later) = r .within f in
-                let (b, q) = or-none (x .over) (areaOverflows n (x .work) (partSize n block + v)) (next-over x v false a) in (
-                  b,
-                  λ z from inside. by-cases (ℕ-discrete z v)
-                      (λ same. rw same (overflow-small (heard v hv .entry) q)) (λ ne. later z (omega arith) inside),
-                );
+            same = only .same ∙ x .same;
+            beyond = λ q far. only .beyond q far ∙ x .beyond q far;
+            stations = λ z hz. by-cases (ℕ-discrete z (contactAt bs i .hearer))
+                (λ same. inl (subst (λ y. Done y (keptOne n block d (c + 1) w (contactAt bs i .hearer))) (sym same) here))
+                (λ other. ⊎-elim
+                (λ q. inl (done-same (only .totals z hz other) (only .rings z hz other) (only .heard z hz other) q))
+                (λ q. inr (waits-same (only .totals z hz other) (only .rings z hz other) (only .heard z hz other) (λ y. other (sym y)) q))
+                (x .stations z hz));
           }
+        where
+          full : WindowArea n block d w
+          full = area-same area (x .same)
+
+          only : OnlyStation n block d (contactAt bs i .hearer) w (keptOne n block d (c + 1) w (contactAt bs i .hearer))
+          only = one-only n block d (c + 1) w (contactAt bs i .hearer) full hv
+
+          more : heardBefore bs (contactAt bs i .hearer) j < heardBefore bs (contactAt bs i .hearer) e
+          more =
+              omega (
+                arith,
+                rises bs (contactAt bs i .hearer) j i low,
+                heard-more bs (contactAt bs i .hearer) i refl,
+                rises bs (contactAt bs i .hearer) (i + 1) e (omega arith),
+              )
+
+          here : Done (contactAt bs i .hearer) (keptOne n block d (c + 1) w (contactAt bs i .hearer))
+          here =
+              ⊎-elim
+              (λ (q : Done (contactAt bs i .hearer) w).
+              rw (kept-nothing n block d (c + 1) w (contactAt bs i .hearer) (none-hops (q .none .entry))) q)
+              (one-done i (contactAt bs i .hearer) w full hv more goes)
+              (x .stations (contactAt bs i .hearer) hv)
+
+    pub kept-all : ((i : ℕ) → j ≤ i → i < e → contactAt bs i .hearer < n) → (k i : ℕ) (w : List ℕ) → j ≤ i → i + k ≡ e → Midway i w
+        → Kept (keptRecords bs lay n block d (c + 1) w i k)
+    unfolding keptRecords
+    kept-all hearers zero i w low end x =
+        record {
+          position = i;
+          midway = x;
+          over = λ f. absurd (let z : _≡_ {A = ℕ} 0 1 = cc in omega arith);
+          all = λ f. omega arith;
+        }
+    kept-all hearers (suc k) i w low end x =
+        go (stopsAt lay n (partSize n block) w (contactAt bs i .hearer)) refl
+        (λ goes. kept-all hearers k (i + 1) _ (omega arith) (omega arith) (midway-more i w low (omega arith) hv x goes))
+      where
+        hv : contactAt bs i .hearer < n
+        hv = hearers i low (omega arith)
+
+        go : (b : Bool) → stopsAt lay n (partSize n block) w (contactAt bs i .hearer) ≡ b
+            → (b ≡ false → Kept (keptRecords bs lay n block d (c + 1) (keptOne n block d (c + 1) w (contactAt bs i .hearer)) (i + 1) k))
+            → Kept (keptRecords bs lay n block d (c + 1) w i (suc k))
+        go true q rest =
+            rw (records-stop bs lay n block d (c + 1) w i k q)
+            (record {
+              position = i;
+              midway = x;
+              over = λ f one. midway-large i w low (omega arith) hv x q one;
+              all = λ f. absurd (let z : _≡_ {A = ℕ} 0 1 = cc in omega arith);
+            })
+        go false q rest = rw (records-on bs lay n block d (c + 1) w i k q) (rest refl)

@@ -1,27 +1,35 @@
 -- The functions of the pass where readings go stale: what they leave, from what the functions that they call leave, and their loops.
 -- Assumes nothing.
-use Prim.Native.Nat.{ℕ, suc, _+_, _-_, _%_, _^_, _<_, _≤_, min}
+use Prim.Native.Nat.{ℕ, suc, _+_, _-_, _*_, _/_, _%_, _^_, _<_, _≤_, min}
 use native.Mathlib.Omega.{arith}
-use native.Mathlib.Nat.{mod-lt}
+use native.Mathlib.Nat.{mod-lt, mul-le-mul, le-of-lt}
+use lib.Pow.{pow-mono}
 use mathlib.Core.Path.{_≡_, refl, sym, ap, _∙_}
-use mathlib.Core.Bool.{Bool, true, false, or-true, or-false}
+use mathlib.Core.Bool.{Bool, true, false, and-false}
 use mathlib.Core.List.{List}
 use mathlib.Core.Logic.{_≢_}
 use borrow.Author.Tests.{lt-ltb, le-ltb, eq-eqb, ne-eqb}
+use lib.Dec.{ltb, eqb}
 use lib.ListN.{length, getD, set}
 use Rattle.temporal.specs.Plan.{Terms, units, windowFirst, windowEnd}
-use Rattle.temporal.specs.Bytes.{contactAt, records}
+use Rattle.temporal.specs.Bytes.{contactAt}
+use Rattle.temporal.proofs.ListLaws.{not-both}
 use Rattle.memory.specs.Fill.{filled}
 use Rattle.temporal.specs.Plan as temporal
 use Rattle.plan.specs.declared.Contact.{Contact}
 use Rattle.plan.specs.Record.{contactOf}
 use Rattle.entries.proofs.CountLaws.{overflows-some, overflows-none}
 use Rattle.pass.specs.Row.{partSize, rowAt}
+use Rattle.lanes.specs.Lane.{ones, lanesOf, widthOf}
+use Rattle.pass.specs.declared.Columns.{Columns}
+use Rattle.pass.specs.Column.{Lanes, lanesBy, columnOf}
 use Rattle.pass.specs.Entry.{absorbed, Absorbable}
-use Rattle.pass.specs.Sweep.{Sweep, sweepOf, emptied, begunArea}
-use Rattle.stale.specs.Window.{ringAt, markAt, takenCell, openedCell, emptiedCell, maskedRow, keptCell, gatheredCell, keptCells}
-use Rattle.stale.specs.Window.{windowCell, windowNext, windowsOf, sentRecords, pushedAt, pushedCell, keptOne, keptNext, keptFrom}
-use Rattle.stale.specs.Window.{windowSlot, begunWindow, TwoParts, WindowArea}
+use Rattle.pass.specs.Sweep.{Sweep, sweepOf, clearedColumn, tooWide, stopsAt, begunArea}
+use Rattle.pass.proofs.WidthLaws.{column-entry, ones-by, wide-split, wide-whole}
+use Rattle.stale.specs.Window.{ringAt, markAt, takenCell, openedCell, emptiedCell, maskedRow, wideEntry, maskedCell}
+use Rattle.stale.specs.Window.{keptCell, gatheredCell, keptCells}
+use Rattle.stale.specs.Window.{windowCell, windowNext, windowsOf, sentRecords, pushedAt, pushedCell, keptOne, keptNext}
+use Rattle.stale.specs.Window.{goesOn, keptRecords, windowSlot, begunWindow, TwoParts, WindowArea, GatheredNext}
 use Rattle.pass.proofs.PlaceLaws.{row-inside}
 use Rattle.stale.proofs.RingPlaces.{ring-next, mark-next, mark-at, ring-fits, mark-fits}
 
@@ -50,24 +58,70 @@ module _ (n block : ℕ) (w : List ℕ) (to v from x : ℕ) where
 
 -- ---- one entry
 
-pub opened-by : (n block : ℕ) (w : List ℕ) (base v row : ℕ) (out : List ℕ) → row ≡ rowAt n block v
-    → out ≡ filled (set (set w (base + v) 0) (base + v + n) 1) (base + row) block 1
-    → out ≡ openedCell n block w base v
+pub opened-by : (n block : ℕ) (w : List ℕ) (base v one row : ℕ) (out : List ℕ) → row ≡ rowAt n block v
+    → out ≡ filled (set (set w (base + v) 0) (base + v + n) 1) (base + row) block one
+    → out ≡ openedCell n block w base v one
 unfolding openedCell
-opened-by n block w base v row out a e = e ∙ rw a
+opened-by n block w base v one row out a e = e ∙ rw a
 
 pub emptied-cell-by : (n : ℕ) (w : List ℕ) (base v : ℕ) → set (set w (base + v) 65535) (base + v + n) 0 ≡ emptiedCell n w base v
 unfolding emptiedCell
 emptied-cell-by n w base v = refl
 
-module _ (block : ℕ) (col : ℕ → ℕ) (w : List ℕ) (row v : ℕ) where
-  pub row-own : (j : ℕ) → j ≡ col v → j < block → set w (row + j) 0 ≡ maskedRow block col w row v
-  unfolding maskedRow
-  row-own j c inside = rw (lt-ltb (col v) block (omega arith), c)
+-- the column that stands for v, of so many as the split gives
+module _ (block v split x count j row : ℕ) (kind : Columns) (set : List ℕ) (w : List ℕ) (is : x ≡ split) (all : count ≡ block * 2 ^ x)
+    (at : j ≡ columnOf kind set count v) where
+  number : count ≡ block * 2 ^ split
+  number = all ∙ ap (λ k. block * 2 ^ k) is
 
-  pub row-none : (j : ℕ) → j ≡ col v → block ≤ j → w ≡ maskedRow block col w row v
+  own : columnOf kind set (block * 2 ^ split) v ≡ j
+  own = ap (λ k. columnOf kind set k v) (sym number) ∙ sym at
+
+  pub row-own : (out : List ℕ) → j < count → out ≡ clearedColumn (lanesBy x) w row j
+      → out ≡ maskedRow (lanesBy split) block (columnOf kind set (block * 2 ^ split)) w row v
   unfolding maskedRow
-  row-none j c past = sym (rw (le-ltb (col v) block (omega arith)))
+  row-own out inside e =
+      rw (lt-ltb (columnOf kind set (block * 2 ^ split) v) (block * 2 ^ split) (omega (arith, own, number)))
+      (e ∙ ap (λ k. clearedColumn (lanesBy k) w row j) is ∙ ap (clearedColumn (lanesBy split) w row) (sym own))
+
+  pub row-none : count ≤ j → w ≡ maskedRow (lanesBy split) block (columnOf kind set (block * 2 ^ split)) w row v
+  unfolding maskedRow
+  row-none past = sym (rw (le-ltb (columnOf kind set (block * 2 ^ split) v) (block * 2 ^ split) (omega (arith, own, number))))
+
+-- a column of the row at a place can be cleared
+pub row-asked : (block x count j row size : ℕ) → count ≡ block * 2 ^ x → x ≤ 3 → j < count → row + block ≤ size → block < 2 ^ 60
+    → (x ≤ 3) × (j < 2 ^ 63) × (row + j / 2 ^ x < size)
+row-asked block x count j row size all few inside fits small =
+    let entry = column-entry x j block (rw all at inside) in
+    let lanes : 2 ^ x ≤ 8 = pow-mono {i = x} {j = 3} few in
+    let most = mul-le-mul (le-of-lt small) lanes in
+    (few, omega (arith, all, most), omega arith)
+
+-- whether a count does not fit a lane
+module _ (split n : ℕ) (w : List ℕ) (at x : ℕ) (is : x ≡ split) where
+  pub entry-whole : x ≡ 0 → false ≡ wideEntry (lanesBy split) n w at
+  unfolding wideEntry
+  entry-whole e =
+      rw (← wide-whole split 65535 0 (getD w at 0) (getD w (at + n) 0) (sym is ∙ e)) (sym (and-false (ltb (getD w at 0) 65535)))
+
+  pub entry-some : (r : Bool) → getD w at 0 < 65535 → r ≡ tooWide (lanesBy x) 65535 0 (getD w at 0) (getD w (at + n) 0)
+      → r ≡ wideEntry (lanesBy split) n w at
+  unfolding wideEntry
+  entry-some r some e = rw (lt-ltb (getD w at 0) 65535 some) (e ∙ wide-split x split 65535 0 (getD w at 0) (getD w (at + n) 0) is)
+
+  pub entry-none : 65535 ≤ getD w at 0 → false ≡ wideEntry (lanesBy split) n w at
+  unfolding wideEntry
+  entry-none none = rw (le-ltb (getD w at 0) 65535 none)
+
+module _ (lay : Lanes) (n block : ℕ) (col : ℕ → ℕ) (w : List ℕ) (base v : ℕ) where
+  pub mask-stop : true ≡ wideEntry lay n w (base + v) → sweepOf true w ≡ maskedCell lay n block col w base v
+  unfolding maskedCell
+  mask-stop wide = rw (← wide)
+
+  pub mask-done : (row : ℕ) (out : List ℕ) → false ≡ wideEntry lay n w (base + v) → row ≡ rowAt n block v
+      → out ≡ maskedRow lay block col w (base + row) v → sweepOf false out ≡ maskedCell lay n block col w base v
+  unfolding maskedCell
+  mask-done row out narrow a e = rw (← narrow) (ap (sweepOf false) (e ∙ rw a))
 
 -- ---- the cells of a ring
 
@@ -153,64 +207,101 @@ kept-few n block d w v r is = omega arith
 
 -- ---- a window
 
-module _ (n block g h d s : ℕ) (col : ℕ → ℕ) (w : List ℕ) (v u base : ℕ) (is : base ≡ ringAt n block d) where
-  pub window-source : (out : List ℕ) → v ≡ s → out ≡ openedCell n block w base v → out ≡ windowCell n block d (units g h) s col w v u
+module _ (split n block g h d s : ℕ) (col : ℕ → ℕ) (w : List ℕ) (v u base : ℕ) (is : base ≡ ringAt n block d) where
+  pub window-source : (x one : ℕ) (out : List ℕ) → v ≡ s → x ≡ split → one ≡ ones (widthOf x) (lanesOf x)
+      → out ≡ openedCell n block w base v one
+      → sweepOf false out ≡ windowCell (lanesBy split) n block d (units g h) s col w v u
   unfolding windowCell
-  window-source out same e = rw (eq-eqb v s same) (e ∙ rw is)
+  window-source x one out same e f g =
+      rw (eq-eqb v s same)
+      (ap (sweepOf false) (g ∙ rw (is, ones-by split one (f ∙ ap (λ y. ones (widthOf y) (lanesOf y)) e))))
 
-  pub window-other : (k first end row : ℕ) (one two out : List ℕ) → v ≢ s → k ≡ keptCells n block d w v → one ≡ emptiedCell n w base v
+  pub window-other : (k first end : ℕ) (one two : List ℕ) (out : Sweep) → v ≢ s → k ≡ keptCells n block d w v → one ≡ emptiedCell n w base v
       → first ≡ windowFirst h u → end ≡ windowEnd g u
-      → two ≡ gatheredCell n block d one base v first end 0 k → row ≡ rowAt n block v
-      → out ≡ maskedRow block col two (base + row) v
-      → out ≡ windowCell n block d (units g h) s col w v u
+      → two ≡ gatheredCell n block d one base v first end 0 k
+      → out ≡ maskedCell (lanesBy split) n block col two base v
+      → out ≡ windowCell (lanesBy split) n block d (units g h) s col w v u
   unfolding windowCell
-  window-other k first end row one two out other q a b c d r e =
-      rw (ne-eqb v s other) (e ∙ rw (d, a, r, b, c, q, is))
+  window-other k first end one two out other q a b c d e =
+      rw (ne-eqb v s other) (e ∙ rw (d, a, b, c, q, is))
 
 -- ---- the windows of some records
 
-pub next-same : (n block d : ℕ) (terms : Terms) (s : ℕ) (col : ℕ → ℕ) (w : List ℕ) (last v v′ u : ℕ) → v ≡ v′ → v ≡ last
-    → w ≡ windowNext n block d terms s col w last v′ u
-unfolding windowNext
-next-same n block d terms s col w last v v′ u is same = sym (rw (eq-eqb v′ last (omega arith)))
+-- what is left follows, or not
+pub on-stop : (x : Sweep) (rest : List ℕ → Sweep) → x .over ≡ true → goesOn x rest ≡ x
+unfolding goesOn
+on-stop x rest e = rw e
 
-pub next-other : (n block d : ℕ) (terms : Terms) (s : ℕ) (col : ℕ → ℕ) (w : List ℕ) (last v v′ u : ℕ) (out : List ℕ) → v ≡ v′ → v ≢ last
-    → out ≡ windowCell n block d terms s col w v u → out ≡ windowNext n block d terms s col w last v′ u
-unfolding windowNext
-next-other n block d terms s col w last v v′ u out is other e =
-    rw (ne-eqb v′ last (λ q. other (is ∙ q))) (e ∙ rw is)
+pub on-rest : (x : Sweep) (rest : List ℕ → Sweep) → x .over ≡ false → goesOn x rest ≡ rest (x .work)
+unfolding goesOn
+on-rest x rest e = rw e
+
+module _ (lay : Lanes) (n block d : ℕ) (terms : Terms) (s : ℕ) (col : ℕ → ℕ) (w : List ℕ) (last v v′ u : ℕ) (is : v ≡ v′)
+    (inside : v′ < n) where
+  station : eqb v n ≡ false
+  station = ne-eqb v n (omega arith)
+
+  pub next-same : v ≡ last → GatheredNext n v′ v w (windowNext lay n block d terms s col w last v′ u)
+  unfolding windowNext
+  next-same same = record { swept = rw (station, eq-eqb v′ last (omega arith)); is = λ e. is }
+
+  module _ (r : Bool) (out : List ℕ) (other : v ≢ last) (e : sweepOf r out ≡ windowCell lay n block d terms s col w v u) where
+    gathered : sweepOf r out ≡ windowNext lay n block d terms s col w last v′ u
+    unfolding windowNext
+    gathered = rw (ne-eqb v′ last (λ q. other (is ∙ q))) (e ∙ rw is)
+
+    pub next-stop : r ≡ true → GatheredNext n v′ n out (windowNext lay n block d terms s col w last v′ u)
+    next-stop up =
+        let here = eq-eqb n n refl in
+        record { swept = rw here (ap (λ b. sweepOf b out) (sym up) ∙ gathered); is = λ e. omega (arith, not-both here e) }
+
+    pub next-other : r ≡ false → GatheredNext n v′ v out (windowNext lay n block d terms s col w last v′ u)
+    next-other down = record { swept = rw station (ap (λ b. sweepOf b out) (sym down) ∙ gathered); is = λ e. is }
 
 -- the records before i are done
-pub record GatheringRecords (bs : List ℕ) (n block d : ℕ) (terms : Terms) (s : ℕ) (col : ℕ → ℕ) (u j end : ℕ)
+pub record GatheringRecords (bs : List ℕ) (lay : Lanes) (n block d : ℕ) (terms : Terms) (s : ℕ) (col : ℕ → ℕ) (u j end : ℕ)
     (old : List ℕ) (last i : ℕ) (now : List ℕ) : Type 0 where
   pub from : j ≤ i
   pub same : length now ≡ length old
-  pub rest : windowsOf bs n block d terms s col now u last i (end - i) ≡ windowsOf bs n block d terms s col old u n j (end - j)
+  pub rest : windowsOf bs lay n block d terms s col now u last i (end - i) ≡ windowsOf bs lay n block d terms s col old u n j (end - j)
 
-module _ (bs : List ℕ) (n block d : ℕ) (terms : Terms) (s : ℕ) (col : ℕ → ℕ) (u j end : ℕ) (old : List ℕ) where
-  pub windows-none : GatheringRecords bs n block d terms s col u j end old n j old
+module _ (bs : List ℕ) (lay : Lanes) (n block d : ℕ) (terms : Terms) (s : ℕ) (col : ℕ → ℕ) (u j end : ℕ) (old : List ℕ) where
+  pub windows-none : GatheringRecords bs lay n block d terms s col u j end old n j old
   windows-none = record { from = omega arith; same = refl; rest = refl }
 
-  pub windows-more : (last last′ i : ℕ) (now now′ : List ℕ) → i < end → GatheringRecords bs n block d terms s col u j end old last i now
-      → length now′ ≡ length now → last′ ≡ contactAt bs i .sender
-      → now′ ≡ windowNext n block d terms s col now last (contactAt bs i .sender) u
-      → GatheringRecords bs n block d terms s col u j end old last′ (i + 1) now′
-  unfolding windowsOf
-  windows-more last last′ i now now′ less g kept is e =
-      let more : end - i ≡ suc (end - (i + 1)) = omega arith in
-      let f = g .from in
-      record {
-        from = omega arith;
-        same = kept ∙ g .same;
-        rest = rw (e, is) (sym (ap (windowsOf bs n block d terms s col now u last i) more) ∙ g .rest);
-      }
+  module _ (last last′ i : ℕ) (now now′ : List ℕ) (less : i < end)
+      (g : GatheringRecords bs lay n block d terms s col u j end old last i now)
+      (e : GatheredNext n (contactAt bs i .sender) last′ now′
+      (windowNext lay n block d terms s col now last (contactAt bs i .sender) u)) where
+    window-more : goesOn (sweepOf (eqb last′ n) now′)
+        (λ y. windowsOf bs lay n block d terms s col y u (contactAt bs i .sender) (i + 1) (end - (i + 1)))
+        ≡ windowsOf bs lay n block d terms s col old u n j (end - j)
+    unfolding windowsOf
+    window-more =
+        let more : end - i ≡ suc (end - (i + 1)) = omega arith in
+        rw (e .swept) (sym (ap (windowsOf bs lay n block d terms s col now u last i) more) ∙ g .rest)
 
-  pub windows-all : (last i : ℕ) (now : List ℕ) → end ≤ i → GatheringRecords bs n block d terms s col u j end old last i now
-      → now ≡ windowsOf bs n block d terms s col old u n j (end - j)
+    pub windows-stop : last′ ≡ n → sweepOf true now′ ≡ windowsOf bs lay n block d terms s col old u n j (end - j)
+    windows-stop up =
+        let flag = eq-eqb last′ n up in
+        ap (λ b. sweepOf b now′) (sym flag) ∙ sym (on-stop (sweepOf (eqb last′ n) now′) _ flag) ∙ window-more
+
+    pub windows-more : last′ ≢ n → length now′ ≡ length now → GatheringRecords bs lay n block d terms s col u j end old last′ (i + 1) now′
+    windows-more down kept =
+        let flag = ne-eqb last′ n down in
+        let f = g .from in
+        record {
+          from = omega arith;
+          same = kept ∙ g .same;
+          rest = rw (e .is flag) (sym (on-rest (sweepOf (eqb last′ n) now′) _ flag) ∙ window-more);
+        }
+
+  pub windows-all : (last i : ℕ) (now : List ℕ) → end ≤ i → GatheringRecords bs lay n block d terms s col u j end old last i now
+      → sweepOf false now ≡ windowsOf bs lay n block d terms s col old u n j (end - j)
   unfolding windowsOf
   windows-all last i now past g =
       let none : end - i ≡ 0 = omega arith in
-      sym (ap (windowsOf bs n block d terms s col now u last i) none) ∙ g .rest
+      sym (ap (windowsOf bs lay n block d terms s col now u last i) none) ∙ g .rest
 
 -- ---- the windows go out
 
@@ -283,91 +374,119 @@ unfolding pushedCell pushedAt
 pushed-by n block d w u v counter k i part mark size next one two ec ek ei ep es eo et em en =
     rw (en, et, eo, em, ep, es, ei, ek, ec)
 
-module _ (n block d u : ℕ) (w : List ℕ) (v size : ℕ) (is : size ≡ partSize n block) where
-  kept-one : (one two : List ℕ) → getD w (size + v) 0 < 65535 → one ≡ takenCell n block w 0 v size v 0 → two ≡ pushedCell n block d one u v
-      → two ≡ keptOne n block d u w v
-  unfolding keptOne
-  kept-one one two some first second =
-      rw (lt-ltb (getD w (partSize n block + v) 0) 65535 (rw is at some)) (second ∙ rw (first, is))
-
-  -- its count is over 2^64 - 1
-  pub kept-over : (over : Bool) (one two : List ℕ) → getD w (size + v) 0 < 65535 → one ≡ takenCell n block w 0 v size v 0
-      → two ≡ pushedCell n block d one u v → getD w (size + v + n) 0 ≡ 0
-      → sweepOf true two ≡ keptNext n block d u (sweepOf over w) v
-  unfolding keptNext
-  kept-over over one two some first second big =
+module _ (lay : Lanes) (n block d u : ℕ) (w : List ℕ) (v size : ℕ) (is : size ≡ partSize n block) where
+  -- the count is over 2^64 - 1
+  pub kept-over : getD w (size + v) 0 < 65535 → getD w (size + v + n) 0 ≡ 0 → sweepOf true w ≡ keptNext lay n block d u w v
+  unfolding keptNext stopsAt
+  kept-over some big =
       rw (
         overflows-some (getD w (partSize n block + v) 0) (getD w (partSize n block + v + n) 0) (rw is at some),
         eq-eqb (getD w (partSize n block + v + n) 0) 0 (rw is at big),
-        or-true over,
       )
-      (ap (sweepOf true) (kept-one one two some first second))
 
-  -- it is not
-  pub kept-within : (over : Bool) (one two : List ℕ) → getD w (size + v) 0 < 65535 → one ≡ takenCell n block w 0 v size v 0
-      → two ≡ pushedCell n block d one u v → getD w (size + v + n) 0 ≢ 0
-      → sweepOf over two ≡ keptNext n block d u (sweepOf over w) v
-  unfolding keptNext
-  kept-within over one two some first second small =
-      rw (
-        overflows-some (getD w (partSize n block + v) 0) (getD w (partSize n block + v + n) 0) (rw is at some),
-        ne-eqb (getD w (partSize n block + v + n) 0) 0 (rw is at small),
-        or-false over,
-      )
-      (ap (sweepOf over) (kept-one one two some first second))
+  module _ (b : Bool) (some : getD w (size + v) 0 < 65535) (small : getD w (size + v + n) 0 ≢ 0)
+      (tested : b ≡ tooWide lay (getD w v 0) (getD w (v + n) 0) (getD w (size + v) 0) (getD w (size + v + n) 0)) where
+    -- the test alone decides
+    stops : stopsAt lay n (partSize n block) w v ≡ b
+    unfolding stopsAt
+    stops =
+        rw (
+          overflows-some (getD w (partSize n block + v) 0) (getD w (partSize n block + v + n) 0) (rw is at some),
+          ne-eqb (getD w (partSize n block + v + n) 0) 0 (rw is at small),
+          lt-ltb (getD w (partSize n block + v) 0) 65535 (rw is at some),
+        )
+        (sym (rw is at tested))
+
+    -- the total's count would not fit a lane
+    pub kept-wide : b ≡ true → sweepOf true w ≡ keptNext lay n block d u w v
+    unfolding keptNext
+    kept-wide up = rw (stops ∙ up)
+
+    -- it would
+    pub kept-within : (one two three : List ℕ) → b ≡ false
+        → one ≡ takenCell n block w 0 v size v 0 → two ≡ pushedCell n block d one u v → three ≡ emptiedCell n two size v
+        → sweepOf false three ≡ keptNext lay n block d u w v
+    unfolding keptNext keptOne
+    kept-within one two three down first second third =
+        rw (stops ∙ down, lt-ltb (getD w (partSize n block + v) 0) 65535 (rw is at some))
+        (ap (sweepOf false) (third ∙ rw (second, first, is)))
 
   -- nothing is heard
-  pub kept-none : (over : Bool) → 65535 ≤ getD w (size + v) 0 → sweepOf over w ≡ keptNext n block d u (sweepOf over w) v
-  unfolding keptNext keptOne
-  kept-none over none =
+  pub kept-none : 65535 ≤ getD w (size + v) 0 → sweepOf false w ≡ keptNext lay n block d u w v
+  unfolding keptNext keptOne stopsAt
+  kept-none none =
       rw (
         overflows-none (getD w (partSize n block + v) 0) (getD w (partSize n block + v + n) 0) (rw is at none),
-        or-false over,
         le-ltb (getD w (partSize n block + v) 0) 65535 (rw is at none),
       )
 
--- the stations below v are done
-pub record Keeping (n block d u : ℕ) (old : List ℕ) (v : ℕ) (over : Bool) (now : List ℕ) : Type 0 where
-  pub within : v ≤ n
+-- the hearer of the record that was read
+pub kept-by : (bs : List ℕ) (lay : Lanes) (n block d u j : ℕ) (w : List ℕ) (r : Contact) (x : Sweep) → contactOf r ≡ contactAt bs j
+    → x ≡ keptNext lay n block d u w (r .hearer) → x ≡ keptNext lay n block d u w (contactAt bs j .hearer)
+kept-by bs lay n block d u j w r x e kept = kept ∙ ap (λ (c : temporal.Contact). keptNext lay n block d u w (c .hearer)) e
+
+-- the hearers of the records before i are done
+pub record Keeping (bs : List ℕ) (lay : Lanes) (n block d u j end : ℕ) (old : List ℕ) (i : ℕ) (now : List ℕ) : Type 0 where
+  pub position : j ≤ i
   pub same : length now ≡ length old
-  pub rest : keptFrom n block d u (sweepOf over now) v (n - v) ≡ keptFrom n block d u (sweepOf false old) 0 n
+  pub rest : keptRecords bs lay n block d u now i (end - i) ≡ keptRecords bs lay n block d u old j (end - j)
 
-module _ (n block d u : ℕ) (old : List ℕ) where
-  pub keeping-none : Keeping n block d u old 0 false old
-  keeping-none =
-      let same : n - 0 ≡ n = omega arith in
-      record { within = omega arith; same = refl; rest = ap (keptFrom n block d u (sweepOf false old) 0) same }
+module _ (bs : List ℕ) (lay : Lanes) (n block d u j end : ℕ) (old : List ℕ) where
+  pub keeping-none : Keeping bs lay n block d u j end old j old
+  keeping-none = record { position = omega arith; same = refl; rest = refl }
 
-  pub keeping-more : (v : ℕ) (over over′ : Bool) (now now′ : List ℕ) → v < n → Keeping n block d u old v over now
-      → length now′ ≡ length now → sweepOf over′ now′ ≡ keptNext n block d u (sweepOf over now) v
-      → Keeping n block d u old (v + 1) over′ now′
-  unfolding keptFrom
-  keeping-more v over over′ now now′ h x kept e =
-      let more : n - v ≡ suc (n - (v + 1)) = omega arith in
-      record {
-        within = omega arith;
-        same = kept ∙ x .same;
-        rest = rw e (sym (ap (keptFrom n block d u (sweepOf over now) v) more) ∙ x .rest);
-      }
+  module _ (i : ℕ) (now now′ : List ℕ) (r : Bool) (less : i < end) (x : Keeping bs lay n block d u j end old i now)
+      (e : sweepOf r now′ ≡ keptNext lay n block d u now (contactAt bs i .hearer)) where
+    one-more : goesOn (sweepOf r now′) (λ y. keptRecords bs lay n block d u y (i + 1) (end - (i + 1)))
+        ≡ keptRecords bs lay n block d u old j (end - j)
+    unfolding keptRecords
+    one-more =
+        let more : end - i ≡ suc (end - (i + 1)) = omega arith in
+        rw e (sym (ap (keptRecords bs lay n block d u now i) more) ∙ x .rest)
 
-  pub keeping-all : (v : ℕ) (over : Bool) (now : List ℕ) → n ≤ v → Keeping n block d u old v over now
-      → sweepOf over now ≡ keptFrom n block d u (sweepOf false old) 0 n
-  unfolding keptFrom
-  keeping-all v over now h x =
-      let none : n - v ≡ 0 = omega arith in
-      sym (ap (keptFrom n block d u (sweepOf over now) v) none) ∙ x .rest
+    pub keeping-stop : r ≡ true → sweepOf true now′ ≡ keptRecords bs lay n block d u old j (end - j)
+    keeping-stop up = ap (λ b. sweepOf b now′) (sym up) ∙ sym (on-stop (sweepOf r now′) _ up) ∙ one-more
+
+    pub keeping-more : r ≡ false → length now′ ≡ length now → Keeping bs lay n block d u j end old (i + 1) now′
+    keeping-more down kept =
+        let f = x .position in
+        record { position = omega arith; same = kept ∙ x .same; rest = sym (on-rest (sweepOf r now′) _ down) ∙ one-more }
+
+  pub keeping-all : (i : ℕ) (now : List ℕ) → end ≤ i → Keeping bs lay n block d u j end old i now
+      → sweepOf false now ≡ keptRecords bs lay n block d u old j (end - j)
+  unfolding keptRecords
+  keeping-all i now past x =
+      let none : end - i ≡ 0 = omega arith in
+      sym (ap (keptRecords bs lay n block d u now i) none) ∙ x .rest
+
+-- a record more, by the test of its hearer
+module _ (bs : List ℕ) (lay : Lanes) (n block d u : ℕ) (w : List ℕ) (j k : ℕ) where
+  pub records-stop : stopsAt lay n (partSize n block) w (contactAt bs j .hearer) ≡ true
+      → keptRecords bs lay n block d u w j (suc k) ≡ sweepOf true w
+  unfolding keptRecords goesOn keptNext
+  records-stop e = rw e
+
+  pub records-on : stopsAt lay n (partSize n block) w (contactAt bs j .hearer) ≡ false
+      → keptRecords bs lay n block d u w j (suc k)
+      ≡ keptRecords bs lay n block d u (keptOne n block d u w (contactAt bs j .hearer)) (j + 1) k
+  unfolding keptRecords goesOn keptNext
+  records-on e = rw e
 
 -- ---- a slot
 
-module _ (bs : List ℕ) (n block g h d s : ℕ) (col : ℕ → ℕ) (w : List ℕ) (u j end : ℕ) where
-  pub slot-by : (size base : ℕ) (one two three : List ℕ) (r : Sweep)
-      → one ≡ windowsOf bs n block d (units g h) s col w u n j (end - j)
-      → size ≡ partSize n block → two ≡ emptied n one size → base ≡ ringAt n block d
-      → three ≡ sentRecords bs n block base size two j (end - j)
-      → r ≡ keptFrom n block d u (sweepOf false three) 0 n
-      → r ≡ windowSlot bs n block d (units g h) s col w u j end
+module _ (bs : List ℕ) (lay : Lanes) (n block g h d s : ℕ) (col : ℕ → ℕ) (w : List ℕ) (u j end : ℕ) (b : Bool) (one : List ℕ)
+    (gathered : sweepOf b one ≡ windowsOf bs lay n block d (units g h) s col w u n j (end - j)) where
+  pub slot-stop : b ≡ true → sweepOf true one ≡ windowSlot bs lay n block d (units g h) s col w u j end
   unfolding windowSlot
-  slot-by size base one two three r a b c d e f = f ∙ rw (e, c, a, b, d)
+  slot-stop up = rw (← gathered) (ap (λ x. sweepOf x one) (sym up) ∙ sym (on-stop (sweepOf b one) _ up))
+
+  pub slot-by : (size base : ℕ) (two : List ℕ) (r : Sweep) → b ≡ false
+      → size ≡ partSize n block → base ≡ ringAt n block d
+      → two ≡ sentRecords bs n block base size one j (end - j)
+      → r ≡ keptRecords bs lay n block d u two j (end - j)
+      → r ≡ windowSlot bs lay n block d (units g h) s col w u j end
+  unfolding windowSlot
+  slot-by size base two r down b c d e = rw (← gathered) (e ∙ rw (d, b, c) (sym (on-rest (sweepOf _ one) _ down)))
 
 -- there is room for the counters
 pub counters-fit : {n block d : ℕ} {w : List ℕ} → WindowArea n block d w → markAt n block d d 0 + n ≤ length w
@@ -378,7 +497,8 @@ counters-fit {n} {block} {d} {w} a =
     omega arith
 
 -- the beginning of the pass where nothing goes stale, and counters of 0
-pub begun-by : (n block d s counters : ℕ) (w one out : List ℕ) → one ≡ begunArea n block 1 w s → counters ≡ markAt n block d d 0
-    → out ≡ filled one counters n 0 → out ≡ begunWindow n block d w s
+pub begun-by : (lay : Lanes) (n block d s counters : ℕ) (w one out : List ℕ)
+    → one ≡ begunArea n block 1 w s (ones (lay .width) (lay .lanes)) → counters ≡ markAt n block d d 0
+    → out ≡ filled one counters n 0 → out ≡ begunWindow lay n block d w s
 unfolding begunWindow
-begun-by n block d s counters w one out a b e = e ∙ rw (a, b)
+begun-by lay n block d s counters w one out a b e = e ∙ rw (a, b)

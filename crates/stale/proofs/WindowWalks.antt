@@ -1,33 +1,39 @@
 -- The pass where readings go stale: the state of the work area between two slots, and what a window holds once it is gathered.
 -- Assumes nothing.
-use Prim.Native.Nat.{ℕ, zero, suc, _+_, _-_, _%_, _^_, _<_, _≤_}
+use Prim.Native.Nat.{ℕ, zero, suc, _+_, _-_, _*_, _%_, _^_, _<_, _≤_}
 use native.Mathlib.Omega.{arith}
 use native.Mathlib.Decide.{ℕ-discrete}
 use mathlib.Core.Path.{_≡_, refl, sym, ap, subst, _∙_}
-use mathlib.Core.Bool.{Bool, true, cond, and-false}
+use mathlib.Core.Bool.{Bool, true, false, cond, and-false}
 use lib.Dec.{eqb}
 use mathlib.Core.List.{List}
 use mathlib.Core.Logic.{inl, by-cases, _≢_}
 use borrow.Author.Tests.{eq-eqb, ne-eqb}
 use lib.ListN.{length, getD}
 use Rattle.temporal.specs.Plan.{Plan, start, windowFirst, windowEnd}
+use Rattle.temporal.proofs.ListLaws.{not-both}
 use Rattle.counting.proofs.Weights.{total, everywhere, cond-less, total-less, total-zero}
 use Rattle.counting.proofs.Fewest.{fewest-intro}
 use Rattle.counting.proofs.Recurrence.{heard, atAppearance, before, start-here, start-other}
 use Rattle.counting.proofs.WindowLaws.{inSlots, before-window}
 use Rattle.entries.specs.Entry.{stored}
 use Rattle.entries.proofs.CountLaws.{stored-small}
+use Rattle.lanes.specs.Lane.{ones}
+use Rattle.lanes.proofs.LaneLaws.{packed-ext}
 use Rattle.pass.specs.Row.{partSize}
+use Rattle.pass.specs.Column.{Lanes}
 use Rattle.pass.proofs.BestLaws.{Best, best-ext}
+use Rattle.pass.proofs.MaskLaws.{Filled}
+use Rattle.pass.proofs.BeginLaws.{ones-held}
 use Rattle.pass.proofs.ColumnLaws.{mayLeave, source-free}
 use Rattle.stale.specs.Depth.{heardBefore}
 use Rattle.stale.specs.Size.{windowSize}
 use Rattle.stale.specs.Window.{ringAt, gatheredCell, keptCells, emptiedCell, windowCell, WindowArea}
-use Rattle.stale.proofs.SpreadLaws.{spread}
+use Rattle.stale.proofs.SpreadLaws.{spread, spread-less}
 use Rattle.stale.proofs.RingPlaces.{area-same, ring-before, ring-fits, parts-end}
 use Rattle.stale.proofs.WindowSteps.{kept-few}
-use Rattle.stale.proofs.WindowCells.{Holds, OnlyCell, cell-then, cell-part}
-use Rattle.stale.proofs.WindowCells.{opened-cell, opened-holds, emptied-cell, emptied-holds, mask-cell, mask-holds}
+use Rattle.stale.proofs.WindowCells.{Holds, ThinAt, OnlyCell, cell-then, cell-part}
+use Rattle.stale.proofs.WindowCells.{opened-cell, opened-holds, emptied-cell, emptied-holds, masked-only, masked-holds, masked-wide}
 use Rattle.stale.proofs.RingLaws.{Ring, SameRing, part-ring, gathered-only, ring-window}
 
 -- the walks to v by slot c, and those to the appearance (v, x), by hops, under a permission g
@@ -41,19 +47,25 @@ heardIn p s g v x = total p g (start s) (atAppearance v x)
 abbrev pub sendable : Plan → ℕ → (ℕ → Bool) → ℕ → ℕ → ℕ → ℕ
 sendable p s g v u k = cond (g v) (total p g (start s) (before p v u) k) 0
 
--- The work area by slot c, with the first j records done: part 0 has the walks to the stations by slot c; the rings have those to the
--- appearances that may be followed after it.
-pub record WindowState (bs : List ℕ) (p : Plan) (s : ℕ) (may : ℕ → ℕ → Bool) (n block h d c j : ℕ) (old w : List ℕ) : Type 0 where
+-- The work area by slot c, with the first j records done: part 0 has the walks to the stations by slot c, with counts that fit their lanes;
+-- the rings have those to the appearances that may be followed after it.
+pub record WindowState (bs : List ℕ) (lay : Lanes) (p : Plan) (s : ℕ) (may : ℕ → ℕ → Bool) (n block h d c j : ℕ) (old w : List ℕ)
+    : Type 0 where
   pub same : length w ≡ length old
   pub beyond : (i : ℕ) → windowSize n d block ≤ i → getD w i 0 ≡ getD old i 0
-  pub totals : (v : ℕ) → v < n → Holds n block w 0 v (heardBy p s everywhere v c) (λ i. heardBy p s (may i) v c)
+  pub totals : (v : ℕ) → v < n → Holds lay n block w 0 v (heardBy p s everywhere v c) (λ i. heardBy p s (may i) v c)
+  pub thin : (v : ℕ) → v < n → ThinAt lay n 0 v w
   pub rings : (v : ℕ) → v < n
-      → Ring n block d h c v (heardBefore bs v j) (heardIn p s everywhere v) (λ i. heardIn p s (may i) v) w
+      → Ring lay n block d h c v (heardBefore bs v j) (heardIn p s everywhere v) (λ i. heardIn p s (may i) v) w
+
+-- nothing waits to be kept
+abbrev pub NoneWaits : Lanes → ℕ → ℕ → List ℕ → Type 0
+NoneWaits lay n block w = (v : ℕ) → v < n → Holds lay n block w (partSize n block) v (λ k. 0) (λ i k. 0)
 
 -- the window of v holds what v may send on in slot u
-abbrev pub WindowHolds : Plan → ℕ → (ℕ → ℕ → Bool) → ℕ → ℕ → ℕ → ℕ → List ℕ → ℕ → Type 0
-WindowHolds p s may n block d u w v =
-    Holds n block w (ringAt n block d) v (sendable p s everywhere v u) (λ i. sendable p s (may i) v u)
+abbrev pub WindowHolds : Lanes → Plan → ℕ → (ℕ → ℕ → Bool) → ℕ → ℕ → ℕ → ℕ → List ℕ → ℕ → Type 0
+WindowHolds lay p s may n block d u w v =
+    Holds lay n block w (ringAt n block d) v (sendable p s everywhere v u) (λ i. sendable p s (may i) v u)
 
 -- ---- permissions
 
@@ -84,19 +96,20 @@ none-without p s g v x (suc m) low =
     at-start : atAppearance v x (start s) ≡ 0
     at-start = rw (ne-eqb 0 x (omega arith), and-false (eqb s v))
 
-module _ (p : Plan) (s : ℕ) (col : ℕ → ℕ) (n block c : ℕ) (turns : 0 < p .terms .turnaround) (some : 0 < p .terms .keeping) where
+module _ (lay : Lanes) (full : Filled lay) (p : Plan) (s : ℕ) (col : ℕ → ℕ) (n block c : ℕ) (turns : 0 < p .terms .turnaround)
+    (some : 0 < p .terms .keeping) where
   -- at the source the empty walk alone counts: no other has as few hops
-  at-source : Best block 65535 (sendable p s everywhere s (c + 1)) (λ i. sendable p s (mayLeave s col i) s (c + 1)) 0 1 (λ j. 1)
-  unfolding everywhere
+  at-source : Best lay block 65535 (sendable p s everywhere s (c + 1)) (λ i. sendable p s (mayLeave s col i) s (c + 1)) 0 1
+      (λ j. ones (lay .width) (lay .lanes))
+  unfolding everywhere ones
   at-source =
       record {
         entry = record {
           fewest = fewest-intro (omega arith) (omega (arith, one everywhere)) (λ k g. absurd (omega arith));
           count = sym (ap stored (one everywhere) ∙ stored-small 1 (omega arith));
         };
-        row = λ j q g. sym (ap (λ x. x % 2 ^ 64)
-            (ap (λ b. cond b (total p (mayLeave s col j) (start s) (before p s (c + 1)) 0) 0) (source-free s col j)
-            ∙ one (mayLeave s col j)));
+        row = λ e q g. sym (ap (λ x. x % 2 ^ 64) (packed-ext (lay .width) (lay .lanes) (λ l i. free (e * lay .lanes + l)))
+            ∙ ones-held lay full);
       }
     where
       one : (g : ℕ → Bool) → total p g (start s) (before p s (c + 1)) 0 ≡ 1
@@ -108,6 +121,10 @@ module _ (p : Plan) (s : ℕ) (col : ℕ → ℕ) (n block c : ℕ) (turns : 0 <
             none-without p s g s (windowFirst (p .terms .keeping) (c + 1))
                 (windowEnd (p .terms .turnaround) (c + 1) - windowFirst (p .terms .keeping) (c + 1)) (omega arith),
           )
+
+      free : (j : ℕ) → sendable p s (mayLeave s col j) s (c + 1) 0 ≡ 1
+      free j =
+          ap (λ b. cond b (total p (mayLeave s col j) (start s) (before p s (c + 1)) 0) 0) (source-free s col j) ∙ one (mayLeave s col j)
 
   -- elsewhere the slots of the window count
   in-slots : (g : ℕ → Bool) (v m t k : ℕ) → inSlots p s g v t m k ≡ spread (λ x. heardIn p s g v x k) t m
@@ -129,7 +146,7 @@ module _ (p : Plan) (s : ℕ) (col : ℕ → ℕ) (n block c : ℕ) (turns : 0 <
       )
 
   module _ (bs : List ℕ) (d j : ℕ) (old w : List ℕ) (area : WindowArea n block d w)
-      (state : WindowState bs p s (mayLeave s col) n block (p .terms .keeping) d c j old w) (v : ℕ) (hv : v < n) where
+      (state : WindowState bs lay p s (mayLeave s col) n block (p .terms .keeping) d c j old w) (v : ℕ) (hv : v < n) where
     room : ringAt n block d + partSize n block ≤ length w
     room = ring-fits area d (omega arith)
 
@@ -159,31 +176,43 @@ module _ (p : Plan) (s : ℕ) (col : ℕ → ℕ) (n block c : ℕ) (turns : 0 <
     bare-ring = part-ring v hv (λ i h. inl (ring-before n block i d h)) (parts-end n block d d (omega arith)) (cell-part hv bare)
 
     -- only its cell changes
-    pub window-cell : OnlyCell n block (ringAt n block d) v w (windowCell n block d (p .terms) s col w v (c + 1))
+    pub window-cell : OnlyCell n block (ringAt n block d) v w (windowCell lay n block d (p .terms) s col w v (c + 1) .work)
     unfolding windowCell gathered-list
     window-cell =
         by-cases (ℕ-discrete v s)
-        (λ same. rw (eq-eqb v s same) (opened-cell n block w (ringAt n block d) v hv room))
+        (λ same. rw (eq-eqb v s same) (opened-cell n block w (ringAt n block d) v hv room (ones (lay .width) (lay .lanes))))
         (λ other. rw (ne-eqb v s other)
-        (cell-then gathered-cell (mask-cell n block s col gathered-list (ringAt n block d) v other hv gathered-room)))
+        (cell-then gathered-cell (masked-only lay full n block s col gathered-list (ringAt n block d) v other hv gathered-room)))
 
-    -- and it holds what v may send on
-    pub window-holds : WindowHolds p s (mayLeave s col) n block d (c + 1) (windowCell n block d (p .terms) s col w v (c + 1)) v
+    -- it holds what v may send on, where the flag is not up
+    pub window-holds : windowCell lay n block d (p .terms) s col w v (c + 1) .over ≡ false
+        → WindowHolds lay p s (mayLeave s col) n block d (c + 1) (windowCell lay n block d (p .terms) s col w v (c + 1) .work) v
     unfolding windowCell gathered-list everywhere
     window-holds =
         by-cases (ℕ-discrete v s)
-        (λ same. rw (eq-eqb v s same)
-        (opened-holds n block w (ringAt n block d) v hv room
-        (subst (λ x. Best block 65535 (sendable p s everywhere x (c + 1)) (λ i. sendable p s (mayLeave s col i) x (c + 1)) 0 1 (λ j. 1))
+        (λ same. rw (eq-eqb v s same) (λ f.
+        opened-holds n block w (ringAt n block d) v hv room (ones (lay .width) (lay .lanes))
+        (subst (λ x. Best lay block 65535 (sendable p s everywhere x (c + 1)) (λ i. sendable p s (mayLeave s col i) x (c + 1)) 0 1
+        (λ j. ones (lay .width) (lay .lanes)))
         (sym same) at-source)))
-        (λ other. rw (ne-eqb v s other)
-        (best-ext
+        (λ other. rw (ne-eqb v s other) (λ f.
+        best-ext
         (λ k. at-other everywhere v k other)
         (λ i k. ap (λ x. cond (mayLeave s col i v) x 0) (at-other (mayLeave s col i) v k other))
-        (mask-holds n block s col gathered-list (ringAt n block d) v other hv gathered-room
+        (masked-holds lay full n block s col gathered-list (ringAt n block d) v other hv gathered-room
+        (λ i k. spread-less (windowEnd (p .terms .turnaround) (c + 1) - windowFirst (p .terms .keeping) (c + 1))
+        (windowFirst (p .terms .keeping) (c + 1)) (λ x. in-less p s (mayLeave s col i) v x k))
         (ring-window (area .deep) (state .rings v hv) (windowFirst (p .terms .keeping) (c + 1))
         (windowEnd (p .terms .turnaround) (c + 1)) _ hv
         (λ i x k. in-less p s (mayLeave s col i) v x k)
         (λ x low high. (omega arith, omega arith, omega arith))
         bare-area bare-ring
-        (emptied-holds n block w (ringAt n block d) v hv room (λ k. refl))))))
+        (emptied-holds n block w (ringAt n block d) v hv room (λ k. refl))) f)))
+
+    -- it is up only where an entry has several lanes
+    pub window-wide : windowCell lay n block d (p .terms) s col w v (c + 1) .over ≡ true → lay .lanes ≢ 1
+    unfolding windowCell gathered-list
+    window-wide =
+        by-cases (ℕ-discrete v s)
+        (λ same. rw (eq-eqb v s same) (λ f. absurd (not-both f refl)))
+        (λ other. rw (ne-eqb v s other) (masked-wide lay full n block s col gathered-list (ringAt n block d) v other hv gathered-room))

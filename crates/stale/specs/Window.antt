@@ -1,12 +1,13 @@
--- The pass where readings go stale. Part 0 has the stations' totals, part 1 what is heard in the slot that the pass is in. Behind them
--- are d parts, the stations' rings: cell i of a ring is in part 2 + i. Part 2 + d has the windows: what a station may send on in the slot
--- that the pass is in. Behind the parts stands, for each cell of a ring, the slot in which it was heard, and then for each station its
--- counter: how many appearances of it have been kept so far. The appearance that is kept as number k is in cell k mod d.
+-- The pass where readings go stale. Part 0 has the stations' totals, part 1 what is heard in the slot that the pass is in and waits to be
+-- kept: between two slots nothing waits. Behind them are d parts, the stations' rings: cell i of a ring is in part 2 + i. Part 2 + d has
+-- the windows: what a station may send on in the slot that the pass is in. Behind the parts stands, for each cell of a ring, the slot in
+-- which it was heard, and then for each station its counter: how many appearances of it have been kept so far. The appearance that is kept
+-- as number k is in cell k mod d.
 -- Definitions only.
 -- Assumes nothing.
 use Prim.Native.Nat.{ℕ, zero, suc, _+_, _-_, _*_, _%_, _^_, _<_, _≤_, min}
 use mathlib.Core.Path.{_≡_}
-use mathlib.Core.Bool.{false, cond, _||_}
+use mathlib.Core.Bool.{Bool, true, false, cond, _&&_}
 use mathlib.Core.List.{List}
 use lib.Dec.{ltb, eqb}
 use lib.ListN.{length, getD, set}
@@ -15,8 +16,10 @@ use Rattle.temporal.specs.Bytes.{contactAt}
 use Rattle.temporal.specs.Cause.{planFault}
 use Rattle.memory.specs.Fill.{filled}
 use Rattle.pass.specs.Row.{partSize, rowAt}
-use Rattle.pass.specs.Entry.{absorbed, areaOverflows}
-use Rattle.pass.specs.Sweep.{Sweep, sweepOf, emptied, begunArea}
+use Rattle.lanes.specs.Lane.{ones}
+use Rattle.pass.specs.Column.{Lanes}
+use Rattle.pass.specs.Entry.{absorbed}
+use Rattle.pass.specs.Sweep.{Sweep, sweepOf, clearedColumn, tooWide, stopsAt, begunArea}
 use Rattle.stale.specs.Depth.{Deep}
 use Rattle.stale.specs.Size.{windowSize}
 
@@ -36,17 +39,27 @@ takenCell n block w to v from x more =
     (absorbed n block w (to + v) (to + rowAt n block v) (from + rowAt n block x) (getD w (from + x) 0 + more) (getD w (from + x + n) 0))
     w
 
--- the entry of station v in a part has the empty walk alone, with a row of ones
-unfoldable pub openedCell : ℕ → ℕ → List ℕ → ℕ → ℕ → List ℕ
-openedCell n block w base v = filled (set (set w (base + v) 0) (base + v + n) 1) (base + rowAt n block v) block 1
+-- the entry of station v in a part has the empty walk alone, with a row whose entries have 1 in each lane
+unfoldable pub openedCell : ℕ → ℕ → List ℕ → ℕ → ℕ → ℕ → List ℕ
+openedCell n block w base v one = filled (set (set w (base + v) 0) (base + v + n) 1) (base + rowAt n block v) block one
 
 -- it has no walks
 unfoldable pub emptiedCell : ℕ → List ℕ → ℕ → ℕ → List ℕ
 emptiedCell n w base v = set (set w (base + v) 65535) (base + v + n) 0
 
 -- the column that stands for v becomes 0 in the row at a place, where one stands for it
-unfoldable pub maskedRow : ℕ → (ℕ → ℕ) → List ℕ → ℕ → ℕ → List ℕ
-maskedRow block col w row v = cond (ltb (col v) block) (set w (row + col v) 0) w
+unfoldable pub maskedRow : Lanes → ℕ → (ℕ → ℕ) → List ℕ → ℕ → ℕ → List ℕ
+maskedRow lay block col w row v = cond (ltb (col v) (block * lay .lanes)) (clearedColumn lay w row (col v)) w
+
+-- whether the entry at a place has walks, and a count that does not fit a lane
+unfoldable pub wideEntry : Lanes → ℕ → List ℕ → ℕ → Bool
+wideEntry lay n w at = ltb (getD w at 0) 65535 && tooWide lay 65535 0 (getD w at 0) (getD w (at + n) 0)
+
+-- the column that stands for v becomes 0 in v's row in the part that begins at base; or nothing changes and the flag is up, where v's count
+-- there does not fit a lane
+unfoldable pub maskedCell : Lanes → ℕ → ℕ → (ℕ → ℕ) → List ℕ → ℕ → ℕ → Sweep
+maskedCell lay n block col w base v =
+    cond (wideEntry lay n w (base + v)) (sweepOf true w) (sweepOf false (maskedRow lay block col w (base + rowAt n block v) v))
 
 -- The cell of the ring of station v in the part that begins at part, whose slot stands at a place, is taken into its entry in the part that
 -- begins at base, where that slot is from slot first to before slot end.
@@ -64,26 +77,30 @@ gatheredCell n block d w base v first end i (suc k) =
 unfoldable pub keptCells : ℕ → ℕ → ℕ → List ℕ → ℕ → ℕ
 keptCells n block d w v = min (getD w (markAt n block d d v) 0) d
 
--- what station v may send on in slot u is gathered in its window: for the source the empty walk
-unfoldable pub windowCell : ℕ → ℕ → ℕ → Terms → ℕ → (ℕ → ℕ) → List ℕ → ℕ → ℕ → List ℕ
-windowCell n block d terms s col w v u =
+-- what station v may send on in slot u is gathered in its window: for the source the empty walk; the flag is up where a count does not fit
+unfoldable pub windowCell : Lanes → ℕ → ℕ → ℕ → Terms → ℕ → (ℕ → ℕ) → List ℕ → ℕ → ℕ → Sweep
+windowCell lay n block d terms s col w v u =
     cond (eqb v s)
-    (openedCell n block w (ringAt n block d) v)
-    (maskedRow block col
+    (sweepOf false (openedCell n block w (ringAt n block d) v (ones (lay .width) (lay .lanes))))
+    (maskedCell lay n block col
     (gatheredCell n block d (emptiedCell n w (ringAt n block d) v) (ringAt n block d) v (windowFirst (terms .keeping) u)
     (windowEnd (terms .turnaround) u) 0 (keptCells n block d w v))
-    (ringAt n block d + rowAt n block v) v)
+    (ringAt n block d) v)
 
 -- the same, but not where v is the station whose window was gathered last
-unfoldable pub windowNext : ℕ → ℕ → ℕ → Terms → ℕ → (ℕ → ℕ) → List ℕ → ℕ → ℕ → ℕ → List ℕ
-windowNext n block d terms s col w last v u = cond (eqb v last) w (windowCell n block d terms s col w v u)
+unfoldable pub windowNext : Lanes → ℕ → ℕ → ℕ → Terms → ℕ → (ℕ → ℕ) → List ℕ → ℕ → ℕ → ℕ → Sweep
+windowNext lay n block d terms s col w last v u = cond (eqb v last) (sweepOf false w) (windowCell lay n block d terms s col w v u)
 
--- the windows of the senders of k records from position j on
-unfoldable pub windowsOf : List ℕ → ℕ → ℕ → ℕ → Terms → ℕ → (ℕ → ℕ) → List ℕ → ℕ → ℕ → ℕ → ℕ → List ℕ
-windowsOf bs n block d terms s col w u last j zero = w
-windowsOf bs n block d terms s col w u last j (suc k) =
-    windowsOf bs n block d terms s col (windowNext n block d terms s col w last (contactAt bs j .sender) u) u (contactAt bs j .sender)
-    (j + 1) k
+-- what is left follows, where the flag is not up
+unfoldable pub goesOn : Sweep → (List ℕ → Sweep) → Sweep
+goesOn x rest = cond (x .over) x (rest (x .work))
+
+-- the windows of the senders of k records from position j on, up to the first at which the flag is up
+unfoldable pub windowsOf : List ℕ → Lanes → ℕ → ℕ → ℕ → Terms → ℕ → (ℕ → ℕ) → List ℕ → ℕ → ℕ → ℕ → ℕ → Sweep
+windowsOf bs lay n block d terms s col w u last j zero = sweepOf false w
+windowsOf bs lay n block d terms s col w u last j (suc k) =
+    goesOn (windowNext lay n block d terms s col w last (contactAt bs j .sender) u)
+    (λ y. windowsOf bs lay n block d terms s col y u (contactAt bs j .sender) (j + 1) k)
 
 -- the windows of the senders of k records from position j on go out, over one hop, to the hearers' entries in the part at to
 unfoldable pub sentRecords : List ℕ → ℕ → ℕ → ℕ → ℕ → List ℕ → ℕ → ℕ → List ℕ
@@ -102,36 +119,33 @@ pushedAt n block d w u v i k =
 unfoldable pub pushedCell : ℕ → ℕ → ℕ → List ℕ → ℕ → ℕ → List ℕ
 pushedCell n block d w u v = pushedAt n block d w u v (getD w (markAt n block d d v) 0 % d) (getD w (markAt n block d d v) 0)
 
--- where station v heard something in slot u, it is taken into its total and kept
+-- where station v heard something in slot u, it is taken into its total and kept, and nothing waits there any more
 unfoldable pub keptOne : ℕ → ℕ → ℕ → ℕ → List ℕ → ℕ → List ℕ
 keptOne n block d u w v =
     cond (ltb (getD w (partSize n block + v) 0) 65535)
-    (pushedCell n block d (takenCell n block w 0 v (partSize n block) v 0) u v)
+    (emptiedCell n (pushedCell n block d (takenCell n block w 0 v (partSize n block) v 0) u v) (partSize n block) v)
     w
 
--- with the flag of a count over 2^64 - 1
-unfoldable pub keptNext : ℕ → ℕ → ℕ → ℕ → Sweep → ℕ → Sweep
-keptNext n block d u x v =
-    sweepOf (x .over || areaOverflows n (x .work) (partSize n block + v)) (keptOne n block d u (x .work) v)
+-- or nothing changes and the flag is up, where its count is over 2^64 - 1 or its total would not fit a lane
+unfoldable pub keptNext : Lanes → ℕ → ℕ → ℕ → ℕ → List ℕ → ℕ → Sweep
+keptNext lay n block d u w v =
+    cond (stopsAt lay n (partSize n block) w v) (sweepOf true w) (sweepOf false (keptOne n block d u w v))
 
--- the same for k stations from v on
-unfoldable pub keptFrom : ℕ → ℕ → ℕ → ℕ → Sweep → ℕ → ℕ → Sweep
-keptFrom n block d u x v zero = x
-keptFrom n block d u x v (suc k) = keptFrom n block d u (keptNext n block d u x v) (v + 1) k
+-- the same for the hearers of k records from position j on, up to the first at which the flag is up
+unfoldable pub keptRecords : List ℕ → Lanes → ℕ → ℕ → ℕ → ℕ → List ℕ → ℕ → ℕ → Sweep
+keptRecords bs lay n block d u w j zero = sweepOf false w
+keptRecords bs lay n block d u w j (suc k) =
+    goesOn (keptNext lay n block d u w (contactAt bs j .hearer)) (λ y. keptRecords bs lay n block d u y (j + 1) k)
 
--- Slot u, whose records are those from position j to before e: the windows are gathered, part 1 is emptied, the windows go out, and what
--- was heard is kept.
-unfoldable pub windowSlot : List ℕ → ℕ → ℕ → ℕ → Terms → ℕ → (ℕ → ℕ) → List ℕ → ℕ → ℕ → ℕ → Sweep
-windowSlot bs n block d terms s col w u j e =
-    keptFrom n block d u
-    (sweepOf false
-    (sentRecords bs n block (ringAt n block d) (partSize n block)
-    (emptied n (windowsOf bs n block d terms s col w u n j (e - j)) (partSize n block)) j (e - j)))
-    0 n
+-- Slot u, whose records are those from position j to before e: the windows are gathered, they go out, and what was heard is kept.
+unfoldable pub windowSlot : List ℕ → Lanes → ℕ → ℕ → ℕ → Terms → ℕ → (ℕ → ℕ) → List ℕ → ℕ → ℕ → ℕ → Sweep
+windowSlot bs lay n block d terms s col w u j e =
+    goesOn (windowsOf bs lay n block d terms s col w u n j (e - j))
+    (λ y. keptRecords bs lay n block d u (sentRecords bs n block (ringAt n block d) (partSize n block) y j (e - j)) j (e - j))
 
 -- no walks but the empty one, in the source's total, and nothing is kept
-unfoldable pub begunWindow : ℕ → ℕ → ℕ → List ℕ → ℕ → List ℕ
-begunWindow n block d w s = filled (begunArea n block 1 w s) (markAt n block d d 0) n 0
+unfoldable pub begunWindow : Lanes → ℕ → ℕ → ℕ → List ℕ → ℕ → List ℕ
+begunWindow lay n block d w s = filled (begunArea n block 1 w s (ones (lay .width) (lay .lanes))) (markAt n block d d 0) n 0
 
 -- two parts lie within the list
 pub record TwoParts (n block to from : ℕ) (w : List ℕ) : Type 0 where
@@ -150,6 +164,11 @@ pub record RecordsFit (bs : List ℕ) (n j e : ℕ) : Type 0 where
   pub inside : (i : ℕ) → j ≤ i → i < e → i * 6 + 5 < length bs
   pub sender-station : (i : ℕ) → j ≤ i → i < e → contactAt bs i .sender < n
   pub hearer-station : (i : ℕ) → j ≤ i → i < e → contactAt bs i .hearer < n
+
+-- what gathering the next window leaves, of the record's sender: the number n where the flag is up, and the sender where it is not
+pub record GatheredNext (n sender r : ℕ) (w : List ℕ) (x : Sweep) : Type 0 where
+  pub swept : sweepOf (eqb r n) w ≡ x
+  pub is : eqb r n ≡ false → r ≡ sender
 
 -- what the pass asks: an accepted plan, units whose terms no cause refuses, rings that are deep enough, a source, and a work area that is
 -- long enough

@@ -2,7 +2,6 @@
 // them. What each station heard lately is kept in a ring of cells, one for each slot in which it heard something; what it may send on in a
 // slot is gathered from the cells of the slots that a contact may follow. Everything lives in a lent work area.
 ghost use mathlib.Core.Path.{_≡_};
-ghost use mathlib.Core.Bool.{false};
 ghost use Prim.Native.Nat.{ℕ, _+_, _-_, _*_, _%_, _^_, _<_, _≤_};
 ghost use lib.ListN.{length, getD, set};
 ghost use Rattle.temporal.specs.Plan.{units};
@@ -10,7 +9,7 @@ ghost use Rattle.temporal.specs.Bytes.{contactAt, records};
 ghost use Rattle.temporal.specs.Struck.{lackingRecord};
 ghost use Rattle.pass.specs.Row.{partSize};
 ghost use Rattle.pass.specs.Sweep.{sweepOf};
-ghost use Rattle.pass.specs.Column.{columnOf};
+ghost use Rattle.pass.specs.Column.{columnOf, lanesBy, splitOf};
 ghost use Rattle.pass.specs.PassedColumns.{ColumnsPassed};
 ghost use Rattle.stale.specs.Depth.{DepthReady, DepthOf, HearersCounted};
 ghost use Rattle.stale.specs.Size.{windowSize, windowColumns};
@@ -21,6 +20,8 @@ ghost use Rattle.stale.specs.Window.{
   openedCell,
   emptiedCell,
   maskedRow,
+  wideEntry,
+  maskedCell,
   keptCell,
   gatheredCell,
   keptCells,
@@ -30,11 +31,12 @@ ghost use Rattle.stale.specs.Window.{
   sentRecords,
   pushedCell,
   keptNext,
-  keptFrom,
+  keptRecords,
   windowSlot,
   begunWindow,
   TwoParts,
   WindowArea,
+  GatheredNext,
   RecordsFit,
   WindowReady,
 };
@@ -66,16 +68,16 @@ fn take(
     }
 }
 
-// Leaves the empty walk alone in the entry of station v in the part that begins at base, with a row of ones.
-fn open_entry(work: &mut [u64], n: usize, block: usize, base: usize, v: usize)
+// Leaves the empty walk alone in the entry of station v in the part that begins at base; one is what each entry of its row holds.
+fn open_entry(work: &mut [u64], n: usize, block: usize, base: usize, v: usize, one: u64)
     requires { ⌜ (v < n) × (base + partSize n block ≤ length (now work)) ⌝ }
-    ensures { λ _. ⌜ now (work .exit) ≡ openedCell n block (now (work .entry)) base v ⌝ }
+    ensures { λ _. ⌜ now (work .exit) ≡ openedCell n block (now (work .entry)) base v one ⌝ }
 {
     let at = base + v;
     work[at] = 0;
     work[at + n] = 1;
     let row = base + pass::row_at(n, block, v);
-    memory::fill_part(work, row, block, 1);
+    memory::fill_part(work, row, block, one);
 }
 
 // Leaves no walks in it.
@@ -90,13 +92,57 @@ fn empty_entry(work: &mut [u64], n: usize, base: usize, v: usize)
 
 // Writes 0 to the column that stands for v in the row at a place, where there is one.
 fn mask_row(work: &mut [u64], block: usize, columns: Columns, set: &[u8], row: usize, v: usize)
-    requires { ⌜ row + block ≤ length (now work) ⌝ }
-    ensures { λ _. ⌜ now (work .exit) ≡ maskedRow block (columnOf columns (now (set .entry)) block) (now (work .entry)) row v ⌝ }
+    requires { ⌜ (row + block ≤ length (now work)) × (splitOf columns ≤ 3) ⌝ }
+    ensures { λ _. ⌜ now (work .exit) ≡ maskedRow (lanesBy (splitOf columns)) block
+        (columnOf columns (now (set .entry)) (block * 2 ^ splitOf columns)) (now (work .entry)) row v ⌝ }
 {
-    let j = pass::column_of(columns, set, v, block);
-    if j < block {
-        work[row + j] = 0;
+    let split = pass::split_of(columns);
+    let count = lanes::columns_of(block, split);
+    let j = pass::column_of(columns, set, v, count);
+    if j < count {
+        pass::clear_column(work, row, j, split);
     }
+}
+
+// Whether the entry at a place has walks, and a count that does not fit a lane.
+fn wide_entry(work: &[u64], n: usize, at: usize, columns: Columns) -> bool
+    requires { ⌜ (at + n < length (now work)) × (splitOf columns ≤ 3) ⌝ }
+    ensures { λ r. ⌜ r ≡ wideEntry (lanesBy (splitOf columns)) n (now (work .entry)) at ⌝ }
+{
+    let split = pass::split_of(columns);
+    if split == 0 {
+        return false;
+    }
+    let h = work[at];
+    if h < 65535 {
+        let counted = at + n;
+        return pass::too_wide(split, 65535, 0, h, work[counted]);
+    }
+    false
+}
+
+// Writes 0 to the column that stands for v in its own row in the part that begins at base. Where its count there does not fit a lane: true,
+// and nothing is changed.
+fn mask_entry(
+    work: &mut [u64],
+    n: usize,
+    block: usize,
+    columns: Columns,
+    set: &[u8],
+    base: usize,
+    v: usize,
+) -> bool
+    requires { ⌜ (v < n) × (base + partSize n block ≤ length (now work)) × (splitOf columns ≤ 3) ⌝ }
+    ensures { λ r. ⌜ sweepOf r (now (work .exit)) ≡ maskedCell (lanesBy (splitOf columns)) n block
+        (columnOf columns (now (set .entry)) (block * 2 ^ splitOf columns)) (now (work .entry)) base v ⌝ }
+{
+    let at = base + v;
+    if wide_entry(work, n, at, columns) {
+        return true;
+    }
+    let row = base + pass::row_at(n, block, v);
+    mask_row(work, block, columns, set, row, v);
+    false
 }
 
 // How many entries a part has.
@@ -185,7 +231,7 @@ fn gather(
     }
 }
 
-// Gathers what station v may send on in slot u in its entry of the part of the windows.
+// Gathers what station v may send on in slot u in its entry of the part of the windows. True where the count there does not fit a lane.
 fn gather_window(
     work: &mut [u64],
     n: usize,
@@ -198,26 +244,28 @@ fn gather_window(
     set: &[u8],
     v: usize,
     u: usize,
-)
-    requires { ⌜ WindowArea n block depth (now work) × (v < n) × (0 < g) ⌝ }
-    ensures { λ _. ⌜ now (work .exit) ≡
-        windowCell n block depth (units g h) source (columnOf columns (now (set .entry)) block) (now (work .entry)) v u ⌝ }
+) -> bool
+    requires { ⌜ WindowArea n block depth (now work) × (v < n) × (0 < g) × (splitOf columns ≤ 3) ⌝ }
+    ensures { λ r. ⌜ sweepOf r (now (work .exit)) ≡ windowCell (lanesBy (splitOf columns)) n block depth (units g h) source
+        (columnOf columns (now (set .entry)) (block * 2 ^ splitOf columns)) (now (work .entry)) v u ⌝ }
 {
     let base = ring_at(n, block, depth, depth);
     if v == source {
-        open_entry(work, n, block, base, v);
-        return;
+        let split = pass::split_of(columns);
+        let one = lanes::ones_of(split);
+        open_entry(work, n, block, base, v, one);
+        return false;
     }
     let k = kept_cells(work, n, block, depth, v);
     empty_entry(work, n, base, v);
     let first = plan::window_first(h, u);
     let end = plan::window_end(g, u);
     gather(work, n, block, depth, base, v, first as u64, end as u64, k);
-    let row = base + pass::row_at(n, block, v);
-    mask_row(work, block, columns, set, row, v);
+    mask_entry(work, n, block, columns, set, base, v)
 }
 
-// The same for the sender of the record at j, which it returns, but not where that is the station last.
+// The same for the sender of the record at j, which it returns, but not where that is the station last. Where the count does not fit a lane
+// it returns n.
 fn gather_next(
     work: &mut [u64],
     plan: &[u8],
@@ -234,9 +282,11 @@ fn gather_next(
     last: usize,
     j: usize,
 ) -> usize
-    requires { ⌜ WindowArea n block depth (now work) × (0 < g) × (j * 6 + 5 < length (lackingRecord (now plan) out)) × (contactAt (lackingRecord (now plan) out) j .sender < n) ⌝ }
-    ensures { λ r. ⌜ (r ≡ contactAt (lackingRecord (now (plan .entry)) out) j .sender) × (now (work .exit) ≡
-        windowNext n block depth (units g h) source (columnOf columns (now (set .entry)) block) (now (work .entry)) last
+    requires { ⌜ WindowArea n block depth (now work) × (0 < g) × (j * 6 + 5 < length (lackingRecord (now plan) out)) ×
+        (contactAt (lackingRecord (now plan) out) j .sender < n) × (splitOf columns ≤ 3) ⌝ }
+    ensures { λ r. ⌜ GatheredNext n (contactAt (lackingRecord (now (plan .entry)) out) j .sender) r (now (work .exit))
+        (windowNext (lanesBy (splitOf columns)) n block depth (units g h) source
+        (columnOf columns (now (set .entry)) (block * 2 ^ splitOf columns)) (now (work .entry)) last
         (contactAt (lackingRecord (now (plan .entry)) out) j .sender) u) ⌝ }
 {
     let c = plan::kept_contact(plan, out, j);
@@ -244,11 +294,13 @@ fn gather_next(
     if v == last {
         return v;
     }
-    gather_window(work, n, block, g, h, depth, source, columns, set, v, u);
+    if gather_window(work, n, block, g, h, depth, source, columns, set, v, u) {
+        return n;
+    }
     v
 }
 
-// Gathers the windows of the senders of the records from j to before end.
+// Gathers the windows of the senders of the records from j to before end. True where a count does not fit a lane, at the first.
 fn gather_records(
     work: &mut [u64],
     plan: &[u8],
@@ -264,11 +316,12 @@ fn gather_records(
     u: usize,
     j: usize,
     end: usize,
-)
-    requires { ⌜ WindowArea n block depth (now work) × (0 < g) × RecordsFit (lackingRecord (now plan) out) n j end ⌝ }
-    ensures { λ _. ⌜ now (work .exit) ≡
-        windowsOf (lackingRecord (now (plan .entry)) out) n block depth (units g h) source (columnOf columns (now (set .entry)) block) (now (work .entry)) u n j
-        (end - j) ⌝ }
+) -> bool
+    requires { ⌜ WindowArea n block depth (now work) × (0 < g) × RecordsFit (lackingRecord (now plan) out) n j end ×
+        (splitOf columns ≤ 3) ⌝ }
+    ensures { λ r. ⌜ sweepOf r (now (work .exit)) ≡
+        windowsOf (lackingRecord (now (plan .entry)) out) (lanesBy (splitOf columns)) n block depth (units g h) source
+        (columnOf columns (now (set .entry)) (block * 2 ^ splitOf columns)) (now (work .entry)) u n j (end - j) ⌝ }
 {
     let mut last = n;
     let mut i = j;
@@ -289,8 +342,12 @@ fn gather_records(
             last,
             i,
         );
+        if last == n {
+            return true;
+        }
         i += 1;
     }
+    false
 }
 
 // Sends the window of the record's sender, in the part that begins at from, on to its hearer, in the part that begins at to.
@@ -304,9 +361,10 @@ fn send_record(
     to: usize,
     j: usize,
 )
-    requires { ⌜ TwoParts n block to from (now work) × (j * 6 + 5 < length (lackingRecord (now plan) out)) × (contactAt (lackingRecord (now plan) out) j .sender < n) ×
-        (contactAt (lackingRecord (now plan) out) j .hearer < n) ⌝ }
-    ensures { λ _. ⌜ now (work .exit) ≡ takenCell n block (now (work .entry)) to (contactAt (lackingRecord (now (plan .entry)) out) j .hearer) from
+    requires { ⌜ TwoParts n block to from (now work) × (j * 6 + 5 < length (lackingRecord (now plan) out)) ×
+        (contactAt (lackingRecord (now plan) out) j .sender < n) × (contactAt (lackingRecord (now plan) out) j .hearer < n) ⌝ }
+    ensures { λ _. ⌜ now (work .exit) ≡ takenCell n block (now (work .entry)) to
+        (contactAt (lackingRecord (now (plan .entry)) out) j .hearer) from
         (contactAt (lackingRecord (now (plan .entry)) out) j .sender) 1 ⌝ }
 {
     let c = plan::kept_contact(plan, out, j);
@@ -326,7 +384,8 @@ fn send_records(
     end: usize,
 )
     requires { ⌜ TwoParts n block to from (now work) × RecordsFit (lackingRecord (now plan) out) n j end ⌝ }
-    ensures { λ _. ⌜ now (work .exit) ≡ sentRecords (lackingRecord (now (plan .entry)) out) n block from to (now (work .entry)) j (end - j) ⌝ }
+    ensures { λ _. ⌜ now (work .exit) ≡
+        sentRecords (lackingRecord (now (plan .entry)) out) n block from to (now (work .entry)) j (end - j) ⌝ }
 {
     let mut i = j;
     while i < end {
@@ -352,47 +411,87 @@ fn push(work: &mut [u64], n: usize, block: usize, depth: usize, u: usize, v: usi
     work[counter] = std::num::wrapping_add_u64(k, 1);
 }
 
-// Where v heard something in slot u, takes it into its total and keeps it. True where the flag was, or where its count is over 2^64 - 1.
+// Where v heard something in slot u, takes it into its total, keeps it, and leaves nothing waiting. True, with nothing changed, where its
+// count is over 2^64 - 1, or the total's would not fit a lane.
 fn keep_one(
     work: &mut [u64],
     n: usize,
     block: usize,
     depth: usize,
+    columns: Columns,
     u: usize,
     v: usize,
-    over: bool,
 ) -> bool
-    requires { ⌜ WindowArea n block depth (now work) × (v < n) ⌝ }
-    ensures { λ r. ⌜ sweepOf r (now (work .exit)) ≡ keptNext n block depth u (sweepOf over (now (work .entry))) v ⌝ }
+    requires { ⌜ WindowArea n block depth (now work) × (v < n) × (splitOf columns ≤ 3) ⌝ }
+    ensures { λ r. ⌜ sweepOf r (now (work .exit)) ≡ keptNext (lanesBy (splitOf columns)) n block depth u (now (work .entry)) v ⌝ }
 {
     let size = part_size(n, block);
     let at = size + v;
-    if work[at] < 65535 {
+    let l = work[at];
+    if l < 65535 {
         let d = work[at + n];
-        take(work, n, block, 0, v, size, v, 0);
-        push(work, n, block, depth, u, v);
         if d == 0 {
             return true;
         }
+        if pass::wide_at(work, n, v, l, d, columns) {
+            return true;
+        }
+        take(work, n, block, 0, v, size, v, 0);
+        push(work, n, block, depth, u, v);
+        empty_entry(work, n, size, v);
     }
-    over
+    false
 }
 
-// The same for every station.
-fn keep_all(work: &mut [u64], n: usize, block: usize, depth: usize, u: usize) -> bool
-    requires { ⌜ WindowArea n block depth (now work) ⌝ }
-    ensures { λ r. ⌜ sweepOf r (now (work .exit)) ≡ keptFrom n block depth u (sweepOf false (now (work .entry))) 0 n ⌝ }
+// The same for the hearer of the record at j.
+fn keep_record(
+    work: &mut [u64],
+    plan: &[u8],
+    out: usize,
+    n: usize,
+    block: usize,
+    depth: usize,
+    columns: Columns,
+    u: usize,
+    j: usize,
+) -> bool
+    requires { ⌜ WindowArea n block depth (now work) × (j * 6 + 5 < length (lackingRecord (now plan) out)) ×
+        (contactAt (lackingRecord (now plan) out) j .hearer < n) × (splitOf columns ≤ 3) ⌝ }
+    ensures { λ r. ⌜ sweepOf r (now (work .exit)) ≡ keptNext (lanesBy (splitOf columns)) n block depth u (now (work .entry))
+        (contactAt (lackingRecord (now (plan .entry)) out) j .hearer) ⌝ }
 {
-    let mut over = false;
-    let mut v = 0;
-    while v < n {
-        over = keep_one(work, n, block, depth, u, v, over);
-        v += 1;
-    }
-    over
+    let c = plan::kept_contact(plan, out, j);
+    keep_one(work, n, block, depth, columns, u, c.hearer)
 }
 
-// Slot u, with the records from j to before end. True where a count is over 2^64 - 1.
+// The same for the records from j to before end, up to the first at whose hearer it is true.
+fn keep_records(
+    work: &mut [u64],
+    plan: &[u8],
+    out: usize,
+    n: usize,
+    block: usize,
+    depth: usize,
+    columns: Columns,
+    u: usize,
+    j: usize,
+    end: usize,
+) -> bool
+    requires { ⌜ WindowArea n block depth (now work) × RecordsFit (lackingRecord (now plan) out) n j end × (splitOf columns ≤ 3) ⌝ }
+    ensures { λ r. ⌜ sweepOf r (now (work .exit)) ≡
+        keptRecords (lackingRecord (now (plan .entry)) out) (lanesBy (splitOf columns)) n block depth u (now (work .entry)) j (end - j) ⌝ }
+{
+    let mut i = j;
+    while i < end {
+        if keep_record(work, plan, out, n, block, depth, columns, u, i) {
+            return true;
+        }
+        i += 1;
+    }
+    false
+}
+
+// Slot u, with the records from j to before end. True where a count is over 2^64 - 1 or does not fit a lane.
 fn window_slot(
     work: &mut [u64],
     plan: &[u8],
@@ -409,12 +508,13 @@ fn window_slot(
     j: usize,
     end: usize,
 ) -> bool
-    requires { ⌜ WindowArea n block depth (now work) × (0 < g) × RecordsFit (lackingRecord (now plan) out) n j end ⌝ }
+    requires { ⌜ WindowArea n block depth (now work) × (0 < g) × RecordsFit (lackingRecord (now plan) out) n j end ×
+        (splitOf columns ≤ 3) ⌝ }
     ensures { λ r. ⌜ sweepOf r (now (work .exit)) ≡
-        windowSlot (lackingRecord (now (plan .entry)) out) n block depth (units g h) source (columnOf columns (now (set .entry)) block) (now (work .entry)) u j
-        end ⌝ }
+        windowSlot (lackingRecord (now (plan .entry)) out) (lanesBy (splitOf columns)) n block depth (units g h) source
+        (columnOf columns (now (set .entry)) (block * 2 ^ splitOf columns)) (now (work .entry)) u j end ⌝ }
 {
-    gather_records(
+    if gather_records(
         work,
         plan,
         out,
@@ -429,26 +529,34 @@ fn window_slot(
         u,
         j,
         end,
-    );
+    ) {
+        return true;
+    }
     let size = part_size(n, block);
-    pass::empty_part(work, n, size);
     let base = ring_at(n, block, depth, depth);
     send_records(work, plan, out, n, block, base, size, j, end);
-    keep_all(work, n, block, depth, u)
+    keep_records(work, plan, out, n, block, depth, columns, u, j, end)
 }
 
 // Leaves the empty walk of the source alone, and nothing kept.
-fn begin_window(work: &mut [u64], n: usize, block: usize, depth: usize, source: usize)
-    requires { ⌜ WindowArea n block depth (now work) × (source < n) ⌝ }
-    ensures { λ _. ⌜ now (work .exit) ≡ begunWindow n block depth (now (work .entry)) source ⌝ }
+fn begin_window(
+    work: &mut [u64],
+    n: usize,
+    block: usize,
+    depth: usize,
+    source: usize,
+    columns: Columns,
+)
+    requires { ⌜ WindowArea n block depth (now work) × (source < n) × (splitOf columns ≤ 3) ⌝ }
+    ensures { λ _. ⌜ now (work .exit) ≡ begunWindow (lanesBy (splitOf columns)) n block depth (now (work .entry)) source ⌝ }
 {
-    pass::begin(work, n, block, 1, source);
+    pass::begin_columns(work, n, block, 1, source, columns);
     let counters = mark_at(n, block, depth, depth, 0);
     memory::fill_part(work, counters, n, 0);
 }
 
-// The pass: slot by slot, what each sender may send on is gathered from what is kept. The record at position out is left out; where there is
-// none, the plan is whole.
+// The pass: slot by slot, what each sender may send on is gathered from what is kept. The record at position out is left out; where there
+// is none, the plan is whole.
 pub fn pass_window(
     work: &mut [u64],
     plan: &[u8],
@@ -463,11 +571,12 @@ pub fn pass_window(
     set: &[u8],
     block: usize,
 ) -> Ended
-    requires { ⌜ WindowReady (lackingRecord (now plan) out) n t (units g h) depth source block (now work) ⌝ }
-    ensures { λ r. ⌜ ColumnsPassed (lackingRecord (now (plan .entry)) out) n t (units g h) source n (columnOf columns (now (set .entry)) block) block
-        (windowSize n depth block) (now (work .entry)) (now (work .exit)) r ⌝ }
+    requires { ⌜ WindowReady (lackingRecord (now plan) out) n t (units g h) depth source block (now work) × (splitOf columns ≤ 3) ⌝ }
+    ensures { λ r. ⌜ ColumnsPassed (lackingRecord (now (plan .entry)) out) n t (units g h) source n (lanesBy (splitOf columns))
+        (columnOf columns (now (set .entry)) (block * 2 ^ splitOf columns)) block (windowSize n depth block)
+        (now (work .entry)) (now (work .exit)) r ⌝ }
 {
-    begin_window(work, n, block, depth, source);
+    begin_window(work, n, block, depth, source, columns);
     let mut j = 0;
     let mut u = 1;
     while u <= t {
@@ -488,7 +597,7 @@ pub fn pass_window(
             j,
             end,
         ) {
-            return Ended::AppearanceTooMany;
+            return pass::stopped(columns);
         }
         j = end;
         u += 1;

@@ -15,6 +15,7 @@ use lib.Seq.{getD-set-same, getD-set-other, drop-set-lt, lt-length-set}
 use Rattle.temporal.specs.Plan.{Plan}
 use Rattle.temporal.specs.Shortest.{shortestWalksTo, through, count}
 use Rattle.tallies.specs.Progress.{pairTerm, loadTerm, TallyEntry, Kept}
+use Rattle.pass.specs.Column.{lanesBy, columnAt}
 use Rattle.tallies.specs.Progress.{countedIn, added, addedAt}
 use Rattle.tallies.proofs.TermLaws.{Nothing, nothing-through, through-destination, pair-adds, load-adds}
 use Rattle.tallies.proofs.TermLaws.{partly-next}
@@ -137,23 +138,29 @@ entry-added p n base s v z c past w h fits apart counted row e =
 
 -- ---- the three ways that one addition can go
 
-module _ (n base low block z j : ℕ) (w : List ℕ) where
-  pub added-destination : low + j ≡ z → w ≡ addedAt n base low block z j w
+module _ (n base low block split z j : ℕ) (w : List ℕ) where
+  pub added-destination : low + j ≡ z → w ≡ addedAt n base low block split z j w
   unfolding addedAt added
   added-destination e = rw (eq-eqb (low + j) z e)
 
-  pub added-none : low + j ≢ z → getD w (n + z) 0 - getD w (2 * n + z * block + j) 0 ≡ 0
-      → w ≡ addedAt n base low block z j w
+  pub added-none : low + j ≢ z → getD w (n + z) 0 - columnAt (lanesBy split) w (2 * n + z * block) j ≡ 0
+      → w ≡ addedAt n base low block split z j w
   unfolding addedAt added
   added-none d e = rw (ne-eqb (low + j) z d, eq-eqb _ 0 e)
 
-  pub added-some : low + j ≢ z → getD w (n + z) 0 - getD w (2 * n + z * block + j) 0 ≢ 0 → (x : ℕ)
-      → x ≡ 2 ^ 32 * (getD w (n + z) 0 - getD w (2 * n + z * block + j) 0) / getD w (n + z) 0
+  pub added-some : low + j ≢ z → getD w (n + z) 0 - columnAt (lanesBy split) w (2 * n + z * block) j ≢ 0 → (x : ℕ)
+      → x ≡ 2 ^ 32 * (getD w (n + z) 0 - columnAt (lanesBy split) w (2 * n + z * block) j) / getD w (n + z) 0
       → set (set w (base + (low + j)) (getD w (base + (low + j)) 0 + 1)) (base + n + (low + j))
       (getD w (base + n + (low + j)) 0 + x)
-      ≡ addedAt n base low block z j w
+      ≡ addedAt n base low block split z j w
   unfolding addedAt added countedIn
   added-some d e x same = rw (ne-eqb (low + j) z d, ne-eqb _ 0 e, same)
+
+-- what lies before the tallies stays
+pub added-front : (n base low block split z j : ℕ) (w : List ℕ) → (low + j < n) × (base + 2 * n ≤ length w) → (i : ℕ) → i < base
+    → getD (addedAt n base low block split z j w) i 0 ≡ getD w i 0
+unfolding addedAt
+added-front n base low block split z j w (station, fits) i h = moved-added n base w (low + j) station fits z _ _ .front i h
 
 -- a share is at most one whole
 pub whole-share : (x t c : ℕ) → x ≡ 2 ^ 32 * t / c → t ≤ c → x ≤ 2 ^ 32

@@ -1,25 +1,62 @@
 // Adds up, over the sources below k, every station's pairs and load. Everything lives in a lent work area: the pass's part at its
 // beginning, the pairs of the stations and then their loads at its end.
 ghost use mathlib.Core.Path.{_≡_};
-ghost use Prim.Native.Nat.{_+_, _*_, _<_, _≤_, min};
-ghost use lib.ListN.{length};
+ghost use Prim.Native.Nat.{_+_, _*_, _^_, _<_, _≤_, min};
+ghost use lib.ListN.{length, getD};
 ghost use Rattle.temporal.specs.Plan.{units};
 ghost use Rattle.temporal.specs.Struck.{lackingRecord};
 ghost use Rattle.tallies.specs.Tally.{tallyBase, Tallyable, Tallied};
-ghost use Rattle.tallies.specs.Progress.{addedAt, Addable, Workable, DestinationsAdded};
-ghost use Rattle.tallies.specs.Sources.{BlockReady, BlockDone, SourceReady, SourceDone, AllReady};
+ghost use Rattle.lanes.specs.Lane.{ones, lanesOf, widthOf};
+ghost use Rattle.pass.specs.Column.{lanesBy, columnAt};
+ghost use Rattle.tallies.specs.Progress.{
+  rowsOf,
+  addedAt,
+  Addable,
+  Workable,
+  DestinationsAdded,
+  ColumnWithin,
+  CountFits,
+  EntryWorkable,
+  EntriesAdded,
+};
+ghost use Rattle.tallies.specs.Sources.{BlockReady, BlockDone, SourceReady, SourceDone, AllReady, EntriesFor};
+use forward::Packed;
+
+// What column j of the row that begins at a place holds.
+fn column(work: &[u64], row: usize, j: usize, split: usize) -> u64
+    requires { ⌜ ColumnWithin row j split (length (now work)) ⌝ }
+    ensures { λ r. ⌜ r ≡ columnAt (lanesBy split) (now (work .entry)) row j ⌝ }
+{
+    if split == 0 {
+        return work[row + j];
+    }
+    let at = row + lanes::entry_of(j, split);
+    let w = lanes::width_of(split);
+    let l = lanes::lane_of(j, split);
+    lanes::lane_at(work[at], w, l)
+}
 
 // Adds the pair of the source worked on and z to station low + j, with its share, where some of its walks have it inside.
-fn add_pair(work: &mut [u64], n: usize, base: usize, low: usize, block: usize, z: usize, j: usize)
-    requires { ⌜ Addable n base low block z j (now work) ⌝ }
-    ensures { λ _. ⌜ now (work .exit) ≡ addedAt n base low block z j (now (work .entry)) ⌝ }
+fn add_pair(
+    work: &mut [u64],
+    n: usize,
+    base: usize,
+    low: usize,
+    block: usize,
+    split: usize,
+    z: usize,
+    j: usize,
+)
+    requires { ⌜ Addable n base low block split z j (now work) ⌝ }
+    ensures { λ _. ⌜ now (work .exit) ≡ addedAt n base low block split z j (now (work .entry)) ⌝ }
 {
     let v = low + j;
     if v == z {
         return;
     }
     let count = work[n + z];
-    let through = count - work[2 * n + z * block + j];
+    let row = 2 * n + z * block;
+    let through = count - column(work, row, j, split);
     if through == 0 {
         return;
     }
@@ -30,6 +67,46 @@ fn add_pair(work: &mut [u64], n: usize, base: usize, low: usize, block: usize, z
     work[load] = sum;
 }
 
+// Adds destination z to the stations of entry e of its row, but where each lane of the entry holds the count: no walk has one of them inside.
+fn add_entry(
+    work: &mut [u64],
+    n: usize,
+    base: usize,
+    source: usize,
+    low: usize,
+    block: usize,
+    split: usize,
+    stations: usize,
+    z: usize,
+    e: usize,
+    all: u64,
+)
+    requires { ⌜ EntryWorkable n base source low (rowsOf stations block split) z e all (now work) ⌝ }
+    ensures { λ _. ⌜ EntriesAdded n base source low (rowsOf stations block split) z e (e + 1) (now (work .entry)) (now (work .exit)) ⌝ }
+{
+    if work[2 * n + z * block + e] == all {
+        return;
+    }
+    let end = pass::smaller(lanes::columns_of(e + 1, split), stations);
+    let mut j = lanes::columns_of(e, split);
+    while j < end {
+        add_pair(work, n, base, low, block, split, z, j);
+        j += 1;
+    }
+}
+
+// The entry in which every lane holds the count of destination z.
+fn full_entry(work: &[u64], n: usize, split: usize, z: usize) -> u64
+    requires { ⌜ CountFits n split z (now work) ⌝ }
+    ensures { λ r. ⌜ r ≡ getD (now (work .entry)) (n + z) 0 * ones (widthOf split) (lanesOf split) ⌝ }
+{
+    let count = work[n + z];
+    if split == 0 {
+        return count;
+    }
+    count * lanes::ones_of(split)
+}
+
 // Adds destination z to every station of the block.
 fn add_row(
     work: &mut [u64],
@@ -38,10 +115,12 @@ fn add_row(
     source: usize,
     low: usize,
     block: usize,
+    split: usize,
+    stations: usize,
     z: usize,
 )
-    requires { ⌜ Workable n base source low block z (now work) × (z < n) ⌝ }
-    ensures { λ _. ⌜ DestinationsAdded n base source low block z (z + 1) (now (work .entry)) (now (work .exit)) ⌝ }
+    requires { ⌜ Workable n base source low (rowsOf stations block split) z (now work) × (z < n) ⌝ }
+    ensures { λ _. ⌜ DestinationsAdded n base source low (rowsOf stations block split) z (z + 1) (now (work .entry)) (now (work .exit)) ⌝ }
 {
     if z == source {
         return;
@@ -49,27 +128,49 @@ fn add_row(
     if 65535 <= work[z] {
         return;
     }
-    let mut j = 0;
-    while j < block {
-        add_pair(work, n, base, low, block, z, j);
-        j += 1;
+    let all = full_entry(work, n, split, z);
+    let mut e = 0;
+    while e < block {
+        add_entry(
+            work,
+            n,
+            base,
+            source,
+            low,
+            block,
+            split,
+            stations,
+            z,
+            e,
+            all,
+        );
+        e += 1;
     }
 }
 
 // Adds every destination to every station of the block.
-fn add_rows(work: &mut [u64], n: usize, base: usize, source: usize, low: usize, block: usize)
-    requires { ⌜ Workable n base source low block 0 (now work) ⌝ }
-    ensures { λ _. ⌜ DestinationsAdded n base source low block 0 n (now (work .entry)) (now (work .exit)) ⌝ }
+fn add_rows(
+    work: &mut [u64],
+    n: usize,
+    base: usize,
+    source: usize,
+    low: usize,
+    block: usize,
+    split: usize,
+    stations: usize,
+)
+    requires { ⌜ Workable n base source low (rowsOf stations block split) 0 (now work) ⌝ }
+    ensures { λ _. ⌜ DestinationsAdded n base source low (rowsOf stations block split) 0 n (now (work .entry)) (now (work .exit)) ⌝ }
 {
     let mut z = 0;
     while z < n {
-        add_row(work, n, base, source, low, block, z);
+        add_row(work, n, base, source, low, block, split, stations, z);
         z += 1;
     }
 }
 
-// Works on one source with one block of stations: the pass, then every destination. The record at position out is left out; where there is
-// none, the plan is whole. True where a count is over 2^64 - 1.
+// Works on one source with one block of stations, 2^split of them to an entry of a row: the pass, then every destination. The record at
+// position out is left out; where there is none, the plan is whole.
 fn tally_block(
     work: &mut [u64],
     plan: &[u8],
@@ -83,18 +184,53 @@ fn tally_block(
     source: usize,
     low: usize,
     block: usize,
-) -> bool
-    requires { ⌜ BlockReady (lackingRecord (now plan) out) n t (units g h) depth base source low block (now work) ⌝ }
-    ensures { λ r. ⌜ BlockDone (lackingRecord (now (plan .entry)) out) n t (units g h) base source low block (now (work .entry)) (now (work .exit)) r ⌝ }
+    split: usize,
+    stations: usize,
+) -> Packed
+    requires { ⌜ BlockReady (lackingRecord (now plan) out) n t (units g h) depth base source low (rowsOf stations block split) (now work) ⌝ }
+    ensures { λ r. ⌜ BlockDone (lackingRecord (now (plan .entry)) out) n t (units g h) base source low (rowsOf stations block split)
+        (now (work .entry)) (now (work .exit)) r ⌝ }
 {
-    if forward::pass_without(work, plan, out, n, t, g, h, depth, source, low, block) {
-        return true;
+    let packed = forward::pass_packed(
+        work,
+        plan,
+        out,
+        n,
+        t,
+        g,
+        h,
+        depth,
+        source,
+        low,
+        block,
+        split,
+    );
+    match packed {
+        Packed::Counted => {
+            add_rows(work, n, base, source, low, block, split, stations);
+            return Packed::Counted;
+        }
+        Packed::TooMany => {
+            return Packed::TooMany;
+        }
+        Packed::TooWide => {
+            return Packed::TooWide;
+        }
     }
-    add_rows(work, n, base, source, low, block);
-    false
 }
 
-// Works on one source, block by block, without the record at position out as above. True where a count is over 2^64 - 1.
+// How many entries of a row hold so many stations, but no more than block.
+fn entries_for(left: usize, block: usize, split: usize) -> usize
+    requires { ⌜ (split ≤ 3) × (left ≤ 256) ⌝ }
+    ensures { λ r. ⌜ EntriesFor left block split r ⌝ }
+{
+    let lanes = lanes::columns_of(1, split);
+    let all = lanes::entry_of(left + lanes - 1, split);
+    pass::smaller(block, all)
+}
+
+// Works on one source, block by block, without the record at position out as above. Where a count does not fit its lane, the same block is
+// worked on again with half as many stations to an entry. True where a count is over 2^64 - 1.
 pub fn tally_source(
     work: &mut [u64],
     plan: &[u8],
@@ -111,13 +247,38 @@ pub fn tally_source(
     requires { ⌜ SourceReady (lackingRecord (now plan) out) n t (units g h) depth base block source (now work) ⌝ }
     ensures { λ r. ⌜ SourceDone (lackingRecord (now (plan .entry)) out) n t (units g h) base source (now (work .entry)) (now (work .exit)) r ⌝ }
 {
+    let mut split = 3;
     let mut low = 0;
     while low < n {
-        let size = pass::smaller(block, n - low);
-        if tally_block(work, plan, out, n, t, g, h, depth, base, source, low, size) {
-            return true;
+        let entries = entries_for(n - low, block, split);
+        let stations = pass::smaller(lanes::columns_of(entries, split), n - low);
+        let packed = tally_block(
+            work,
+            plan,
+            out,
+            n,
+            t,
+            g,
+            h,
+            depth,
+            base,
+            source,
+            low,
+            entries,
+            split,
+            stations,
+        );
+        match packed {
+            Packed::Counted => {
+                low += stations;
+            }
+            Packed::TooMany => {
+                return true;
+            }
+            Packed::TooWide => {
+                split -= 1;
+            }
         }
-        low += size;
     }
     false
 }

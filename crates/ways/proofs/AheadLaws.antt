@@ -13,7 +13,7 @@ use lib.ListN.{length, getElem?}
 use Rattle.temporal.specs.Plan.{Contact, Plan, Appearance, leadsTo, mayFollow}
 use Rattle.temporal.specs.Walk.{endsIn, isAt}
 use Rattle.temporal.proofs.ListLaws.{not-both}
-use Rattle.temporal.proofs.RuleLaws.{Kept, follows-earlier}
+use Rattle.temporal.proofs.RuleLaws.{follows-later, follows-start}
 use Rattle.temporal.proofs.ShortestLaws.{Bounded}
 use Rattle.temporal.proofs.WalkLaws.{step-inv, step-intro, step-position, run-slots, run-positions}
 use Rattle.temporal.proofs.WalkLaws.{SlotsWithin, run-last-within, ends-inv, ends-nil, ends-step, ends-after}
@@ -118,15 +118,15 @@ module _ (p : Plan) (z : ℕ) where
       }) in
       record { ends = ends-after p (appearance v u′) (isAt z) i w again rest; starts = a .starts }
 
-  -- (kept) So they have the same fewest from two slots of a station, where every contact from j on may follow the later one.
-  pub ahead-earlier : Kept p → SlotsWithin p → (v u j h : ℕ)
-      → ((i : ℕ) (c : Contact) → j ≤ i → getElem? (p .contacts) i ≡ some c → mayFollow p (suc u) (c .slot) ≡ true)
-      → Fewest (Ahead p z j (appearance v (suc u))) h
+  -- So they have the same fewest from the start, where every contact from j on may follow slot u.
+  pub ahead-heard : (v u j : ℕ) {h : ℕ}
+      → ((i : ℕ) (c : Contact) → j ≤ i → getElem? (p .contacts) i ≡ some c → mayFollow p u (c .slot) ≡ true)
+      → Fewest (Ahead p z j (appearance v 0)) h
       → Fewest (Ahead p z j (appearance v u)) h
-  ahead-earlier kept fits v u j h all =
+  ahead-heard v u j all =
       fewest-same
-      (ahead-moves v (suc u) u j (λ i c from there f. follows-earlier p kept (suc u) u (c .slot) (omega arith) (fits .within i c there) f))
-      (ahead-moves v u (suc u) j (λ i c from there f. all i c from there))
+      (ahead-moves v 0 u j (λ i c from there f. all i c from there))
+      (ahead-moves v u 0 j (λ i c from there f. let later = follows-later p u (c .slot) f in follows-start p (c .slot) (omega arith)))
 
   -- a contact at j
   module _ (v u j : ℕ) (c : Contact) (there : getElem? (p .contacts) j ≡ some c) where

@@ -31,7 +31,7 @@ use Rattle.ways.specs.Found.{Listable, Stepped}
 use Rattle.ways.proofs.OrderLaws.{first-place, next-place, last-place, index-inv, index-some}
 use Rattle.ways.proofs.SearchLaws.{FirstAt, first-some, first-none, least-longer, later-here, later-behind}
 use Rattle.ways.proofs.SearchLaws.{none-behind}
-use Rattle.ways.proofs.PrefixLaws.{shifted, step-inside, completes-inv, completes-nil, completes-snoc}
+use Rattle.ways.proofs.PrefixLaws.{shifted, step-heard, completes-inv, completes-nil, completes-snoc}
 use Rattle.ways.proofs.PrefixLaws.{hops-within}
 use Rattle.ways.proofs.PrefixLaws.{completes-rise, completes-front, completes-onward, completes-bounded, completes-walk}
 use Rattle.ways.proofs.PrefixLaws.{mem-complete}
@@ -255,8 +255,10 @@ module _ (bs : List ℕ) (q : Pair) (b₀ : List ℕ) (g : Listable bs q b₀) w
             ≡ holds o (λ y. eqb (suc (length w) + homeFrom p (q .destination) y) (q .hops))
         go none e = refl
         go (some y) e =
-            let (station, slot) = step-inside bs (q .stations) (q .slots) (termsIn q) (g .accepted) x i e in
-            rw (table .entry (y .station) (y .slot) station (omega arith), size)
+            let (inside, there) = step-heard bs (q .stations) (q .slots) (termsIn q) (g .accepted) x i e in
+            let entry = subst (λ (y : Appearance). getD l (y .station * (q .slots + 1) + y .slot) 0 ≡ homeFrom p (q .destination) y)
+            (sym there) (table .heard i inside) in
+            rw (entry, size)
             (shifted k (homeFrom p (q .destination) y) (q .hops) (omega arith))
 
     module _ (b : List ℕ) (k from : ℕ) (fewer : k < q .hops) (inside : k < length b) where

@@ -1,447 +1,312 @@
--- The backward pass: what the table holds on the way, that a turn keeps it so, and that it is the completion table at the
--- end. Assumes nothing.
-use Prim.Native.Nat.{ℕ, zero, suc, _+_, _-_, _*_, _/_, _<_, _≤_}
+-- The backward pass by records where nothing goes stale: what the table holds on the way, that storing and folding a record keep it so,
+-- and that it is the completion table at the end. Assumes nothing.
+use Prim.Native.Nat.{ℕ, suc, _+_, _-_, _*_, _/_, _<_, _≤_}
 use native.Mathlib.Omega.{arith}
 use native.Mathlib.Decide.{ℕ-discrete}
-use mathlib.Core.Path.{_≡_, refl, sym, ap, subst, _∙_}
-use mathlib.Core.Bool.{Bool, true, false, cond}
+use mathlib.Core.Path.{_≡_, refl, sym, ap, _∙_}
+use mathlib.Core.Bool.{true, false}
 use mathlib.Core.List.{List}
-use mathlib.Core.Logic.{by-cases, _≢_}
+use mathlib.Core.Logic.{inr, ⊎-elim, by-cases}
 use mathlib.Core.Option.{some}
-use borrow.Author.Tests.{ltb-true, ltb-false, lt-ltb, le-ltb, le-leb, lt-leb, eqb-true, eqb-false}
-use lib.Arith.{digits-lt}
-use lib.Dec.{ltb, leb, eqb}
-use lib.ListN.{length, getD, set, drop, replicate, getElem?, length-set, length-append, length-drop, length-replicate}
-use lib.ListN.{getD-replicate, List·getD-append}
-use lib.Seq.{getD-set-same, getD-set-other, drop-set-lt, drop-at}
+use lib.ListN.{length, getD, drop, getElem?}
 use Rattle.temporal.specs.Plan.{Contact, Plan, Terms, Keeps, mayFollow}
 use Rattle.temporal.specs.Walk.{endsIn, isAt}
 use Rattle.temporal.specs.Bytes.{contactAt, records, planOf}
-use Rattle.temporal.specs.Outcome.{over}
-use Rattle.temporal.proofs.RuleLaws.{Kept, follows-later, follows-earlier, waits-turnaround, leads-from-sender, leads-none}
-use Rattle.temporal.proofs.Accepted.{accepted}
-use Rattle.temporal.proofs.PlanLaws.{kept-plan, contact-there, contact-inv, contacts-length, slots-within, slots-sorted}
-use Rattle.temporal.proofs.WalkLaws.{SlotsWithin}
+use Rattle.temporal.proofs.ListLaws.{not-true-false}
+use Rattle.temporal.proofs.RuleLaws.{InTime, follows-start, follows-intro, follows-inv, leads-from-sender, leads-none}
+use Rattle.temporal.proofs.Accepted.{ContactWithin, accepted}
+use Rattle.temporal.proofs.PlanLaws.{contact-there, contact-inv, contacts-length, slots-within, slots-sorted}
 use Rattle.ways.specs.Home.{appearance, homeHops, Completable, Completed}
-use Rattle.ways.specs.Column.{foldedBack, copiedFrom, begunBack, waiting, leftBefore, foldedColumn}
-use Rattle.ways.specs.Column.{turnedBack, FoldableColumn, TurnableBack}
+use Rattle.ways.specs.Column.{foldedBack, storedBack, isDue, Begun, RecordWithin}
 use Rattle.ways.proofs.FewestLaws.{Fewest, fewest-unique}
-use Rattle.ways.proofs.AheadLaws.{Ahead, fewest-home, ahead-none, ahead-all, ahead-earlier, ahead-fold}
-use Rattle.ways.proofs.AheadLaws.{ahead-past}
-use Rattle.ways.proofs.ColumnLaws.{place-below, station-apart, folded-length, folded-slot, folded-station}
-use Rattle.ways.proofs.ColumnLaws.{folded-sender}
-use Rattle.ways.proofs.ColumnLaws.{folded-beyond, copied-length, copied-slot, copied-station, copied-beyond}
+use Rattle.ways.proofs.AheadLaws.{Ahead, fewest-home, ahead-none, ahead-all, ahead-heard, ahead-fold, ahead-past}
+use Rattle.ways.proofs.ColumnLaws.{place-below, start-below, place-same, folded-length, folded-beyond, folded-slot}
+use Rattle.ways.proofs.ColumnLaws.{folded-station, folded-sender, stored-length, stored-beyond, stored-start, stored-other}
+use Rattle.ways.proofs.ColumnLaws.{stored-hearer, due-inv, due-not}
 
--- ---- a turn
-
--- the records of slot k can be folded in
-pub column-ready : (bs : List ℕ) (n t q k j : ℕ) (l : List ℕ) (u : ℕ) → u ≡ k - q → TurnableBack bs n t q k j l
-    → FoldableColumn bs (t + 1) u k j l
-column-ready bs n t q k j l u at s = subst (λ x. FoldableColumn bs (t + 1) x k j l) (sym at) (s .foldable)
-
-module _ (bs : List ℕ) (n t q k j : ℕ) (l : List ℕ) (u : ℕ) (at : u ≡ k - q) (mid : List ℕ)
-    (folded : mid ≡ foldedColumn bs (t + 1) u k j l) where
-  -- the fold is that of the turn's column
-  folded-there : mid ≡ foldedColumn bs (t + 1) (k - q) k j l
-  folded-there = folded ∙ ap (λ x. foldedColumn bs (t + 1) x k j l) at
-
-  -- a turn that goes on to the column before
-  pub turned-copies : (l′ : List ℕ) → 0 < u → l′ ≡ copiedFrom (t + 1) (u - 1) mid 0 n → l′ ≡ turnedBack bs n t q k j l
-  unfolding turnedBack
-  turned-copies l′ more e =
-      let test : ltb 0 (k - q) ≡ true = lt-ltb 0 (k - q) (omega arith) in
-      let front : u - 1 ≡ k - q - 1 = omega arith in
-      e ∙ ap (λ x. copiedFrom (t + 1) x mid 0 n) front
-      ∙ ap (λ x. copiedFrom (t + 1) (k - q - 1) x 0 n) folded-there ∙ sym (rw test refl)
-
-  -- a turn in the start's column
-  pub turned-stays : u ≤ 0 → mid ≡ turnedBack bs n t q k j l
-  unfolding turnedBack
-  turned-stays none = let test : ltb 0 (k - q) ≡ false = le-ltb 0 (k - q) (omega arith) in folded-there ∙ sym (rw test refl)
-
--- a fill and the destination's entry are the beginning
-pub begun-by : (n width t z : ℕ) (l filled : List ℕ) → filled ≡ over (replicate (n * width) 65535) l
-    → set filled (z * width + t) 0 ≡ begunBack n width t z l
-unfolding begunBack
-begun-by n width t z l filled e = ap (λ x. set x (z * width + t) 0) e
-
--- ---- the state of the pass
-
--- In column u, with the records from j on taken in: these may follow slot u, later columns are finished, and column u holds
--- what starts from j on.
-pub record Passing (bs : List ℕ) (n t : ℕ) (terms : Terms) (z : ℕ) (old : List ℕ) (u j : ℕ) (l : List ℕ) : Type 0 where
-  pub slot : u ≤ t
+-- The records from j on are folded in, and the start's column holds what starts with them. Those from i on are stored; those before i may
+-- be followed by all that are folded in.
+pub record Passing (bs : List ℕ) (n t : ℕ) (terms : Terms) (z : ℕ) (old : List ℕ) (i j : ℕ) (l : List ℕ) : Type 0 where
+  pub ready : Completable bs n t terms z old
+  pub keeps : Keeps t terms
+  pub order : i ≤ j
   pub position : j ≤ records bs
-  pub taken : (i : ℕ) → j ≤ i → i < records bs → mayFollow (planOf bs n t terms) u (contactAt bs i .slot) ≡ true
-  pub column : (v : ℕ) → v < n → Fewest (Ahead (planOf bs n t terms) z j (appearance v u)) (getD l (v * (t + 1) + u) 0)
-  pub done : (v x : ℕ) → v < n → u < x → x < t + 1 → getD l (v * (t + 1) + x) 0 ≡ homeHops (planOf bs n t terms) z v x
+  pub turned : (x y : ℕ) → x < i → j ≤ y → y < records bs → contactAt bs x .slot + terms .turnaround ≤ contactAt bs y .slot
+  pub start : (v : ℕ) → v < n → Fewest (Ahead (planOf bs n t terms) z j (appearance v 0)) (getD l (v * (t + 1)) 0)
+  pub heard : (x : ℕ) → i ≤ x → x < records bs
+      → getD l (contactAt bs x .hearer * (t + 1) + contactAt bs x .slot) 0
+      ≡ homeHops (planOf bs n t terms) z (contactAt bs x .hearer) (contactAt bs x .slot)
   pub beyond : drop (n * (t + 1)) l ≡ drop (n * (t + 1)) old
   pub same : length l ≡ length old
 
--- Before the turn of slot k: no record that is left lies in a later slot, and the column is the last that slot k may follow.
-pub record Running (bs : List ℕ) (n t : ℕ) (terms : Terms) (z : ℕ) (old : List ℕ) (k j : ℕ) (l : List ℕ) : Type 0 where
-  pub ready : Completable bs n t terms z old
-  pub keeps : Keeps t terms
-  pub most : k ≤ t + waiting t terms
-  pub left : (i : ℕ) → i < j → contactAt bs i .slot ≤ k
-  pub passing : Passing bs n t terms z old (k - waiting t terms) j l
+-- the pass begins: in the start's column nothing but the empty walk is ahead
+pub passing-begun : (bs : List ℕ) (n t : ℕ) (terms : Terms) (z : ℕ) (old : List ℕ) → Completable bs n t terms z old → Keeps t terms
+    → (l : List ℕ) (m : ℕ)
+    → Begun n (t + 1) z old l
+    → m ≡ length bs / 6
+    → Passing bs n t terms z l m m l
+unfolding records
+passing-begun bs n t terms z old g keeps l m b count =
+    record {
+      ready = record {
+        accepted = g .accepted;
+        units = g .units;
+        destination = g .destination;
+        fits = let same = b .same in let room = g .fits in omega arith;
+      };
+      keeps = keeps;
+      order = omega arith;
+      position = omega arith;
+      turned = λ x y h k inside. absurd (omega arith);
+      start = λ v h. rw (b .start v h) (ahead-none (planOf bs n t terms) z v 0 m (let size = contacts-length bs n t terms in omega arith));
+      heard = λ x h inside. absurd (omega arith);
+      beyond = refl;
+      same = refl;
+    }
 
-module _ (bs : List ℕ) (n t : ℕ) (terms : Terms) (z : ℕ) (old : List ℕ) (g : Completable bs n t terms z old) where
+module _ (bs : List ℕ) (n t : ℕ) (terms : Terms) (z : ℕ) (old : List ℕ) (i j : ℕ) (l : List ℕ)
+    (s : Passing bs n t terms z old i j l) where
   abbrev p : Plan
   p = planOf bs n t terms
 
   abbrev c : ℕ → Contact
-  c i = contactAt bs i
+  c x = contactAt bs x
 
-  over-length : (k x : ℕ) → k ≤ length old → length (over (replicate k x) old) ≡ length old
-  unfolding over
-  over-length k x h = rw (length-append, length-drop, length-replicate) (omega arith)
+  within : (x : ℕ) → x < records bs → ContactWithin n t (c x)
+  within x h = accepted bs n t (s .ready .accepted) .contact x h
 
-  -- ---- the beginning
+  fits : n * (t + 1) ≤ length l
+  fits = let room = s .ready .fits in let same = s .same in omega arith
 
-  begun-entry : (v : ℕ) → v < n → getD (begunBack n (t + 1) t z old) (v * (t + 1) + t) 0 ≡ cond (eqb v z) 0 65535
-  unfolding begunBack over
-  begun-entry v inside = go (eqb v z) refl
-    where
-      filled : List ℕ
-      filled = over (replicate (n * (t + 1)) 65535) old
-
-      go : (b : Bool) → eqb v z ≡ b → getD (set filled (z * (t + 1) + t) 0) (v * (t + 1) + t) 0 ≡ cond b 0 65535
-      go true q =
-          rw (eqb-true v z q)
-          (getD-set-same filled (z * (t + 1) + t) 0 0
-          (rw (over-length (n * (t + 1)) 65535 (g .fits))
-          (place-below {v = z} {u = t} {n = n} {width = t + 1} (g .destination) (omega arith) (g .fits))))
-      go false q =
-          let place = digits-lt {q = v} {m = n} {r = t} {c = t + 1} inside (omega arith) in
-          getD-set-other filled (z * (t + 1) + t) (v * (t + 1) + t) 0 0
-          (station-apart v t z t (t + 1) (omega arith) (omega arith) (eqb-false v z q))
-          ∙ List·getD-append (replicate (n * (t + 1)) 65535) _ 0 (v * (t + 1) + t) (rw length-replicate place)
-          ∙ getD-replicate (n * (t + 1)) (v * (t + 1) + t) 65535 0 place
-
-  begun-length : length (begunBack n (t + 1) t z old) ≡ length old
-  unfolding begunBack
-  begun-length = rw length-set (over-length (n * (t + 1)) 65535 (g .fits))
-
-  begun-beyond : drop (n * (t + 1)) (begunBack n (t + 1) t z old) ≡ drop (n * (t + 1)) old
-  unfolding begunBack over
-  begun-beyond =
-      let size = length-replicate {A = ℕ} (n * (t + 1)) 65535 in
-      drop-set-lt (n * (t + 1)) _ (z * (t + 1) + t) 0 (digits-lt (g .destination) (omega arith))
-      ∙ drop-at (replicate (n * (t + 1)) 65535) _ (n * (t + 1)) size
-      ∙ ap (λ k. drop k old) size
-
-  -- in the last slot nothing but the empty walk is ahead
-  begun-state : Passing bs n t terms z (begunBack n (t + 1) t z old) t (records bs) (begunBack n (t + 1) t z old)
-  begun-state =
-      record {
-        slot = omega arith;
-        position = omega arith;
-        taken = λ i h k. absurd (omega arith);
-        column = λ v h. rw (begun-entry v h)
-            (ahead-none p z v t (records bs) (let m = contacts-length bs n t terms in omega arith));
-        done = λ v x h k m. absurd (omega arith);
-        beyond = refl;
-        same = refl;
-      }
-
-  -- (kept) the loop begins
-  pub running-begun : Keeps t terms → (l : List ℕ) (q k j : ℕ) → l ≡ begunBack n (t + 1) t z old → q ≡ waiting t terms → k ≡ t + q
-      → j ≡ length bs / 6
-      → Running bs n t terms z l k j l
-  unfolding records
-  running-begun keeps l q k j e wait last count =
-      let column : t ≡ k - waiting t terms = omega arith in
-      record {
-        ready = record {
-          accepted = g .accepted;
-          units = g .units;
-          destination = g .destination;
-          fits = let same = ap length e ∙ begun-length in let room = g .fits in omega arith;
-        };
-        keeps = keeps;
-        most = omega arith;
-        left = λ i h. let end = accepted bs n t (g .accepted) .contact i (omega arith) .to-last in omega arith;
-        passing = subst (λ x. Passing bs n t terms z l x j l) column (rw (e, count) begun-state);
-      }
-
-  -- ---- a turn
-
-  slots-fit : p .slots < 65535
-  unfolding planOf
-  slots-fit = let few = accepted bs n t (g .accepted) .slots in omega arith
+  -- slots do not fall
+  sorted : (x y : ℕ) → x ≤ y → y < records bs → c x .slot ≤ c y .slot
+  sorted x y h inside =
+      let up : x + (y - x) ≡ y = omega arith in
+      rw up at (slots-sorted bs n t terms (s .ready .accepted) x (y - x) (omega arith))
 
   -- what an appearance has to go is the fewest of all its walks
   home-fewest : (v u : ℕ) → u ≤ t → Fewest (λ w. endsIn p (appearance v u) (isAt z) w ≡ true) (homeHops p z v u)
   unfolding planOf
-  home-fewest v u h = fewest-home p z (slots-within bs n t terms (g .accepted)) slots-fit (appearance v u) h
+  home-fewest v u h =
+      let few = accepted bs n t (s .ready .accepted) .slots in
+      fewest-home p z (slots-within bs n t terms (s .ready .accepted)) (omega arith) (appearance v u) h
 
-  module _ (u j : ℕ) (l : List ℕ) (s : Passing bs n t terms z old u j l) where
-    -- a column is finished where no record that is left may follow its slot
-    finished : ((i : ℕ) → i < j → mayFollow p u (c i .slot) ≡ false) → (v : ℕ) → v < n
-        → getD l (v * (t + 1) + u) 0 ≡ homeHops p z v u
-    finished none v inside =
+  -- a record's entries lie within the list
+  pub passing-room : (x : ℕ) → x < j → RecordWithin bs (t + 1) x l
+  passing-room x h =
+      let position = s .position in
+      let whole = accepted bs n t (s .ready .accepted) .whole in
+      let k = within x (omega arith) in
+      let last = k .to-last in
+      record {
+        inside = omega arith;
+        sender-entry = start-below (k .sender-station) (omega arith) fits;
+        hearer-entry = place-below (k .hearer-station) (omega arith) fits;
+      }
+
+  -- there is a record to look at
+  pub passing-look : 0 < j → (i ≤ j) × (0 < j) × (j * 6 ≤ length bs)
+  passing-look more =
+      let position = s .position in
+      let whole = accepted bs n t (s .ready .accepted) .whole in
+      (s .order, more, omega arith)
+
+  -- ---- a record is stored
+
+  module _ (more : 0 < j) (due : isDue bs (terms .turnaround) i j ≡ true) where
+    -- there is one
+    pub passing-some : 0 < i
+    passing-some = due-inv bs (terms .turnaround) i j due .0
+
+    abbrev last : ℕ
+    last = i - 1
+
+    inside : last < records bs
+    inside = let order = s .order in let position = s .position in let before = passing-some in omega arith
+
+    near : c (j - 1) .slot < c last .slot + terms .turnaround
+    near =
+        let order = s .order in
+        let position = s .position in
+        let before = passing-some in
+        let rise = sorted last (j - 1) (omega arith) (omega arith) in
+        omega (arith, due-inv bs (terms .turnaround) i j due .1)
+
+    -- (kept) all that are folded in may follow it
+    follows : (x : ℕ) (d : Contact) → j ≤ x → getElem? (p .contacts) x ≡ some d → mayFollow p (c last .slot) (d .slot) ≡ true
+    unfolding planOf
+    follows x d h there =
+        let (known, same) = contact-inv bs n t terms x d there in
+        let before = passing-some in
+        let after = s .turned last x (omega arith) h known in
+        let end = within x known .to-last in
+        let one = within last inside .from-one in
+        let turns = s .ready .units .turns in
+        let keeps = s .keeps in
+        rw (← same)
+        (follows-intro p (c last .slot) (c x .slot) (omega arith) (inr (record { turned = omega arith; fresh = omega arith })))
+
+    -- and none that is left may
+    barred : (x : ℕ) (d : Contact) → x < j → getElem? (p .contacts) x ≡ some d → mayFollow p (c last .slot) (d .slot) ≡ false
+    unfolding planOf
+    barred x d h there =
+        let (known, same) = contact-inv bs n t terms x d there in
+        let position = s .position in
+        let rise = sorted x (j - 1) (omega arith) (omega arith) in
+        let one = within last inside .from-one in
+        let close = near in
+        rw (← same)
+        (not-true-false (mayFollow p (c last .slot) (c x .slot)) (λ f.
+        ⊎-elim
+        (λ (first : c last .slot ≡ 0). omega arith)
+        (λ (w : InTime p (c last .slot) (c x .slot)). let turned = w .turned in omega arith)
+        (follows-inv p (c last .slot) (c x .slot) f .1)))
+
+    -- (kept) so the hearer's first entry is what it has to go in the record's slot
+    finished : getD l (c last .hearer * (t + 1)) 0 ≡ homeHops p z (c last .hearer) (c last .slot)
+    finished =
         fewest-unique
-        (ahead-all p z (appearance v u) j _
-        (λ i d h e. ap (λ (c : Contact). mayFollow p u (c .slot)) (sym (contact-inv bs n t terms i d e .1)) ∙ none i h)
-        (s .column v inside))
-        (home-fewest v u (s .slot))
+        (ahead-all p z (appearance (c last .hearer) (c last .slot)) j _ barred
+        (ahead-heard p z (c last .hearer) (c last .slot) j follows (s .start (c last .hearer) (within last inside .hearer-station))))
+        (home-fewest (c last .hearer) (c last .slot) (within last inside .to-last))
 
-    fits-now : n * (t + 1) ≤ length l
-    fits-now = let room = g .fits in let same = s .same in omega arith
-
-    -- The record before j may follow slot u and is folded in.
-    passing-fold : (i : ℕ) → j ≡ suc i → mayFollow p u (c i .slot) ≡ true
-        → Passing bs n t terms z old u i (foldedBack (t + 1) u (c i) l)
-    passing-fold i e follows =
-        record {
-          slot = s .slot;
-          position = omega (arith, s .position);
-          taken = λ k h m. by-cases (ℕ-discrete k i)
-              (λ q. rw q follows)
-              (λ q. s .taken k (omega arith) m);
-          column = column-folded;
-          done = λ v x h k m.
-              folded-slot n (t + 1) u (c i) l column sender fits-now v x m (omega arith) ∙ s .done v x h k m;
-          beyond = folded-beyond n (t + 1) u (c i) l column sender fits-now ∙ s .beyond;
-          same = folded-length n (t + 1) u (c i) l column sender fits-now ∙ s .same;
-        }
-      where
-        inside : i < records bs
-        inside = let h = s .position in omega arith
-
-        column : u < t + 1
-        column = let h = s .slot in omega arith
-
-        later : u < c i .slot
-        later = follows-later p u (c i .slot) follows
-
-        last : c i .slot ≤ t
-        last = accepted bs n t (g .accepted) .contact i inside .to-last
-
-        sender : c i .sender < n
-        sender = accepted bs n t (g .accepted) .contact i inside .sender-station
-
-        hearer : c i .hearer < n
-        hearer = accepted bs n t (g .accepted) .contact i inside .hearer-station
-
-        before : (v : ℕ) → v < n → Fewest (Ahead p z (suc i) (appearance v u)) (getD l (v * (t + 1) + u) 0)
-        before v h = rw (← e) (s .column v h)
-
-        ahead : Fewest (λ r. endsIn p (appearance (c i .hearer) (c i .slot)) (isAt z) r ≡ true)
-            (getD l (c i .hearer * (t + 1) + c i .slot) 0)
-        ahead =
-            let end = last in
-            rw (s .done (c i .hearer) (c i .slot) hearer later (omega arith)) (home-fewest (c i .hearer) (c i .slot) last)
-
-        there : getElem? (p .contacts) i ≡ some (c i)
-        there = contact-there bs n t terms i inside
-
-        column-folded : (v : ℕ) → v < n
-            → Fewest (Ahead p z i (appearance v u)) (getD (foldedBack (t + 1) u (c i) l) (v * (t + 1) + u) 0)
-        column-folded v h = by-cases (ℕ-discrete v (c i .sender)) from-sender (λ other.
-            rw (folded-station n (t + 1) u (c i) l column sender fits-now v other)
-            (ahead-past p z v u i (c i) there (leads-none (c i) v other) (before v h)))
-          where
-            from-sender : v ≡ c i .sender
-                → Fewest (Ahead p z i (appearance v u)) (getD (foldedBack (t + 1) u (c i) l) (v * (t + 1) + u) 0)
-            from-sender q =
-                rw (q, folded-sender n (t + 1) u (c i) l column sender fits-now)
-                (ahead-fold p z (c i .sender) u i (c i) there follows (leads-from-sender (c i))
-                (before (c i .sender) sender) ahead)
-
-    -- (kept) column u is finished, and the one before it begins as its copy
-    passing-copy : Keeps t terms → (x : ℕ) → u ≡ suc x → ((i : ℕ) → i < j → mayFollow p u (c i .slot) ≡ false)
-        → Passing bs n t terms z old x j (copiedFrom (t + 1) x l 0 n)
-    passing-copy keeps x e none =
-        record {
-          slot = let h = s .slot in omega arith;
+    -- (kept) it is stored
+    pub passing-store : (out : List ℕ) → out ≡ storedBack (t + 1) (c last) l → Passing bs n t terms z old last j out
+    passing-store out e =
+        rw e (record {
+          ready = s .ready;
+          keeps = s .keeps;
+          order = let order = s .order in omega arith;
           position = s .position;
-          taken = λ i h k.
-              follows-earlier p kept u x (c i .slot) (omega arith)
-              (fits .within i (c i) (contact-there bs n t terms i k)) (s .taken i h k);
-          column = λ v h.
-              rw (copied-station n (t + 1) x next l 0 n v fits-now (omega arith) (omega arith) (omega arith))
-              (ahead-earlier p z kept fits v x j _ ahead (before v h));
-          done = λ v y h k m. copied-slot n (t + 1) x next l 0 n v y m (omega arith) ∙
-              by-cases (ℕ-discrete y u)
-              (λ q. rw q (finished none v h))
-              (λ q. s .done v y h (omega arith) m);
-          beyond = copied-beyond n (t + 1) x next l 0 n (omega arith) ∙ s .beyond;
-          same = copied-length n (t + 1) x next l 0 n ∙ s .same;
-        }
+          turned = λ x y h k m. s .turned x y (omega arith) k m;
+          start = λ v h. rw (stored-start n (t + 1) (c last) l later column sender hearer fits v) (s .start v h);
+          heard = stored;
+          beyond = stored-beyond n (t + 1) (c last) l later column sender hearer fits ∙ s .beyond;
+          same = stored-length n (t + 1) (c last) l later column sender hearer fits ∙ s .same;
+        })
       where
-        kept : Kept p
-        kept = kept-plan bs n t terms keeps
+        later : 0 < c last .slot
+        later = within last inside .from-one
 
-        fits : SlotsWithin p
-        fits = slots-within bs n t terms (g .accepted)
+        column : c last .slot < t + 1
+        column = let end = within last inside .to-last in omega arith
 
-        next : x + 1 < t + 1
-        next = let h = s .slot in omega arith
+        sender : c last .sender < n
+        sender = within last inside .sender-station
 
-        ahead : (i : ℕ) (d : Contact) → j ≤ i → getElem? (p .contacts) i ≡ some d → mayFollow p (suc x) (d .slot) ≡ true
-        ahead i d h there =
-            let (inside, same) = contact-inv bs n t terms i d there in
-            rw (← same, ← e) (s .taken i h inside)
+        hearer : c last .hearer < n
+        hearer = within last inside .hearer-station
 
-        before : (v : ℕ) → v < n → Fewest (Ahead p z j (appearance v (suc x))) (getD l (v * (t + 1) + (x + 1)) 0)
-        before v h =
-            let same : u ≡ x + 1 = omega arith in
-            subst (λ k. Fewest (Ahead p z j (appearance v (suc x))) (getD l (v * (t + 1) + k) 0)) same
-            (subst (λ k. Fewest (Ahead p z j (appearance v k)) (getD l (v * (t + 1) + u) 0)) e (s .column v h))
+        stored : (x : ℕ) → last ≤ x → x < records bs
+            → getD (storedBack (t + 1) (c last) l) (c x .hearer * (t + 1) + c x .slot) 0 ≡ homeHops p z (c x .hearer) (c x .slot)
+        stored x h known =
+            by-cases (ℕ-discrete (c x .hearer * (t + 1) + c x .slot) (c last .hearer * (t + 1) + c last .slot))
+            (λ e.
+            let end = within x known .to-last in
+            let (station, slot) = place-same (c x .hearer) (c x .slot) (c last .hearer) (c last .slot) (t + 1) (omega arith) column e in
+            ap (λ k. getD (storedBack (t + 1) (c last) l) k 0) e
+            ∙ stored-hearer n (t + 1) (c last) l later column sender hearer fits
+            ∙ finished
+            ∙ ap (λ k. homeHops p z k (c last .slot)) (sym station)
+            ∙ ap (λ k. homeHops p z (c x .hearer) k) (sym slot))
+            (λ other.
+            stored-other n (t + 1) (c last) l later column sender hearer fits _ other
+            ∙ s .heard x
+            (by-cases (ℕ-discrete x last)
+            (λ e. absurd (other (ap (λ k. c k .hearer * (t + 1) + c k .slot) e)))
+            (λ e. omega arith)) known)
 
-  -- (kept) a record may follow the start, and the slots that lie at least as many before its own as what is heard waits
-  waits : Keeps t terms → (x i : ℕ) → i < records bs → mayFollow p x (c i .slot) ≡ leb x (c i .slot - waiting t terms)
-  unfolding planOf
-  waits keeps x i inside =
-      let a = accepted bs n t (g .accepted) in
-      let k = a .contact i inside in
-      waits-turnaround p (kept-plan bs n t terms keeps) (a .some-slot) (g .units .turns) .follows x (c i .slot) (k .from-one) (k .to-last)
+  -- ---- a record is folded in
 
-  -- (kept) the records of slot k are folded in
-  passing-column : Keeps t terms → (u k : ℕ) → u ≤ k - waiting t terms → (j : ℕ) (l : List ℕ) → Passing bs n t terms z old u j l
-      → Passing bs n t terms z old u (leftBefore bs k j) (foldedColumn bs (t + 1) u k j l)
-  unfolding leftBefore foldedColumn
-  passing-column keeps u k near zero l s = s
-  passing-column keeps u k near (suc i) l s =
-      go (eqb (c i .slot) k) refl (λ there.
-      passing-column keeps u k near i (foldedBack (t + 1) u (c i) l) (passing-fold u (suc i) l s i refl
-      (waits keeps u i (let h = s .position in omega arith) ∙ le-leb u (c i .slot - waiting t terms) (omega arith))))
-    where
-      go : (b : Bool) → eqb (c i .slot) k ≡ b
-          → (c i .slot ≡ k
-          → Passing bs n t terms z old u (leftBefore bs k i) (foldedColumn bs (t + 1) u k i (foldedBack (t + 1) u (c i) l)))
-          → Passing bs n t terms z old u (cond b (leftBefore bs k i) (suc i))
-          (cond b (foldedColumn bs (t + 1) u k i (foldedBack (t + 1) u (c i) l)) l)
-      go true q more = more (eqb-true (c i .slot) k q)
-      go false q more = s
+  module _ (more : 0 < j) (past : isDue bs (terms .turnaround) i j ≡ false) where
+    abbrev next : ℕ
+    next = j - 1
 
-  -- the records that are left then lie in earlier slots
-  left-earlier : (k j : ℕ) → j ≤ records bs → ((i : ℕ) → i < j → c i .slot ≤ k)
-      → (i : ℕ) → i < leftBefore bs k j → c i .slot < k
-  unfolding leftBefore
-  left-earlier k zero inside most i h = absurd (omega arith)
-  left-earlier k (suc x) inside most i h =
-      go (eqb (c x .slot) k) refl h (λ less. left-earlier k x (omega arith) (λ m f. most m (omega arith)) i less)
-    where
-      go : (b : Bool) → eqb (c x .slot) k ≡ b → i < cond b (leftBefore bs k x) (suc x)
-          → (i < leftBefore bs k x → c i .slot < k)
-          → c i .slot < k
-      go true q less more = more less
-      go false q less more =
-          let other : c x .slot ≢ k = eqb-false (c x .slot) k q in
-          let last = most x (omega arith) in
-          let up : i + (x - i) ≡ x = omega arith in
-          let rise = rw up at (slots-sorted bs n t terms (g .accepted) i (x - i) (omega arith)) in
-          omega arith
+    known : next < records bs
+    known = let position = s .position in omega arith
 
-  -- with no slot and no record left the table is filled
-  passing-end : (l : List ℕ) → Passing bs n t terms z old 0 0 l → Completed bs n t terms z old l
-  passing-end l s =
-      record {
-        table = record {
-          fits = fits-now 0 0 l s;
-          entry = λ v u h k. by-cases (ℕ-discrete u 0)
-              (λ q. rw q (finished 0 0 l s (λ i f. absurd (omega arith)) v h))
-              (λ q. s .done v u h (omega arith) k);
-        };
-        beyond = s .beyond;
-        same = s .same;
-      }
+    -- it lies at least the turnaround after those that are not stored
+    after : (x : ℕ) → x < i → c x .slot + terms .turnaround ≤ c next .slot
+    after x h =
+        let order = s .order in
+        let position = s .position in
+        let rise = sorted x (i - 1) (omega arith) (omega arith) in
+        let turns = s .ready .units .turns in
+        omega (arith, due-not bs (terms .turnaround) i j past (omega arith))
 
-module _ (bs : List ℕ) (n t : ℕ) (terms : Terms) (z : ℕ) (old : List ℕ) (k j : ℕ) (l : List ℕ)
-    (s : Running bs n t terms z old k j l) where
-  -- the loop goes on: a turn is possible
-  pub running-ready : (q : ℕ) → q ≡ waiting t terms → TurnableBack bs n t q k j l
-  running-ready q wait =
-      let a = accepted bs n t (s .ready .accepted) in
-      let whole = a .whole in
-      let most = s .most in
-      let position = s .passing .position in
-      let room = fits-now bs n t terms z old (s .ready) (k - waiting t terms) j l (s .passing) in
-      record {
-        fits = room;
-        few = a .slots;
-        column = omega arith;
-        foldable = record {
-          position = omega arith;
-          entries = λ i h there.
-              let c = a .contact i (omega arith) in
-              let last = c .to-last in
-              record {
-                sender-entry = place-below (c .sender-station) (omega arith) room;
-                hearer-entry = place-below (c .hearer-station) (omega arith) room;
-              };
-        };
-      }
+    -- so it is stored itself
+    is-stored : i ≤ next
+    is-stored = by-cases (ℕ-discrete i j)
+        (λ e. absurd (let far = after next (omega arith) in let turns = s .ready .units .turns in omega arith))
+        (λ e. let order = s .order in omega arith)
 
-  -- (kept) it went on
-  pub running-turned : (q r : ℕ) (l′ : List ℕ) → q ≡ waiting t terms → 0 < k
-      → (r ≡ leftBefore bs k j) × (l′ ≡ turnedBack bs n t q k j l)
-      → Running bs n t terms z old (k - 1) r l′
-  unfolding turnedBack
-  running-turned q r l′ wait more (left, turned) =
-      rw left (record {
-        ready = s .ready;
-        keeps = s .keeps;
-        most = let h = s .most in omega arith;
-        left = λ i h. let less = earlier i h in omega arith;
-        passing = go (ltb 0 (k - waiting t terms)) refl (turned ∙ ap (λ x. turnedBack bs n t x k j l) wait);
-      })
-    where
-      u : ℕ
-      u = k - waiting t terms
+    -- it is folded in
+    pub passing-fold : (out : List ℕ) → out ≡ foldedBack (t + 1) (c next) l → Passing bs n t terms z old i next out
+    passing-fold out e =
+        rw e (record {
+          ready = s .ready;
+          keeps = s .keeps;
+          order = is-stored;
+          position = let position = s .position in omega arith;
+          turned = λ x y h k m. by-cases (ℕ-discrete y next)
+              (λ e. rw e (after x h))
+              (λ e. s .turned x y h (omega arith) m);
+          start = λ v h. by-cases (ℕ-discrete v (c next .sender)) from-sender (λ other.
+              rw (folded-station n (t + 1) (c next) l later column sender hearer fits v other)
+              (ahead-past p z v 0 next (c next) there (leads-none (c next) v other) (before v h)));
+          heard = λ x h m.
+              let k = within x m in
+              let end = k .to-last in
+              folded-slot n (t + 1) (c next) l later column sender hearer fits (c x .hearer) (c x .slot) (k .from-one) (omega arith)
+              ∙ s .heard x h m;
+          beyond = folded-beyond n (t + 1) (c next) l later column sender hearer fits ∙ s .beyond;
+          same = folded-length n (t + 1) (c next) l later column sender hearer fits ∙ s .same;
+        })
+      where
+        later : 0 < c next .slot
+        later = within next known .from-one
 
-      earlier : (i : ℕ) → i < leftBefore bs k j → contactAt bs i .slot < k
-      earlier = left-earlier bs n t terms z old (s .ready) k j (s .passing .position) (s .left)
+        column : c next .slot < t + 1
+        column = let end = within next known .to-last in omega arith
 
-      column : Passing bs n t terms z old u (leftBefore bs k j) (foldedColumn bs (t + 1) u k j l)
-      column = passing-column bs n t terms z old (s .ready) (s .keeps) u k (omega arith) j l (s .passing)
+        sender : c next .sender < n
+        sender = within next known .sender-station
 
-      none : 0 < u → (i : ℕ) → i < leftBefore bs k j → mayFollow (planOf bs n t terms) u (contactAt bs i .slot) ≡ false
-      none after i h =
-          let less = earlier i h in
-          let inside = column .position in
-          waits bs n t terms z old (s .ready) (s .keeps) u i (omega arith)
-          ∙ lt-leb u (contactAt bs i .slot - waiting t terms) (omega arith)
+        hearer : c next .hearer < n
+        hearer = within next known .hearer-station
 
-      go : (b : Bool) → ltb 0 u ≡ b → l′ ≡ turnedBack bs n t (waiting t terms) k j l
-          → Passing bs n t terms z old (k - 1 - waiting t terms) (leftBefore bs k j) l′
-      go true test e =
-          let after = ltb-true 0 u test in
-          let before : u - 1 ≡ k - 1 - waiting t terms = omega arith in
-          let new = rw test at e in
-          subst (λ x. Passing bs n t terms z old x (leftBefore bs k j) l′) before
-          (rw new
-          (passing-copy bs n t terms z old (s .ready) u (leftBefore bs k j) (foldedColumn bs (t + 1) u k j l) column (s .keeps) (u - 1)
-          (omega arith) (none after)))
-      go false test e =
-          let start = ltb-false 0 u test in
-          let same : u ≡ k - 1 - waiting t terms = omega arith in
-          let new = rw test at e in
-          subst (λ x. Passing bs n t terms z old x (leftBefore bs k j) l′) same (rw new column)
+        there : getElem? (p .contacts) next ≡ some (c next)
+        there = contact-there bs n t terms next known
 
--- it ends
-pub running-end : (bs : List ℕ) (n t : ℕ) (terms : Terms) (z : ℕ) (old : List ℕ) → Completable bs n t terms z old
-    → (first l : List ℕ) (k j : ℕ)
-    → first ≡ begunBack n (t + 1) t z old
-    → Running bs n t terms z first k j l
-    → k ≤ 0
+        before : (v : ℕ) → v < n → Fewest (Ahead p z (suc next) (appearance v 0)) (getD l (v * (t + 1)) 0)
+        before v h = let up : suc next ≡ j = omega arith in rw up (s .start v h)
+
+        ahead : Fewest (λ r. endsIn p (appearance (c next .hearer) (c next .slot)) (isAt z) r ≡ true)
+            (getD l (c next .hearer * (t + 1) + c next .slot) 0)
+        ahead = rw (s .heard next is-stored known) (home-fewest (c next .hearer) (c next .slot) (within next known .to-last))
+
+        from-sender : {v : ℕ} → v ≡ c next .sender
+            → Fewest (Ahead p z next (appearance v 0)) (getD (foldedBack (t + 1) (c next) l) (v * (t + 1)) 0)
+        from-sender q =
+            rw (q, folded-sender n (t + 1) (c next) l later column sender hearer fits)
+            (ahead-fold p z (c next .sender) 0 next (c next) there (follows-start p (c next .slot) later) (leads-from-sender (c next))
+            (before (c next .sender) sender) ahead)
+
+-- with no record left the table is filled
+pub passing-end : (bs : List ℕ) (n t : ℕ) (terms : Terms) (z : ℕ) (old first : List ℕ) → Begun n (t + 1) z old first
+    → (i j : ℕ) (l : List ℕ)
+    → Passing bs n t terms z first i j l
+    → j ≤ 0
     → Completed bs n t terms z old l
-running-end bs n t terms z old g first l k j e s none =
-    let last : k - waiting t terms ≡ 0 = omega arith in
-    let all : j ≡ 0 = by-cases (ℕ-discrete j 0) (λ h. h) (λ h.
-    let inside = s .passing .position in
-    let low = s .left 0 (omega arith) in
-    let one = accepted bs n t (g .accepted) .contact 0 (omega arith) .from-one in
-    absurd (omega arith)) in
-    let state : Passing bs n t terms z first 0 0 l =
-    subst (λ x. Passing bs n t terms z first x 0 l) last
-    (subst (λ x. Passing bs n t terms z first (k - waiting t terms) x l) all (s .passing)) in
-    let end = passing-end bs n t terms z first (s .ready) l state in
+passing-end bs n t terms z old first b i j l s none =
     record {
-      table = end .table;
-      beyond = end .beyond ∙ ap (drop (n * (t + 1))) e ∙ begun-beyond bs n t terms z old g;
-      same = end .same ∙ ap length e ∙ begun-length bs n t terms z old g;
+      table = record {
+        fits = fits bs n t terms z first i j l s;
+        start = λ v h. fewest-unique
+            (ahead-all (planOf bs n t terms) z (appearance v 0) j _ (λ x d less at. absurd (omega arith)) (s .start v h))
+            (home-fewest bs n t terms z first i j l s v 0 (omega arith));
+        heard = λ x h. s .heard x (let order = s .order in omega arith) h;
+      };
+      beyond = s .beyond ∙ b .beyond;
+      same = s .same ∙ b .same;
     }

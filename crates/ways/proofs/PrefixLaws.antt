@@ -8,19 +8,19 @@ use mathlib.Core.List.{List, [], _∷_, _++_, List·Memᴰ, append-nil, append-a
 use mathlib.Core.Logic.{⊎-elim, by-cases, _↔_}
 use mathlib.Core.Option.{Option, none, some, Option·map, bind, map-eq-some-iff, bind-eq-some-iff}
 use native.Mathlib.Omega.{arith}
-use native.Mathlib.Decide.{decLe}
+use native.Mathlib.Decide.{decLe, ℕ-discrete}
 use borrow.Author.Tests.{eqb-true, eqb-false, eq-eqb, ne-eqb}
 use lib.Dec.{eqb}
 use lib.ListN.{length, length-append}
 use Rattle.temporal.specs.Lists.{tuples}
-use Rattle.temporal.specs.Plan.{Contact, Plan, Terms, Appearance, start}
+use Rattle.temporal.specs.Plan.{Contact, Plan, Terms, Appearance, start, leadsTo}
 use Rattle.temporal.specs.Walk.{step, run, lastOr, holds, endsIn, isAt, isWalkTo}
 use Rattle.temporal.specs.Shortest.{ofHops, shortestWalksTo, hops}
-use Rattle.temporal.specs.Bytes.{contactAt, planOf}
+use Rattle.temporal.specs.Bytes.{contactAt, records, planOf}
 use Rattle.temporal.specs.Cause.{planFault}
 use Rattle.temporal.proofs.ListLaws.{not-both, select-ext, mem-tuples}
 use Rattle.temporal.proofs.OptionLaws.{holds-inv}
-use Rattle.temporal.proofs.RuleLaws.{leads-below, follows-later}
+use Rattle.temporal.proofs.RuleLaws.{leads-below, leads-comes, comes-none, follows-later}
 use Rattle.temporal.proofs.ShortestLaws.{Bounded, hops-bound, mem-ofHops-bounded, hops-empty}
 use Rattle.temporal.proofs.WalkLaws.{step-inv, run-append, run-join, last-append, run-within, run-positions}
 use Rattle.temporal.proofs.WalkLaws.{ends-inv, ends-intro, ends-nil, ends-step, ends-after}
@@ -28,7 +28,7 @@ use Rattle.temporal.proofs.Accepted.{accepted}
 use Rattle.temporal.proofs.PlanLaws.{contact-inv, contact-within, slots-within, slots-sorted}
 use Rattle.temporal.proofs.Adequacy.{bounded-ends, walk-ends-within}
 use Rattle.counting.proofs.Fewest.{shortest-ofHops}
-use Rattle.ways.specs.Home.{homeFrom}
+use Rattle.ways.specs.Home.{appearance, homeFrom}
 use Rattle.ways.specs.Prefix.{endAfter, completes}
 use Rattle.ways.proofs.FewestLaws.{Fewest}
 use Rattle.ways.proofs.AheadLaws.{fewest-home}
@@ -94,6 +94,14 @@ shifted k m h fits = go (eqb m (h - (k + 1))) refl
         let n : m ≡ h - (k + 1) → ⊥ = eqb-false m (h - (k + 1)) q in
         sym (ne-eqb (suc k + m) h (λ e. n (omega arith)))
 
+-- a contact leads to no station but its hearer
+leads-to-hearer : (c : Contact) (v w : ℕ) → leadsTo c v ≡ some w → w ≡ c .hearer
+leads-to-hearer c v w e =
+    by-cases (ℕ-discrete w (c .hearer)) (λ same. same) (λ other.
+    let comes = leads-comes c v w .0 e in
+    let nowhere = comes-none c w other in
+    absurd (let z : _≡_ {A = ℕ} 0 1 = cc in omega arith))
+
 -- ---- in an accepted plan
 
 module _ (bs : List ℕ) (n t : ℕ) (terms : Terms) (ok : planFault bs n t ≡ 0) where
@@ -108,6 +116,16 @@ module _ (bs : List ℕ) (n t : ℕ) (terms : Terms) (ok : planFault bs n t ≡ 
       let last = c .to-last in
       let same = s .same-slot in
       (leads-below (s .contact) (x .station) (y .station) n (c .hearer-station) (s .leads), omega arith)
+
+  -- a step over a record leads to its hearer in its slot
+  pub step-heard : (x : Appearance) (i : ℕ) {y : Appearance} → step p x i ≡ some y
+      → (i < records bs) × (y ≡ appearance (contactAt bs i .hearer) (contactAt bs i .slot))
+  step-heard x i {y} e =
+      let s = step-inv p x i e in
+      let (inside, same) = contact-inv bs n t terms i (s .contact) (s .at-position) in
+      let station = leads-to-hearer (s .contact) (x .station) (y .station) (s .leads) ∙ ap (λ (c : Contact). c .hearer) (sym same) in
+      let slot = s .same-slot ∙ ap (λ (c : Contact). c .slot) (sym same) in
+      (inside, ap (λ k. appearance k (y .slot)) station ∙ ap (λ k. appearance (contactAt bs i .hearer) k) slot)
 
   -- positions from a station's start end in a slot of the plan
   end-slot : (s : ℕ) (w : List ℕ) {x : Appearance} → s < n → endAfter p (start s) w ≡ some x → x .slot ≤ t

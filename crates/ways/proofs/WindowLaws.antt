@@ -532,7 +532,20 @@ pub windowing-end : (bs : List ℕ) (n t : ℕ) (terms : Terms) (z : ℕ) (old :
     → Completed bs n t terms z old l
 windowing-end bs n t terms z old g first j l e s none =
     record {
-      table = record { fits = s .ready .fits; entry = finished bs n t terms z first j l s none };
+      table = record {
+        fits = s .ready .fits;
+        start = λ v h. ap (λ k. getD l k 0) (first-place v (t + 1)) ∙ entry v 0 h (omega arith);
+        heard = λ i h.
+            let c = accepted bs n t (g .accepted) .contact i h in
+            let last = c .to-last in
+            entry (contactAt bs i .hearer) (contactAt bs i .slot) (c .hearer-station) (omega arith);
+      };
       beyond = s .beyond ∙ ap (drop (n * (t + 1))) e ∙ begun-beyond bs n t terms z old g;
       same = s .same ∙ ap length e ∙ begun-length bs n t terms z old g;
     }
+  where
+    entry : (v u : ℕ) → v < n → u < t + 1 → getD l (v * (t + 1) + u) 0 ≡ homeHops (planOf bs n t terms) z v u
+    entry = finished bs n t terms z first j l s none
+
+    first-place : (v width : ℕ) → v * width ≡ v * width + 0
+    first-place v width = omega arith

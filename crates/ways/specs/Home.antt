@@ -1,4 +1,4 @@
--- The completion table: for each appearance the fewest hops of a walk from it to a destination. Definitions only.
+-- The completion table: for the appearances that walks come to the fewest hops from there to a destination. Definitions only.
 -- Assumes nothing.
 use Prim.Native.Nat.{ℕ, _+_, _*_, _<_, _≤_}
 use mathlib.Core.Path.{_≡_}
@@ -7,7 +7,7 @@ use lib.ListN.{length, getD, drop}
 use Rattle.temporal.specs.Plan.{Plan, Terms, Appearance, Allowed}
 use Rattle.temporal.specs.Walk.{endsIn, isAt}
 use Rattle.temporal.specs.Shortest.{shortest, hops}
-use Rattle.temporal.specs.Bytes.{planOf}
+use Rattle.temporal.specs.Bytes.{contactAt, records, planOf}
 use Rattle.temporal.specs.Cause.{planFault}
 
 -- the appearance of station v in slot u
@@ -22,10 +22,14 @@ homeFrom p z x = hops (shortest p (endsIn p x (isAt z)))
 abbrev pub homeHops : Plan → ℕ → ℕ → ℕ → ℕ
 homeHops p z v u = homeFrom p z (appearance v u)
 
--- a table whose entry at place v (T + 1) + u is what the appearance (v, u) has to go
+-- A table whose entry at place v (T + 1) + u is what the appearance (v, u) has to go, for the appearances that walks come to: every
+-- station's start, and every record's hearer in the record's slot. Nothing is said of other entries.
 pub record Table (bs : List ℕ) (n t : ℕ) (terms : Terms) (z : ℕ) (l : List ℕ) : Type 0 where
   pub fits : n * (t + 1) ≤ length l
-  pub entry : (v u : ℕ) → v < n → u < t + 1 → getD l (v * (t + 1) + u) 0 ≡ homeHops (planOf bs n t terms) z v u
+  pub start : (v : ℕ) → v < n → getD l (v * (t + 1)) 0 ≡ homeHops (planOf bs n t terms) z v 0
+  pub heard : (i : ℕ) → i < records bs
+      → getD l (contactAt bs i .hearer * (t + 1) + contactAt bs i .slot) 0
+      ≡ homeHops (planOf bs n t terms) z (contactAt bs i .hearer) (contactAt bs i .slot)
 
 -- what filling the table asks: an accepted plan, allowed terms, a destination in the plan, and room
 pub record Completable (bs : List ℕ) (n t : ℕ) (terms : Terms) (z : ℕ) (l : List ℕ) : Type 0 where

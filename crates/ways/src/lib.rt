@@ -2,26 +2,14 @@
 // with one, and the one after it. None of these is an operation: a caller has excluded every cause of refusal before.
 ghost use mathlib.Core.Path.{_≡_};
 ghost use mathlib.Core.List.{[]};
-ghost use Prim.Native.Nat.{ℕ, _+_, _-_, _*_, _<_, _≤_, min};
-ghost use lib.ListN.{length, getD, set, take};
+ghost use Prim.Native.Nat.{ℕ, _+_, _-_, _*_, _<_, _≤_};
+ghost use lib.ListN.{length, getD, take};
 ghost use Rattle.temporal.specs.Plan.{Plan, units, Keeps, start, mayFollow};
 ghost use Rattle.temporal.specs.Walk.{step};
 ghost use Rattle.temporal.specs.Bytes.{contactAt, records, planOf};
 ghost use Rattle.temporal.specs.Outcome.{over};
 ghost use Rattle.ways.specs.Home.{Completable, Completed};
-ghost use Rattle.ways.specs.Column.{
-  lowered,
-  foldedBack,
-  copiedFrom,
-  begunBack,
-  lastInSlot,
-  leftBefore,
-  foldedColumn,
-  turnedBack,
-  FoldableBack,
-  FoldableColumn,
-  TurnableBack,
-};
+ghost use Rattle.ways.specs.Column.{lowered, foldedBack, storedBack, isDue, Begun, RecordWithin};
 ghost use Rattle.ways.specs.Window.{loweredRun, foldedWindow, begunWindow, FoldableWindow};
 ghost use Rattle.ways.specs.Prefix.{endAfter, Advanced};
 ghost use Rattle.ways.specs.Found.{
@@ -87,82 +75,41 @@ fn lower(work: &mut [u64], at: usize, from: usize)
     }
 }
 
-// Folds the record at j, of slot k, into column u: its sender's entry is lowered by its hearer's of column k.
-fn fold_back(work: &mut [u64], plan: &[u8], width: usize, u: usize, k: usize, j: usize)
-    requires { ⌜ FoldableBack (now plan) width u k j (now work) ⌝ }
-    ensures { λ _. ⌜ now (work .exit) ≡ foldedBack width u (contactAt (now (plan .entry)) j) (now (work .entry)) ⌝ }
+// Folds the record at j into the start's column: its sender's entry is lowered by its hearer's of the record's slot.
+fn fold_back(work: &mut [u64], plan: &[u8], width: usize, j: usize)
+    requires { ⌜ RecordWithin (now plan) width j (now work) ⌝ }
+    ensures { λ _. ⌜ now (work .exit) ≡ foldedBack width (contactAt (now (plan .entry)) j) (now (work .entry)) ⌝ }
 {
     let c = plan::contact_at(plan, j);
-    let at = c.sender * width + u;
-    let from = c.hearer * width + k;
+    let at = c.sender * width;
+    let from = c.hearer * width + c.slot;
     lower(work, at, from);
 }
 
-// Copies the entry after a place to it.
-fn copy_entry(work: &mut [u64], at: usize)
-    requires { ⌜ at + 1 < length (now work) ⌝ }
-    ensures { λ _. ⌜ now (work .exit) ≡ set (now (work .entry)) at (getD (now (work .entry)) (at + 1) 0) ⌝ }
+// Stores what the hearer of the record at j has to go: its entry of the record's slot becomes that of the start's column.
+fn store_back(work: &mut [u64], plan: &[u8], width: usize, j: usize)
+    requires { ⌜ RecordWithin (now plan) width j (now work) ⌝ }
+    ensures { λ _. ⌜ now (work .exit) ≡ storedBack width (contactAt (now (plan .entry)) j) (now (work .entry)) ⌝ }
 {
-    work[at] = work[at + 1];
+    let c = plan::contact_at(plan, j);
+    let from = c.hearer * width;
+    let at = c.hearer * width + c.slot;
+    work[at] = work[from];
 }
 
-// Copies the column after u to column u.
-fn copy_column(work: &mut [u64], n: usize, width: usize, u: usize)
-    requires { ⌜ (n * width ≤ length (now work)) × (u + 1 < width) ⌝ }
-    ensures { λ _. ⌜ now (work .exit) ≡ copiedFrom width u (now (work .entry)) 0 n ⌝ }
+// Clears the start's column, and puts the empty walk of the destination into it.
+fn begin_back(work: &mut [u64], n: usize, width: usize, z: usize)
+    requires { ⌜ (n * width ≤ length (now work)) × (0 < width) × (z < n) ⌝ }
+    ensures { λ _. ⌜ Begun n width z (now (work .entry)) (now (work .exit)) ⌝ }
 {
     let mut v = 0;
     while v < n {
-        copy_entry(work, v * width + u);
+        let at = v * width;
+        work[at] = 65535;
         v += 1;
     }
-}
-
-// Clears the table, and puts the empty walk of the destination into the last slot.
-fn begin_back(work: &mut [u64], n: usize, width: usize, t: usize, z: usize)
-    requires { ⌜ (n * width ≤ length (now work)) × (t < width) × (z < n) ⌝ }
-    ensures { λ _. ⌜ now (work .exit) ≡ begunBack n width t z (now (work .entry)) ⌝ }
-{
-    memory::fill64(work, n * width, 65535);
-    let home = z * width + t;
+    let home = z * width;
     work[home] = 0;
-}
-
-// Whether there is a record before position j and the last of them lies in slot k.
-fn last_in_slot(plan: &[u8], j: usize, k: usize) -> bool
-    requires { ⌜ j * 6 ≤ length (now plan) ⌝ }
-    ensures { λ r. ⌜ r ≡ lastInSlot (now (plan .entry)) j k ⌝ }
-{
-    if 0 < j {
-        let c = plan::contact_at(plan, j - 1);
-        c.slot == k
-    } else {
-        false
-    }
-}
-
-// Folds the last records before position j into column u, as long as they lie in slot k. How many are left before them.
-fn fold_column(work: &mut [u64], plan: &[u8], width: usize, u: usize, k: usize, j: usize) -> usize
-    requires { ⌜ FoldableColumn (now plan) width u k j (now work) ⌝ }
-    ensures { λ r. ⌜ (r ≡ leftBefore (now (plan .entry)) k j) ×
-        (now (work .exit) ≡ foldedColumn (now (plan .entry)) width u k j (now (work .entry))) ⌝ }
-{
-    let mut i = j;
-    while last_in_slot(plan, i, k) {
-        i -= 1;
-        fold_back(work, plan, width, u, k, i);
-    }
-    i
-}
-
-// The smaller of two numbers.
-fn least(a: usize, b: usize) -> usize
-    ensures { λ r. ⌜ r ≡ min a b ⌝ }
-{
-    if a < b {
-        return a;
-    }
-    b
 }
 
 // What one number is more than another; 0 where it is not.
@@ -175,44 +122,39 @@ fn above(a: usize, b: usize) -> usize
     a - b
 }
 
-// One turn of the pass: folds the records of slot k into the last column that they may follow, q slots before, and goes on to the
-// column before it. How many records are left.
-fn turn_back(
-    work: &mut [u64],
-    plan: &[u8],
-    n: usize,
-    t: usize,
-    q: usize,
-    k: usize,
-    j: usize,
-) -> usize
-    requires { ⌜ TurnableBack (now plan) n t q k j (now work) ⌝ }
-    ensures { λ r. ⌜ (r ≡ leftBefore (now (plan .entry)) k j) ×
-        (now (work .exit) ≡ turnedBack (now (plan .entry)) n t q k j (now (work .entry))) ⌝ }
+// Whether the record before position i is due to be stored: there is one, and that before position j lies too few slots after it to
+// follow it.
+fn is_due(plan: &[u8], g: usize, i: usize, j: usize) -> bool
+    requires { ⌜ (i ≤ j) × (0 < j) × (j * 6 ≤ length (now plan)) ⌝ }
+    ensures { λ r. ⌜ r ≡ isDue (now (plan .entry)) g i j ⌝ }
 {
-    let width = t + 1;
-    let u = above(k, q);
-    let left = fold_column(work, plan, width, u, k, j);
-    if 0 < u {
-        copy_column(work, n, width, u - 1);
-        return left;
+    if 0 < i {
+        let c = plan::contact_at(plan, i - 1);
+        let d = plan::contact_at(plan, j - 1);
+        above(d.slot, c.slot) < g
+    } else {
+        false
     }
-    left
 }
 
-// Fills the completion table of destination z where nothing goes stale: one pass back over the slots and the records. What is heard
-// waits q slots.
+// Fills the completion table of destination z where nothing goes stale: one pass back over the records. The start's column holds what
+// starts with the records from j on; those from i on are stored, each before any is folded in that may not follow it.
 fn complete_lasting(work: &mut [u64], plan: &[u8], n: usize, t: usize, g: usize, h: usize, z: usize)
     requires { ⌜ Completable (now plan) n t (units g h) z (now work) × Keeps t (units g h) ⌝ }
     ensures { λ _. ⌜ Completed (now (plan .entry)) n t (units g h) z (now (work .entry)) (now (work .exit)) ⌝ }
 {
-    begin_back(work, n, t + 1, t, z);
-    let q = least(g, t);
-    let mut k = t + q;
-    let mut j = plan.len() / 6;
-    while 0 < k {
-        j = turn_back(work, plan, n, t, q, k, j);
-        k -= 1;
+    let width = t + 1;
+    begin_back(work, n, width, z);
+    let mut i = plan.len() / 6;
+    let mut j = i;
+    while 0 < j {
+        if is_due(plan, g, i, j) {
+            i -= 1;
+            store_back(work, plan, width, i);
+            continue;
+        }
+        j -= 1;
+        fold_back(work, plan, width, j);
     }
 }
 

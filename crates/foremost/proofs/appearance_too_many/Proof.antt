@@ -1,6 +1,7 @@
 -- `foremost::appearance_too_many` meets its contract.
 -- Assumes nothing.
-use Rattle.pass.specs.Column.{columnOf}
+use native.Mathlib.Omega.{arith}
+use Rattle.pass.specs.Column.{columnOf, splitOf}
 use Rattle.forward.proofs.UseLaws.{columns-whole}
 use Rattle.foremost.proofs.WorkLaws.{appearances-pass, appearances-met}
 use borrow.Author.Needs.{needs}
@@ -17,7 +18,8 @@ part-pass-columns-end : tie.Need-part-pass-columns-end
 part-pass-columns-end c = search needs
 
 pass-columns-requires : tie.Need-pass-columns-requires
-pass-columns-requires c κs = appearances-pass _ _ _ _ _ _ (c .before .before .before .before .pre)
+unfolding splitOf
+pass-columns-requires c κs = (appearances-pass _ _ _ _ _ _ (c .before .before .before .before .pre), omega arith)
 
 met-appearance-requires : tie.Need-met-appearance-requires
 met-appearance-requires c κs = search needs
@@ -26,8 +28,10 @@ same-length : tie.Need-same-length
 same-length c = search needs
 
 returns : tie.Need-returns
-unfolding columnOf
-returns c = appearances-met _ _ _ _ _ _ (c .before .before .before .before .before .before .before .before .pre) _ _ _ (columns-whole _ _ _ _ _ _ _ _ _ _ _ _ (c .before .before .before .pass-columns .ensures)) (c .met-appearance .ensures)
+unfolding columnOf splitOf
+returns c =
+    appearances-met _ _ _ _ _ _ (c .before .before .before .before .before .before .before .before .pre) _ _ _
+    (columns-whole _ _ _ _ _ _ _ _ _ _ _ _ (c .before .before .before .pass-columns .ensures)) (c .met-appearance .ensures)
 
 pub appearance-too-many-spec : {M : Type 1} → statement M
 appearance-too-many-spec =

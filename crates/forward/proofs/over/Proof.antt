@@ -26,5 +26,12 @@ returns-3 : tie.Need-returns-3
 unfolding overOf
 returns-3 c = search needs
 
+enum-told-4 : tie.Need-enum-told-4
+enum-told-4 c = search needs
+
+returns-4 : tie.Need-returns-4
+unfolding overOf
+returns-4 c = search needs
+
 pub over-spec : {M : Type 1} → statement M
-over-spec = tie.close (tie.spec enum-told returns enum-told-2 returns-2 enum-told-3 returns-3)
+over-spec = tie.close (tie.spec enum-told returns enum-told-2 returns-2 enum-told-3 returns-3 enum-told-4 returns-4)

@@ -1,6 +1,7 @@
 -- `forward::pass_until` meets its contract: the pass with a column for each station of the block.
 -- Assumes nothing.
-use Rattle.pass.specs.Column.{columnOf}
+use native.Mathlib.Omega.{arith}
+use Rattle.pass.specs.Column.{columnOf, splitOf}
 use Rattle.forward.proofs.UseLaws.{until-whole, columns-whole}
 use borrow.Author.Needs.{needs}
 use Rattle.forward.proofs.pass_until.Statement.{statement}
@@ -16,13 +17,15 @@ part-pass-slots-end : tie.Need-part-pass-slots-end
 part-pass-slots-end c = search needs
 
 pass-slots-requires : tie.Need-pass-slots-requires
-pass-slots-requires c κs = until-whole _ _ _ _ _ _ _ _ _ (c .before .before .before .before .pre)
+unfolding splitOf
+pass-slots-requires c κs =
+    (until-whole _ _ _ _ _ _ _ _ _ (c .before .before .before .before .pre), omega arith)
 
 same-length : tie.Need-same-length
 same-length c = search needs
 
 returns : tie.Need-returns
-unfolding columnOf
+unfolding columnOf splitOf
 returns c = columns-whole _ _ _ _ _ _ _ _ _ _ _ _ (c .before .before .pass-slots .ensures)
 
 pub pass-until-spec : {M : Type 1} → statement M

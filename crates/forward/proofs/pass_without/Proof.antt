@@ -1,7 +1,8 @@
 -- `forward::pass_without` meets its contract: the pass for a block that waits for no station.
 -- Assumes nothing.
-use Rattle.pass.specs.Column.{columnOf}
-use Rattle.forward.proofs.UseLaws.{block-passed, block-ready}
+use native.Mathlib.Omega.{arith}
+use Rattle.pass.specs.Column.{columnOf, splitOf}
+use Rattle.forward.proofs.UseLaws.{block-passed, block-ready, columns-one}
 use borrow.Author.Needs.{needs}
 use Rattle.forward.proofs.pass_without.Statement.{statement}
 use Rattle.forward.proofs.pass_without.Tie as tie
@@ -16,7 +17,9 @@ part-pass-slots-end : tie.Need-part-pass-slots-end
 part-pass-slots-end c = search needs
 
 pass-slots-requires : tie.Need-pass-slots-requires
-pass-slots-requires c κs = block-ready _ _ _ _ _ _ _ _ _ (c .before .before .before .before .pre)
+unfolding splitOf
+pass-slots-requires c κs =
+    (block-ready _ _ _ _ _ _ _ _ _ (c .before .before .before .before .pre), omega arith)
 
 over-requires : tie.Need-over-requires
 over-requires c κs = search needs
@@ -25,8 +28,10 @@ same-length : tie.Need-same-length
 same-length c = search needs
 
 returns : tie.Need-returns
-unfolding columnOf
-returns c = block-passed _ _ _ _ _ _ _ _ _ _ _ _ (c .before .before .before .before .before .before .before .before .pre) (c .before .before .before .pass-slots .ensures) (c .over .ensures)
+unfolding columnOf splitOf
+returns c =
+    block-passed _ _ _ _ _ _ _ _ _ _ _ _ (c .before .before .before .before .before .before .before .before .pre)
+    (columns-one _ _ _ _ _ _ _ _ _ _ _ _ (c .before .before .before .pass-slots .ensures)) (c .over .ensures)
 
 pub pass-without-spec : {M : Type 1} → statement M
 pass-without-spec =

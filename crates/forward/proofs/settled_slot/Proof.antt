@@ -26,6 +26,13 @@ returns-3 : tie.Need-returns-3
 unfolding slotOf
 returns-3 c = search needs
 
+enum-told-3 : tie.Need-enum-told-3
+enum-told-3 c = search needs
+
+returns-4 : tie.Need-returns-4
+unfolding slotOf
+returns-4 c = search needs
+
 pub settled-slot-spec : {M : Type 1} → statement M
 settled-slot-spec =
-    tie.close (tie.spec enum-known-ended returns enum-told returns-2 enum-told-2 returns-3)
+    tie.close (tie.spec enum-known-ended returns enum-told returns-2 enum-told-2 returns-3 enum-told-3 returns-4)

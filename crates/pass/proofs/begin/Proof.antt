@@ -49,7 +49,7 @@ same-length : tie.Need-same-length
 same-length c = c .before .before .fill-part .kept .0 ∙ set-twice-length (c .before .before .before .before .before .before .before .empty-parts .last .0) _ _ _ _ ∙ c .before .before .before .before .before .before .before .empty-parts .kept .0
 
 returns : tie.Need-returns
-returns c = begun-by _ _ _ _ _ _ _ _ (c .before .before .before .before .before .before .before .empty-parts .ensures) (c .before .before .before .before .row-at .ensures) (c .before .before .fill-part .ensures)
+returns c = begun-by _ _ _ _ _ _ _ _ _ (c .before .before .before .before .before .before .before .empty-parts .ensures) (c .before .before .before .before .row-at .ensures) (c .before .before .fill-part .ensures)
 
 pub begin-spec : {M : Type 1} → statement M
 begin-spec =

@@ -1,108 +1,227 @@
 -- `pass::pass_columns` meets its contract. The loop's invariant: in slot u, at position j, the work area holds the walks from the
--- source by the slot q before, and the station until is not reached by it (Passing). The measure is the number of slots and of records
--- left.
+-- source by the slot q before, the records from i on are past that slot, and the station until is not reached by it (Passing). The
+-- measure is the number of slots and of records left.
 -- Assumes nothing.
-use Prim.Native.Nat.{_+_, _-_}
+use Prim.Native.Nat.{_+_, _-_, _*_, _^_}
 use native.Mathlib.Omega.{arith}
-use mathlib.Core.Path.{sym, _∙_}
+use mathlib.Core.Path.{refl, sym, _∙_}
 use Rattle.temporal.specs.Plan.{units}
 use Rattle.temporal.specs.Bytes.{records}
 use Rattle.temporal.specs.Struck.{lackingRecord}
 use Rattle.temporal.proofs.Accepted.{accepted}
 use Rattle.plan.proofs.SlotLaws.{in-slot-inv}
-use Rattle.pass.specs.Column.{columnOf}
-use Rattle.pass.proofs.PlaceLaws.{parts-few, first-part}
-use Rattle.pass.proofs.PassLaws.{ready-begun, passing-begun, passed-entry, passed-end, Passing, ready-area, passing-area}
-use Rattle.pass.proofs.PassLaws.{passing-length, passing-foldable, passing-fold, passing-on, settle-part, next-area, next-length}
-use Rattle.pass.proofs.PassLaws.{passed-over, passing-settle, passed-reached}
+use Rattle.pass.specs.Column.{columnOf, lanesBy, splitOf}
+use Rattle.pass.proofs.PlaceLaws.{first-part}
+use Rattle.pass.proofs.WidthLaws.{filled-by}
+use Rattle.pass.proofs.PassLaws.{Passing, ready-area, passing-begun, passing-area, passing-trail, passing-foldable, passing-fold}
+use Rattle.pass.proofs.PassLaws.{passing-on, settle-part, settle-hearers, next-area, next-length, passed-over, passing-settle}
+use Rattle.pass.proofs.PassLaws.{passed-reached, passed-end, passed-entry}
 use borrow.Author.Needs.{needs}
 use Rattle.pass.proofs.pass_columns.Statement.{statement}
 use Rattle.pass.proofs.pass_columns.Tie as tie
 
 abbrev Inv-loop : tie.InvT-loop
-Inv-loop work₀ plan out n t g h source columns set block until q base₀ u₀ j₀ work base u j =
-    Passing (lackingRecord plan out) n t (units g h) source until (columnOf columns set block) block q work₀ base u j work
+Inv-loop work₀ plan out n t g h source columns set block until q base₀ u₀ j₀ i₀ work base u j i =
+    Passing (lackingRecord plan out) n t (units g h) source until (lanesBy (splitOf columns))
+    (columnOf columns set (block * 2 ^ splitOf columns)) block q work₀ base u j i work
 
 abbrev μ-loop : tie.MeasureT-loop
-μ-loop work₀ plan out n t g h source columns set block until q base₀ u₀ j₀ work base u j = (t + q - u) + (records (lackingRecord plan out) - j)
+μ-loop work₀ plan out n t g h source columns set block until q base₀ u₀ j₀ i₀ work base u j i =
+    (t + q - u) + (records (lackingRecord plan out) - j)
 
 smaller-requires : tie.Need-smaller-requires Inv-loop μ-loop
 smaller-requires c κs = search needs
 
-begin-requires : tie.Need-begin-requires Inv-loop μ-loop
-begin-requires c κs = (rw (c .before .smaller .ensures) (ready-area _ _ _ _ _ _ _ _ (c .before .before .before .before .before .pre)), c .before .before .before .before .before .pre .source)
+begin-columns-requires : tie.Need-begin-columns-requires Inv-loop μ-loop
+begin-columns-requires c κs =
+    let start = c .before .before .before .before .before in
+    (rw (c .before .smaller .ensures) (ready-area _ _ _ _ _ _ _ _ (start .pre .0)), start .pre .0 .source, start .pre .1)
 
 part-at-requires : tie.Need-part-at-requires Inv-loop μ-loop
-part-at-requires c κs = let area = ready-area _ _ _ _ _ _ _ _ (c .before .before .before .before .before .before .before .before .pre) in rw (c .before .before .before .before .smaller .ensures) (area .parts, omega (arith, area .fits, c .before .before .before .before .before .before .before .before .good .0 .0))
+part-at-requires c κs =
+    let turns = c .before .before .before .before in
+    let start = turns .before .before .before .before in
+    let area = ready-area _ _ _ _ _ _ _ _ (start .pre .0) in
+    rw (turns .smaller .ensures) (area .parts, omega (arith, area .fits, start .good .0 .0))
 
 loop-holds : tie.Need-loop-holds Inv-loop μ-loop
-loop-holds c = passing-begun _ _ _ _ _ _ _ _ _ _ _ (c .before .before .before .before .before .smaller .ensures) (c .before .before .before .before .before .before .before .before .before .pre) (c .before .before .before .begin .ensures) _ (c .part-at .ensures)
+loop-holds c =
+    let begun = c .before .before .before in
+    let turns = begun .before .before in
+    let start = turns .before .before .before .before in
+    passing-begun _ _ _ _ _ _ _ (filled-by _ (start .pre .1)) _ _ _ _ _ (turns .smaller .ensures) (start .pre .0) (begun .begin-columns .ensures) _ (c .part-at .ensures)
 
 add-loop : tie.Need-add-loop Inv-loop μ-loop
-add-loop c = omega (arith, accepted _ _ _ (c .before .before .before .before .before .before .before .before .before .before .pre .accepted) .slots, c .before .before .before .before .before .before .smaller .ensures)
+add-loop c = omega (arith, accepted _ _ _ (c .loop .inv .ready .accepted) .slots, c .loop .inv .parts)
 
 kept-in-slot-requires : tie.Need-kept-in-slot-requires Inv-loop μ-loop
 kept-in-slot-requires c κs = search needs
 
 fold-record-requires : tie.Need-fold-record-requires Inv-loop μ-loop
-fold-record-requires c κs = let ready = ready-begun _ _ _ _ _ _ _ _ _ _ (c .before .before .before .before .before .before .before .before .before .before .smaller .ensures) (c .before .before .before .before .before .before .before .before .before .before .before .before .before .before .pre) (c .before .before .before .before .before .before .before .before .begin .ensures) in passing-foldable _ _ _ _ _ _ _ _ _ ready _ (c .before .before .before .before .before .before .before .before .before .before .smaller .ensures) _ _ _ _ (c .before .before .before .before .loop .inv) (sym (c .before .before .kept-in-slot .ensures) ∙ c .before .if1 .taken)
+fold-record-requires c κs =
+    passing-foldable (c .before .before .before .before .loop .inv) (sym (c .before .before .kept-in-slot .ensures) ∙ c .before .if1 .taken)
 
 add-j : tie.Need-add-j Inv-loop μ-loop
-add-j c = let (there, slot) = in-slot-inv _ _ _ (sym (c .before .before .before .before .before .kept-in-slot .ensures) ∙ c .before .before .before .before .if1 .taken) in omega (arith, accepted _ _ _ (c .before .before .before .before .before .before .before .before .before .before .before .before .before .before .before .before .before .pre .accepted) .few)
+add-j c =
+    let tested = c .before .before .before .before in
+    let (there, slot) = in-slot-inv _ _ _ (sym (tested .before .kept-in-slot .ensures) ∙ tested .if1 .taken) in
+    omega (arith, accepted _ _ _ (tested .before .before .before .loop .inv .ready .accepted) .few)
 
 loop-less : tie.Need-loop-less Inv-loop μ-loop
-loop-less c = let (there, slot) = in-slot-inv _ _ _ (sym (c .before .before .before .before .before .kept-in-slot .ensures) ∙ c .before .before .before .before .if1 .taken) in omega arith
+loop-less c =
+    let tested = c .before .before .before .before in
+    let (there, slot) = in-slot-inv _ _ _ (sym (tested .before .kept-in-slot .ensures) ∙ tested .if1 .taken) in
+    omega arith
 
 loop-again : tie.Need-loop-again Inv-loop μ-loop
-loop-again c = let ready = ready-begun _ _ _ _ _ _ _ _ _ _ (c .before .before .before .before .before .before .before .before .before .before .before .before .before .smaller .ensures) (c .before .before .before .before .before .before .before .before .before .before .before .before .before .before .before .before .before .pre) (c .before .before .before .before .before .before .before .before .before .before .before .begin .ensures) in rw (c .before .before .fold-record .ensures) (passing-fold _ _ _ _ _ _ _ _ _ ready _ (c .before .before .before .before .before .before .before .before .before .before .before .before .before .smaller .ensures) _ _ _ _ (c .before .before .before .before .before .before .before .loop .inv) (sym (c .before .before .before .before .before .kept-in-slot .ensures) ∙ c .before .before .before .before .if1 .taken))
+loop-again c =
+    let tested = c .before .before .before .before in
+    rw (c .before .before .fold-record .ensures)
+    (passing-fold (tested .before .before .before .loop .inv) (sym (tested .before .kept-in-slot .ensures) ∙ tested .if1 .taken))
 
 add-u : tie.Need-add-u Inv-loop μ-loop
-add-u c = omega (arith, accepted _ _ _ (c .before .before .before .before .before .before .before .before .before .before .before .before .before .pre .accepted) .slots, c .before .before .before .before .before .before .before .before .before .smaller .ensures)
+add-u c =
+    let loop = c .before .before .before in
+    omega (arith, accepted _ _ _ (loop .loop .inv .ready .accepted) .slots, loop .loop .inv .parts)
 
 part-at-requires-2 : tie.Need-part-at-requires-2 Inv-loop μ-loop
-part-at-requires-2 c κs = let area = ready-area _ _ _ _ _ _ _ _ (c .before .before .before .before .before .before .before .before .before .before .before .before .before .pre) in rw (c .before .before .before .before .before .before .before .before .before .smaller .ensures) (area .parts, omega (arith, area .fits, c .before .before .before .before .before .before .before .before .before .before .before .before .before .good .0 .0))
+part-at-requires-2 c κs =
+    let turns = c .before .before .before .before .before .before .before .before .before in
+    let start = turns .before .before .before .before in
+    let area = ready-area _ _ _ _ _ _ _ _ (start .pre .0) in
+    rw (turns .smaller .ensures) (area .parts, omega (arith, area .fits, start .good .0 .0))
 
-settle-requires : tie.Need-settle-requires Inv-loop μ-loop
-settle-requires c κs = let ready = ready-begun _ _ _ _ _ _ _ _ _ _ (c .before .before .before .before .before .before .before .before .before .before .before .before .smaller .ensures) (c .before .before .before .before .before .before .before .before .before .before .before .before .before .before .before .before .pre) (c .before .before .before .before .before .before .before .before .before .before .begin .ensures) in settle-part _ _ _ _ _ _ _ _ _ ready _ (c .before .before .before .before .before .before .before .before .before .before .before .before .smaller .ensures) _ _ _ _ (c .before .before .before .before .before .before .loop .inv) (sym (c .before .before .before .before .kept-in-slot .ensures) ∙ c .before .before .before .if1 .left) _ (c .before .before .part-at2 .ensures) (c .before .if2 .taken) (c .before .before .before .before .before .loop-test .taken)
+sub-kept-slot-end : tie.Need-sub-kept-slot-end Inv-loop μ-loop
+sub-kept-slot-end c = omega arith
+
+kept-slot-end-requires : tie.Need-kept-slot-end-requires Inv-loop μ-loop
+kept-slot-end-requires c κs = passing-trail (c .before .before .before .before .before .loop .inv)
+
+settle-slot-requires : tie.Need-settle-slot-requires Inv-loop μ-loop
+settle-slot-requires c κs =
+    let found = c .before in
+    let part = found .before .before in
+    let loop = part .before .before .before .before in (
+      settle-part (loop .loop .inv)
+          (sym (part .before .before .kept-in-slot .ensures) ∙ part .before .if1 .left) _ (part .part-at2 .ensures)
+          (found .before .if2 .taken) (part .before .before .before .loop-test .taken),
+      settle-hearers (loop .loop .inv)
+          (sym (part .before .before .kept-in-slot .ensures) ∙ part .before .if1 .left) _ (part .part-at2 .ensures)
+          (found .before .if2 .taken) (part .before .before .before .loop-test .taken) _ (found .kept-slot-end .ensures),
+      loop .before .before .before .before .before .before .before .before .before .before .pre .1,
+      found .kept-slot-end .ensures .from,
+    )
+
+stopped-requires : tie.Need-stopped-requires Inv-loop μ-loop
+stopped-requires c κs = search needs
 
 same-length : tie.Need-same-length Inv-loop μ-loop
-same-length c = let ready = ready-begun _ _ _ _ _ _ _ _ _ _ (c .before .before .before .before .before .before .before .before .before .before .before .before .before .before .before .before .smaller .ensures) (c .before .before .before .before .before .before .before .before .before .before .before .before .before .before .before .before .before .before .before .before .pre) (c .before .before .before .before .before .before .before .before .before .before .before .before .before .before .begin .ensures) in next-length _ _ _ _ _ _ _ _ _ ready _ (c .before .before .before .before .before .before .before .before .before .before .before .before .before .before .before .before .smaller .ensures) _ _ _ _ (c .before .before .before .before .before .before .before .before .before .before .loop .inv) (sym (c .before .before .before .before .before .before .before .before .kept-in-slot .ensures) ∙ c .before .before .before .before .before .before .before .if1 .left) _ (c .before .before .before .before .before .before .part-at2 .ensures) (c .before .before .before .before .before .if2 .taken) (c .before .before .before .before .before .before .before .before .before .loop-test .taken) _ _ (c .before .before .before .settle .ensures) ∙ c .before .before .before .before .before .before .before .before .before .before .before .before .before .before .begin .kept .0
+same-length c =
+    let settled = c .before .before .before .before in
+    let found = settled .before .before in
+    let part = found .before .before in
+    let loop = part .before .before .before .before in
+    next-length (loop .loop .inv)
+    (sym (part .before .before .kept-in-slot .ensures) ∙ part .before .if1 .left) _ (part .part-at2 .ensures)
+    (found .before .if2 .taken) (part .before .before .before .loop-test .taken) _ (found .kept-slot-end .ensures) _ _
+    (settled .settle-slot .ensures) ∙ loop .before .before .before .before .begin-columns .kept .0
 
 returns : tie.Need-returns Inv-loop μ-loop
-returns c = let ready = ready-begun _ _ _ _ _ _ _ _ _ _ (c .before .before .before .before .before .before .before .before .before .before .before .before .before .before .before .before .smaller .ensures) (c .before .before .before .before .before .before .before .before .before .before .before .before .before .before .before .before .before .before .before .before .pre) (c .before .before .before .before .before .before .before .before .before .before .before .before .before .before .begin .ensures) in passed-entry _ _ _ _ _ _ _ _ _ _ _ (c .before .before .before .before .before .before .before .before .before .before .before .before .before .before .before .before .smaller .ensures) (c .before .before .before .before .before .before .before .before .before .before .before .before .before .before .before .before .before .before .before .before .pre) (c .before .before .before .before .before .before .before .before .before .before .before .before .before .before .begin .ensures) _ _ (passed-over _ _ _ _ _ _ _ _ _ ready _ (c .before .before .before .before .before .before .before .before .before .before .before .before .before .before .before .before .smaller .ensures) _ _ _ _ (c .before .before .before .before .before .before .before .before .before .before .loop .inv) (sym (c .before .before .before .before .before .before .before .before .kept-in-slot .ensures) ∙ c .before .before .before .before .before .before .before .if1 .left) _ (c .before .before .before .before .before .before .part-at2 .ensures) (c .before .before .before .before .before .if2 .taken) (c .before .before .before .before .before .before .before .before .before .loop-test .taken) _ _ (c .before .before .before .settle .ensures) (c .if3 .taken))
+returns c =
+    let settled = c .before .before .before .before in
+    let found = settled .before .before in
+    let part = found .before .before in
+    let loop = part .before .before .before .before in
+    let begun = loop .before .before .before .before in
+    let turns = begun .before .before in
+    let start = turns .before .before .before .before in
+    passed-entry _ _ _ _ _ _ _ (filled-by _ (start .pre .1)) _ _ _ _ _ (turns .smaller .ensures) (start .pre .0) (begun .begin-columns .ensures) _ _
+    (passed-over (loop .loop .inv)
+    (sym (part .before .before .kept-in-slot .ensures) ∙ part .before .if1 .left) _ (part .part-at2 .ensures)
+    (found .before .if2 .taken) (part .before .before .before .loop-test .taken) _ (found .kept-slot-end .ensures) _ _
+    (settled .settle-slot .ensures) (c .before .if3 .taken) _ refl _ (c .stopped .ensures))
 
 reached-requires : tie.Need-reached-requires Inv-loop μ-loop
-reached-requires c κs = let ready = ready-begun _ _ _ _ _ _ _ _ _ _ (c .before .before .before .before .before .before .before .before .before .before .before .before .before .before .before .before .before .smaller .ensures) (c .before .before .before .before .before .before .before .before .before .before .before .before .before .before .before .before .before .before .before .before .before .pre) (c .before .before .before .before .before .before .before .before .before .before .before .before .before .before .before .begin .ensures) in let fits = first-part (next-area _ _ _ _ _ _ _ _ _ ready _ (c .before .before .before .before .before .before .before .before .before .before .before .before .before .before .before .before .before .smaller .ensures) _ _ _ _ (c .before .before .before .before .before .before .before .before .before .before .before .loop .inv) (sym (c .before .before .before .before .before .before .before .before .before .kept-in-slot .ensures) ∙ c .before .before .before .before .before .before .before .before .if1 .left) _ (c .before .before .before .before .before .before .before .part-at2 .ensures) (c .before .before .before .before .before .before .if2 .taken) (c .before .before .before .before .before .before .before .before .before .before .loop-test .taken) _ _ (c .before .before .before .before .settle .ensures)) in omega arith
+reached-requires c κs =
+    let settled = c .before .before .before .before in
+    let found = settled .before .before in
+    let part = found .before .before in
+    let loop = part .before .before .before .before in
+    let fits = first-part (next-area (loop .loop .inv)
+    (sym (part .before .before .kept-in-slot .ensures) ∙ part .before .if1 .left) _ (part .part-at2 .ensures)
+    (found .before .if2 .taken) (part .before .before .before .loop-test .taken) _ (found .kept-slot-end .ensures) _ _
+    (settled .settle-slot .ensures)) in
+    omega arith
 
-sub-t32 : tie.Need-sub-t32 Inv-loop μ-loop
-sub-t32 c = omega arith
+sub-t35 : tie.Need-sub-t35 Inv-loop μ-loop
+sub-t35 c = omega arith
 
 same-length-2 : tie.Need-same-length-2 Inv-loop μ-loop
-same-length-2 c = let ready = ready-begun _ _ _ _ _ _ _ _ _ _ (c .before .before .before .before .before .before .before .before .before .before .before .before .before .before .before .before .before .before .before .smaller .ensures) (c .before .before .before .before .before .before .before .before .before .before .before .before .before .before .before .before .before .before .before .before .before .before .before .pre) (c .before .before .before .before .before .before .before .before .before .before .before .before .before .before .before .before .before .begin .ensures) in next-length _ _ _ _ _ _ _ _ _ ready _ (c .before .before .before .before .before .before .before .before .before .before .before .before .before .before .before .before .before .before .before .smaller .ensures) _ _ _ _ (c .before .before .before .before .before .before .before .before .before .before .before .before .before .loop .inv) (sym (c .before .before .before .before .before .before .before .before .before .before .before .kept-in-slot .ensures) ∙ c .before .before .before .before .before .before .before .before .before .before .if1 .left) _ (c .before .before .before .before .before .before .before .before .before .part-at2 .ensures) (c .before .before .before .before .before .before .before .before .if2 .taken) (c .before .before .before .before .before .before .before .before .before .before .before .before .loop-test .taken) _ _ (c .before .before .before .before .before .before .settle .ensures) ∙ c .before .before .before .before .before .before .before .before .before .before .before .before .before .before .before .before .before .begin .kept .0
+same-length-2 c =
+    let settled = c .before .before .before .before .before .before in
+    let found = settled .before .before in
+    let part = found .before .before in
+    let loop = part .before .before .before .before in
+    next-length (loop .loop .inv)
+    (sym (part .before .before .kept-in-slot .ensures) ∙ part .before .if1 .left) _ (part .part-at2 .ensures)
+    (found .before .if2 .taken) (part .before .before .before .loop-test .taken) _ (found .kept-slot-end .ensures) _ _
+    (settled .settle-slot .ensures) ∙ loop .before .before .before .before .begin-columns .kept .0
 
 returns-2 : tie.Need-returns-2 Inv-loop μ-loop
-returns-2 c = let ready = ready-begun _ _ _ _ _ _ _ _ _ _ (c .before .before .before .before .before .before .before .before .before .before .before .before .before .before .before .before .before .before .before .smaller .ensures) (c .before .before .before .before .before .before .before .before .before .before .before .before .before .before .before .before .before .before .before .before .before .before .before .pre) (c .before .before .before .before .before .before .before .before .before .before .before .before .before .before .before .before .before .begin .ensures) in passed-entry _ _ _ _ _ _ _ _ _ _ _ (c .before .before .before .before .before .before .before .before .before .before .before .before .before .before .before .before .before .before .before .smaller .ensures) (c .before .before .before .before .before .before .before .before .before .before .before .before .before .before .before .before .before .before .before .before .before .before .before .pre) (c .before .before .before .before .before .before .before .before .before .before .before .before .before .before .before .before .before .begin .ensures) _ _ (passed-reached _ _ _ _ _ _ _ _ _ ready _ (c .before .before .before .before .before .before .before .before .before .before .before .before .before .before .before .before .before .before .before .smaller .ensures) _ _ _ _ (c .before .before .before .before .before .before .before .before .before .before .before .before .before .loop .inv) (sym (c .before .before .before .before .before .before .before .before .before .before .before .kept-in-slot .ensures) ∙ c .before .before .before .before .before .before .before .before .before .before .if1 .left) _ (c .before .before .before .before .before .before .before .before .before .part-at2 .ensures) (c .before .before .before .before .before .before .before .before .if2 .taken) (c .before .before .before .before .before .before .before .before .before .before .before .before .loop-test .taken) _ _ (c .before .before .before .before .before .before .settle .ensures) (c .before .before .before .if3 .left) (sym (c .before .reached .ensures) ∙ c .if4 .taken))
+returns-2 c =
+    let settled = c .before .before .before .before .before .before in
+    let found = settled .before .before in
+    let part = found .before .before in
+    let loop = part .before .before .before .before in
+    let begun = loop .before .before .before .before in
+    let turns = begun .before .before in
+    let start = turns .before .before .before .before in
+    passed-entry _ _ _ _ _ _ _ (filled-by _ (start .pre .1)) _ _ _ _ _ (turns .smaller .ensures) (start .pre .0) (begun .begin-columns .ensures) _ _
+    (passed-reached (loop .loop .inv)
+    (sym (part .before .before .kept-in-slot .ensures) ∙ part .before .if1 .left) _ (part .part-at2 .ensures)
+    (found .before .if2 .taken) (part .before .before .before .loop-test .taken) _ (found .kept-slot-end .ensures) _ _
+    (settled .settle-slot .ensures) (c .before .before .before .if3 .left) (sym (c .before .reached .ensures) ∙ c .if4 .taken))
 
 loop-less-2 : tie.Need-loop-less-2 Inv-loop μ-loop
 loop-less-2 c = omega arith
 
 loop-again-2 : tie.Need-loop-again-2 Inv-loop μ-loop
-loop-again-2 c = let ready = ready-begun _ _ _ _ _ _ _ _ _ _ (c .before .before .before .before .before .before .before .before .before .before .before .before .before .before .before .before .before .before .before .smaller .ensures) (c .before .before .before .before .before .before .before .before .before .before .before .before .before .before .before .before .before .before .before .before .before .before .before .pre) (c .before .before .before .before .before .before .before .before .before .before .before .before .before .before .before .before .before .begin .ensures) in passing-settle _ _ _ _ _ _ _ _ _ ready _ (c .before .before .before .before .before .before .before .before .before .before .before .before .before .before .before .before .before .before .before .smaller .ensures) _ _ _ _ (c .before .before .before .before .before .before .before .before .before .before .before .before .before .loop .inv) (sym (c .before .before .before .before .before .before .before .before .before .before .before .kept-in-slot .ensures) ∙ c .before .before .before .before .before .before .before .before .before .before .if1 .left) _ (c .before .before .before .before .before .before .before .before .before .part-at2 .ensures) (c .before .before .before .before .before .before .before .before .if2 .taken) (c .before .before .before .before .before .before .before .before .before .before .before .before .loop-test .taken) _ _ (c .before .before .before .before .before .before .settle .ensures) (c .before .before .before .if3 .left) (sym (c .before .reached .ensures) ∙ c .if4 .left)
+loop-again-2 c =
+    let settled = c .before .before .before .before .before .before in
+    let found = settled .before .before in
+    let part = found .before .before in
+    let loop = part .before .before .before .before in
+    passing-settle (loop .loop .inv)
+    (sym (part .before .before .kept-in-slot .ensures) ∙ part .before .if1 .left) _ (part .part-at2 .ensures)
+    (found .before .if2 .taken) (part .before .before .before .loop-test .taken) _ (found .kept-slot-end .ensures) _ _
+    (settled .settle-slot .ensures) (c .before .before .before .if3 .left) (sym (c .before .reached .ensures) ∙ c .if4 .left)
 
 loop-less-3 : tie.Need-loop-less-3 Inv-loop μ-loop
 loop-less-3 c = omega arith
 
 loop-again-3 : tie.Need-loop-again-3 Inv-loop μ-loop
-loop-again-3 c = let ready = ready-begun _ _ _ _ _ _ _ _ _ _ (c .before .before .before .before .before .before .before .before .before .before .before .smaller .ensures) (c .before .before .before .before .before .before .before .before .before .before .before .before .before .before .before .pre) (c .before .before .before .before .before .before .before .before .before .begin .ensures) in passing-on _ _ _ _ _ _ _ _ _ ready _ (c .before .before .before .before .before .before .before .before .before .before .before .smaller .ensures) _ _ _ _ (c .before .before .before .before .before .loop .inv) (sym (c .before .before .before .kept-in-slot .ensures) ∙ c .before .before .if1 .left) _ (c .before .part-at2 .ensures) (omega arith) (c .before .before .before .before .loop-test .taken)
+loop-again-3 c =
+    let part = c .before in
+    passing-on (part .before .before .before .before .loop .inv)
+    (sym (part .before .before .kept-in-slot .ensures) ∙ part .before .if1 .left) _ (part .part-at2 .ensures)
+    (omega arith) (part .before .before .before .loop-test .taken)
 
 end-pass-requires : tie.Need-end-pass-requires Inv-loop μ-loop
-end-pass-requires c κs = let ready = ready-begun _ _ _ _ _ _ _ _ _ _ (c .before .before .before .before .before .before .before .before .smaller .ensures) (c .before .before .before .before .before .before .before .before .before .before .before .before .pre) (c .before .before .before .before .before .before .begin .ensures) in let fits = first-part (passing-area _ _ _ _ _ _ _ _ _ ready _ (c .before .before .before .before .before .before .before .before .smaller .ensures) _ _ _ _ (c .before .before .loop .inv)) in omega arith
+end-pass-requires c κs = let fits = first-part (passing-area (c .before .before .loop .inv)) in omega arith
 
 same-length-3 : tie.Need-same-length-3 Inv-loop μ-loop
-same-length-3 c = let ready = ready-begun _ _ _ _ _ _ _ _ _ _ (c .before .before .before .before .before .before .before .before .before .smaller .ensures) (c .before .before .before .before .before .before .before .before .before .before .before .before .before .pre) (c .before .before .before .before .before .before .before .begin .ensures) in passing-length _ _ _ _ _ _ _ _ _ ready _ (c .before .before .before .before .before .before .before .before .before .smaller .ensures) _ _ _ _ (c .before .before .before .loop .inv) ∙ c .before .before .before .before .before .before .before .begin .kept .0
+same-length-3 c =
+    let loop = c .before .before .before in
+    loop .loop .inv .state .same ∙ loop .before .before .before .before .begin-columns .kept .0
 
 returns-3 : tie.Need-returns-3 Inv-loop μ-loop
-returns-3 c = let ready = ready-begun _ _ _ _ _ _ _ _ _ _ (c .before .before .before .before .before .before .before .before .before .smaller .ensures) (c .before .before .before .before .before .before .before .before .before .before .before .before .before .pre) (c .before .before .before .before .before .before .before .begin .ensures) in passed-entry _ _ _ _ _ _ _ _ _ _ _ (c .before .before .before .before .before .before .before .before .before .smaller .ensures) (c .before .before .before .before .before .before .before .before .before .before .before .before .before .pre) (c .before .before .before .before .before .before .before .begin .ensures) _ _ (passed-end _ _ _ _ _ _ _ _ _ ready _ (c .before .before .before .before .before .before .before .before .before .smaller .ensures) _ _ _ _ _ (c .before .before .before .loop .inv) (omega arith) (c .end-pass .ensures))
+returns-3 c =
+    let loop = c .before .before .before in
+    let begun = loop .before .before .before .before in
+    let turns = begun .before .before in
+    let start = turns .before .before .before .before in
+    passed-entry _ _ _ _ _ _ _ (filled-by _ (start .pre .1)) _ _ _ _ _ (turns .smaller .ensures) (start .pre .0) (begun .begin-columns .ensures) _ _
+    (passed-end (loop .loop .inv) _ (omega arith) (c .end-pass .ensures))
 
 pub pass-columns-spec : {M : Type 1} → statement M
 pass-columns-spec =
@@ -111,7 +230,7 @@ pass-columns-spec =
     Inv-loop
     μ-loop
     smaller-requires
-    begin-requires
+    begin-columns-requires
     part-at-requires
     loop-holds
     add-loop
@@ -122,11 +241,14 @@ pass-columns-spec =
     loop-again
     add-u
     part-at-requires-2
-    settle-requires
+    sub-kept-slot-end
+    kept-slot-end-requires
+    settle-slot-requires
+    stopped-requires
     same-length
     returns
     reached-requires
-    sub-t32
+    sub-t35
     same-length-2
     returns-2
     loop-less-2

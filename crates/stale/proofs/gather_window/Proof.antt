@@ -1,7 +1,6 @@
 -- `stale::gather_window` meets its contract: the source's window is opened; any other is emptied, gathered and masked.
 -- Assumes nothing.
 use native.Mathlib.Omega.{arith}
-use Rattle.pass.proofs.PlaceLaws.{row-inside}
 use Rattle.stale.proofs.RingPlaces.{area-same, ring-fits}
 use Rattle.stale.proofs.WindowSteps.{window-source, window-other, kept-few}
 use borrow.Author.Needs.{needs}
@@ -11,20 +10,38 @@ use Rattle.stale.proofs.gather_window.Tie as tie
 ring-at-requires : tie.Need-ring-at-requires
 ring-at-requires c κs = search needs
 
+split-of-requires : tie.Need-split-of-requires
+split-of-requires c κs = search needs
+
+ones-of-requires : tie.Need-ones-of-requires
+ones-of-requires c κs = search needs
+
 open-entry-requires : tie.Need-open-entry-requires
-open-entry-requires c κs = (c .before .before .before .before .before .pre .1, rw (c .before .before .ring-at .ensures) (ring-fits (c .before .before .before .before .before .pre .0) _ (omega arith)))
+open-entry-requires c κs =
+    let ring = c .before .before .before .before in
+    let start = ring .before .before .before in
+    (start .pre .1, rw (ring .ring-at .ensures) (ring-fits (start .pre .0) _ (omega arith)))
 
 same-length : tie.Need-same-length
 same-length c = search needs
 
 returns : tie.Need-returns
-returns c = window-source _ _ _ _ _ _ _ _ _ _ _ (c .before .before .before .before .before .ring-at .ensures) _ (omega arith) (c .before .before .open-entry .ensures)
+returns c =
+    let opened = c .before .before in
+    let ones = opened .before .before in
+    let split = ones .before in
+    let ring = split .before .before in
+    window-source _ _ _ _ _ _ _ _ _ _ _ _ (ring .ring-at .ensures) _ _ _ (omega arith)
+    (split .split-of .ensures) (ones .ones-of .ensures) (opened .open-entry .ensures)
 
 kept-cells-requires : tie.Need-kept-cells-requires
 kept-cells-requires c κs = search needs
 
 empty-entry-requires : tie.Need-empty-entry-requires
-empty-entry-requires c κs = (c .before .before .before .before .before .before .before .pre .1, omega (arith, ring-fits (c .before .before .before .before .before .before .before .pre .0) (c .before .before .before .before .before .before .before .args .depth) (omega arith), c .before .before .before .before .ring-at .ensures))
+empty-entry-requires c κs =
+    let ring = c .before .before .before .before in
+    let start = ring .before .before .before in
+    (start .pre .1, omega (arith, ring-fits (start .pre .0) (start .args .depth) (omega arith), ring .ring-at .ensures))
 
 window-first-requires : tie.Need-window-first-requires
 window-first-requires c κs = search needs
@@ -33,28 +50,57 @@ window-end-requires : tie.Need-window-end-requires
 window-end-requires c κs = search needs
 
 gather-requires : tie.Need-gather-requires
-gather-requires c κs = (area-same (c .before .before .before .before .before .before .before .before .before .before .before .before .before .pre .0) (c .before .before .before .before .before .empty-entry .kept .0), omega (arith, ring-fits (c .before .before .before .before .before .before .before .before .before .before .before .before .before .pre .0) (c .before .before .before .before .before .before .before .before .before .before .before .before .before .args .depth) (omega arith), c .before .before .before .before .before .before .before .before .before .before .ring-at .ensures, c .before .before .before .before .before .empty-entry .kept .0), c .before .before .before .before .before .before .before .before .before .before .before .before .before .pre .1, kept-few _ _ _ _ _ _ (c .before .before .before .before .before .before .before .kept-cells .ensures))
+gather-requires c κs =
+    let bare = c .before .before .before .before .before in
+    let cells = bare .before .before in
+    let ring = cells .before .before .before in
+    let start = ring .before .before .before in (
+      area-same (start .pre .0) (bare .empty-entry .kept .0),
+      omega (arith, ring-fits (start .pre .0) (start .args .depth) (omega arith), ring .ring-at .ensures, bare .empty-entry .kept .0),
+      start .pre .1,
+      kept-few _ _ _ _ _ _ (cells .kept-cells .ensures),
+    )
 
-row-at-requires : tie.Need-row-at-requires
-row-at-requires c κs = omega (arith, row-inside _ (c .before .before .before .before .before .before .before .before .before .before .before .before .before .before .before .before .args .block) _ (c .before .before .before .before .before .before .before .before .before .before .before .before .before .before .before .before .pre .1), ring-fits (c .before .before .before .before .before .before .before .before .before .before .before .before .before .before .before .before .pre .0) (c .before .before .before .before .before .before .before .before .before .before .before .before .before .before .before .before .args .depth) (omega arith), c .before .before .before .before .before .before .before .before .before .before .before .before .before .before .before .before .good .0 .0)
-
-add-row : tie.Need-add-row
-add-row c = omega (arith, row-inside _ (c .before .before .before .before .before .before .before .before .before .before .before .before .before .before .before .before .before .args .block) _ (c .before .before .before .before .before .before .before .before .before .before .before .before .before .before .before .before .before .pre .1), ring-fits (c .before .before .before .before .before .before .before .before .before .before .before .before .before .before .before .before .before .pre .0) (c .before .before .before .before .before .before .before .before .before .before .before .before .before .before .before .before .before .args .depth) (omega arith), c .before .before .before .before .before .before .before .before .before .before .before .before .before .before .before .before .before .good .0 .0, c .row-at .ensures, c .before .before .before .before .before .before .before .before .before .before .before .before .before .before .ring-at .ensures)
-
-mask-row-requires : tie.Need-mask-row-requires
-mask-row-requires c κs = omega (arith, row-inside _ (c .before .before .before .before .before .before .before .before .before .before .before .before .before .before .before .before .before .before .args .block) _ (c .before .before .before .before .before .before .before .before .before .before .before .before .before .before .before .before .before .before .pre .1), ring-fits (c .before .before .before .before .before .before .before .before .before .before .before .before .before .before .before .before .before .before .pre .0) (c .before .before .before .before .before .before .before .before .before .before .before .before .before .before .before .before .before .before .args .depth) (omega arith), c .before .row-at .ensures, c .before .before .before .before .before .before .before .before .before .before .before .before .before .before .before .ring-at .ensures, c .before .before .before .before .gather .kept .0, c .before .before .before .before .before .before .before .before .before .before .empty-entry .kept .0)
+mask-entry-requires : tie.Need-mask-entry-requires
+mask-entry-requires c κs =
+    let full = c .before .before .before in
+    let bare = full .before .before .before .before .before .before in
+    let ring = bare .before .before .before .before .before in
+    let start = ring .before .before .before in (
+      start .pre .1,
+      omega (
+        arith,
+        ring-fits (start .pre .0) (start .args .depth) (omega arith),
+        ring .ring-at .ensures,
+        full .gather .kept .0,
+        bare .empty-entry .kept .0,
+      ),
+      start .pre .3,
+    )
 
 same-length-2 : tie.Need-same-length-2
 same-length-2 c = search needs
 
 returns-2 : tie.Need-returns-2
-returns-2 c = window-other _ _ _ _ _ _ _ _ _ _ _ (c .before .before .before .before .before .before .before .before .before .before .before .before .before .before .before .before .before .before .ring-at .ensures) _ _ _ _ _ _ _ (omega arith) (c .before .before .before .before .before .before .before .before .before .before .before .before .before .before .before .kept-cells .ensures) (c .before .before .before .before .before .before .before .before .before .before .before .before .before .empty-entry .ensures) (c .before .before .before .before .before .before .before .before .before .before .window-first .ensures) (c .before .before .before .before .before .before .before .before .before .window-end .ensures) (c .before .before .before .before .before .before .before .gather .ensures) (c .before .before .before .before .row-at .ensures) (c .before .before .mask-row .ensures)
+returns-2 c =
+    let masked = c .before .before in
+    let full = masked .before .before .before .before in
+    let end = full .before .before in
+    let first = end .before in
+    let bare = first .before .before .before in
+    let cells = bare .before .before in
+    let ring = cells .before .before .before in
+    window-other _ _ _ _ _ _ _ _ _ _ _ _ (ring .ring-at .ensures) _ _ _ _ _ _ (omega arith)
+    (cells .kept-cells .ensures) (bare .empty-entry .ensures) (first .window-first .ensures) (end .window-end .ensures)
+    (full .gather .ensures) (masked .mask-entry .ensures)
 
 pub gather-window-spec : {M : Type 1} → statement M
 gather-window-spec =
     tie.close
     (tie.spec
     ring-at-requires
+    split-of-requires
+    ones-of-requires
     open-entry-requires
     same-length
     returns
@@ -63,8 +109,6 @@ gather-window-spec =
     window-first-requires
     window-end-requires
     gather-requires
-    row-at-requires
-    add-row
-    mask-row-requires
+    mask-entry-requires
     same-length-2
     returns-2)

@@ -32,16 +32,29 @@ row-at-requires : tie.Need-row-at-requires
 row-at-requires c κs = omega (arith, row-inside _ (c .before .args .block) _ (c .before .pre .0), c .before .pre .1, c .before .good .0 .0)
 
 add-row : tie.Need-add-row
-add-row c = omega (arith, row-inside _ (c .before .before .args .block) _ (c .before .before .pre .0), c .before .before .pre .1, c .before .before .good .0 .0, c .row-at .ensures)
+add-row c =
+    let start = c .before .before in
+    omega (arith, row-inside _ (start .args .block) _ (start .pre .0), start .pre .1, start .good .0 .0, c .row-at .ensures)
 
 fill-part-requires : tie.Need-fill-part-requires
-fill-part-requires c κs = omega (arith, row-inside _ (c .before .before .before .args .block) _ (c .before .before .before .pre .0), c .before .before .before .pre .1, c .before .row-at .ensures, set-twice-length (c .before .before .before .args .work .now) (c .before .before .before .args .base + c .before .before .before .args .v) (c .before .before .before .args .base + c .before .before .before .args .v + c .before .before .before .args .n) 0 1)
+fill-part-requires c κs =
+    let start = c .before .before .before in
+    let at = start .args .base + start .args .v in
+    omega (
+      arith,
+      row-inside _ (start .args .block) _ (start .pre .0),
+      start .pre .1,
+      c .before .row-at .ensures,
+      set-twice-length (start .args .work .now) at (at + start .args .n) 0 1,
+    )
 
 same-length : tie.Need-same-length
-same-length c = c .before .before .fill-part .kept .0 ∙ set-twice-length (c .before .before .before .before .before .before .args .work .now) _ _ _ _
+same-length c =
+    let filled = c .before .before in
+    filled .fill-part .kept .0 ∙ set-twice-length (filled .before .before .before .before .args .work .now) _ _ _ _
 
 returns : tie.Need-returns
-returns c = opened-by _ _ _ _ _ _ _ (c .before .before .before .before .row-at .ensures) (c .before .before .fill-part .ensures)
+returns c = opened-by _ _ _ _ _ _ _ _ (c .before .before .before .before .row-at .ensures) (c .before .before .fill-part .ensures)
 
 pub open-entry-spec : {M : Type 1} → statement M
 open-entry-spec =

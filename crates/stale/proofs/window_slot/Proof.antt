@@ -1,8 +1,7 @@
--- `stale::window_slot` meets its contract: the four steps of a slot.
+-- `stale::window_slot` meets its contract: the windows stop, or the three steps of a slot.
 -- Assumes nothing.
-use mathlib.Core.Path.{_∙_}
 use Rattle.stale.proofs.RingPlaces.{area-same, heard-windows}
-use Rattle.stale.proofs.WindowSteps.{slot-by}
+use Rattle.stale.proofs.WindowSteps.{slot-stop, slot-by}
 use borrow.Author.Needs.{needs}
 use Rattle.stale.proofs.window_slot.Statement.{statement}
 use Rattle.stale.proofs.window_slot.Tie as tie
@@ -10,36 +9,57 @@ use Rattle.stale.proofs.window_slot.Tie as tie
 gather-records-requires : tie.Need-gather-records-requires
 gather-records-requires c κs = search needs
 
+same-length : tie.Need-same-length
+same-length c = search needs
+
+returns : tie.Need-returns
+returns c =
+    let gathered = c .before .before .before in
+    slot-stop _ _ _ _ _ _ _ _ _ _ _ _ _ _ _ (gathered .gather-records .ensures) (c .if1 .taken)
+
 part-size-requires : tie.Need-part-size-requires
 part-size-requires c κs = search needs
-
-empty-part-requires : tie.Need-empty-part-requires
-empty-part-requires c κs = search needs
 
 ring-at-requires : tie.Need-ring-at-requires
 ring-at-requires c κs = search needs
 
 send-records-requires : tie.Need-send-records-requires
-send-records-requires c κs = (rw (c .before .before .before .before .before .before .part-size .ensures, c .before .ring-at .ensures) (heard-windows (area-same (c .before .before .before .before .before .before .before .before .before .before .before .before .before .before .pre .0) (c .before .before .before .before .empty-part .kept .0 ∙ c .before .before .before .before .before .before .before .before .before .gather-records .kept .0))), c .before .before .before .before .before .before .before .before .before .before .before .before .before .before .pre .2)
+send-records-requires c κs =
+    let ring = c .before in
+    let size = ring .before in
+    let gathered = size .before .before .before .before in
+    let start = gathered .before .before .before .before .before in (
+      rw (size .part-size .ensures, ring .ring-at .ensures) (heard-windows (area-same (start .pre .0) (gathered .gather-records .kept .0))),
+      start .pre .2,
+    )
 
-keep-all-requires : tie.Need-keep-all-requires
-keep-all-requires c κs = search needs
+keep-records-requires : tie.Need-keep-records-requires
+keep-records-requires c κs = search needs
 
-same-length : tie.Need-same-length
-same-length c = search needs
+same-length-2 : tie.Need-same-length-2
+same-length-2 c = search needs
 
-returns : tie.Need-returns
-returns c = slot-by _ _ _ _ _ _ _ _ _ _ _ _ _ _ _ _ _ _ (c .before .before .before .before .before .before .before .before .before .before .before .before .before .before .before .before .gather-records .ensures) (c .before .before .before .before .before .before .before .before .before .before .before .before .before .part-size .ensures) (c .before .before .before .before .before .before .before .before .before .before .before .empty-part .ensures) (c .before .before .before .before .before .before .before .before .ring-at .ensures) (c .before .before .before .before .before .before .send-records .ensures) (c .before .before .keep-all .ensures)
+returns-2 : tie.Need-returns-2
+returns-2 c =
+    let kept = c .before .before in
+    let sent = kept .before .before .before .before in
+    let ring = sent .before .before in
+    let size = ring .before in
+    let goes = size .before in
+    let gathered = goes .before .before .before in
+    slot-by _ _ _ _ _ _ _ _ _ _ _ _ _ _ _ (gathered .gather-records .ensures) _ _ _ _ (goes .if1 .left)
+    (size .part-size .ensures) (ring .ring-at .ensures) (sent .send-records .ensures) (kept .keep-records .ensures)
 
 pub window-slot-spec : {M : Type 1} → statement M
 window-slot-spec =
     tie.close
     (tie.spec
     gather-records-requires
+    same-length
+    returns
     part-size-requires
-    empty-part-requires
     ring-at-requires
     send-records-requires
-    keep-all-requires
-    same-length
-    returns)
+    keep-records-requires
+    same-length-2
+    returns-2)

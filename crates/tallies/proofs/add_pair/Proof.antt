@@ -2,8 +2,9 @@
 -- one pair and its share.
 -- Assumes nothing.
 use native.Mathlib.Omega.{arith}
+use mathlib.Core.Path.{sym}
 use lib.ListN.{length-set}
-use Rattle.tallies.proofs.StateLaws.{row-place}
+use Rattle.tallies.proofs.LaneLaws.{column-within, rows-before}
 use Rattle.tallies.proofs.AddLaws.{added-destination, added-none, added-some, whole-share}
 use borrow.Author.Needs.{needs}
 use Rattle.tallies.proofs.add_pair.Statement.{statement}
@@ -13,7 +14,7 @@ add-v : tie.Need-add-v
 add-v c = search needs
 
 returns : tie.Need-returns
-returns c = added-destination _ _ _ _ _ _ _ (omega arith)
+returns c = added-destination _ _ _ _ _ _ _ _ (omega arith)
 
 add-count : tie.Need-add-count
 add-count c = search needs
@@ -24,29 +25,26 @@ mul-count c = search needs
 slice-read-count : tie.Need-slice-read-count
 slice-read-count c = search needs
 
-mul-through : tie.Need-mul-through
-mul-through c = search needs
+mul-row : tie.Need-mul-row
+mul-row c = search needs
 
-mul-through-2 : tie.Need-mul-through-2
-mul-through-2 c = let k = c .before .before .before .pre in omega (arith, row-place _ _ _ _ (k .destination) (k .in-block))
+mul-row-2 : tie.Need-mul-row-2
+mul-row-2 c = let k = c .before .before .before in omega (arith, rows-before (k .pre), k .pre .room .area, k .pre .room .fits, k .good .0 .0)
 
-add-through : tie.Need-add-through
-add-through c = let k = c .before .before .before .pre in omega (arith, row-place _ _ _ _ (k .destination) (k .in-block))
+add-row : tie.Need-add-row
+add-row c = let k = c .before .before .before in omega (arith, rows-before (k .pre), k .pre .room .area, k .pre .room .fits, k .good .0 .0)
 
-add-through-2 : tie.Need-add-through-2
-add-through-2 c = let k = c .before .before .before .pre in omega (arith, row-place _ _ _ _ (k .destination) (k .in-block))
-
-mul-through-3 : tie.Need-mul-through-3
-mul-through-3 c = let k = c .before .before .before .pre in omega (arith, row-place _ _ _ _ (k .destination) (k .in-block))
-
-slice-read-through : tie.Need-slice-read-through
-slice-read-through c = let k = c .before .before .before .before .pre in omega (arith, row-place _ _ _ _ (k .destination) (k .in-block))
+column-requires : tie.Need-column-requires
+column-requires c κs = let k = c .before .before .before .before in column-within (k .pre) (omega (arith, rows-before (k .pre), k .pre .room .area, k .pre .room .fits, k .good .0))
 
 sub-through : tie.Need-sub-through
-sub-through c = c .before .before .before .before .pre .row (omega arith)
+sub-through c = rw (c .column .ensures) (c .before .before .before .before .before .pre .row (omega arith))
+
+same-length : tie.Need-same-length
+same-length c = search needs
 
 returns-2 : tie.Need-returns-2
-returns-2 c = added-none _ _ _ _ _ _ _ (omega arith) (omega arith)
+returns-2 c = added-none _ _ _ _ _ _ _ _ (omega arith) (omega (arith, c .before .column .ensures))
 
 add-pairs : tie.Need-add-pairs
 add-pairs c = search needs
@@ -91,11 +89,11 @@ mul-work-3 c = search needs
 slice-write-work-2 : tie.Need-slice-write-work-2
 slice-write-work-2 c = rw length-set (omega arith)
 
-same-length : tie.Need-same-length
-same-length c = search needs
+same-length-2 : tie.Need-same-length-2
+same-length-2 c = search needs
 
 returns-3 : tie.Need-returns-3
-returns-3 c = added-some _ _ _ _ _ _ _ (omega arith) (omega arith) _ (c .before .share .ensures)
+returns-3 c = added-some _ _ _ _ _ _ _ _ (omega arith) (omega (arith, c .before .before .before .before .column .ensures)) _ (rw (c .before .before .before .before .column .ensures) at (c .before .share .ensures))
 
 pub add-pair-spec : {M : Type 1} → statement M
 add-pair-spec =
@@ -106,13 +104,12 @@ add-pair-spec =
     add-count
     mul-count
     slice-read-count
-    mul-through
-    mul-through-2
-    add-through
-    add-through-2
-    mul-through-3
-    slice-read-through
+    mul-row
+    mul-row-2
+    add-row
+    column-requires
     sub-through
+    same-length
     returns-2
     add-pairs
     add-load
@@ -128,5 +125,5 @@ add-pair-spec =
     slice-write-work
     mul-work-3
     slice-write-work-2
-    same-length
+    same-length-2
     returns-3)

@@ -3,16 +3,18 @@
 -- Assumes nothing.
 use Prim.Native.Nat.{_-_}
 use native.Mathlib.Omega.{arith}
+use Rattle.tallies.specs.Progress.{rowsOf}
 use Rattle.tallies.proofs.LoopLaws.{Sweeping, sweeping-none, sweeping-workable, sweeping-more, sweeping-length}
 use Rattle.tallies.proofs.LoopLaws.{sweeping-all}
 use Rattle.tallies.proofs.add_rows.Statement.{statement}
 use Rattle.tallies.proofs.add_rows.Tie as tie
 
 abbrev Inv-loop : tie.InvT-loop
-Inv-loop work₀ n base source low block z₀ work z = Sweeping n base source low block work₀ z work
+Inv-loop work₀ n base source low block split stations z₀ work z =
+    Sweeping n base source low (rowsOf stations block split) work₀ z work
 
 abbrev μ-loop : tie.MeasureT-loop
-μ-loop work₀ n base source low block z₀ work z = n - z
+μ-loop work₀ n base source low block split stations z₀ work z = n - z
 
 loop-holds : tie.Need-loop-holds Inv-loop μ-loop
 loop-holds c = sweeping-none _ _ _ _ _ _

@@ -1,24 +1,39 @@
--- `tallies::tally_source` meets its contract. The loop's invariant: the stations below low are done (Blocking). The measure
--- is the number of stations left.
+-- `tallies::tally_source` meets its contract. The loop's invariant: the stations below low are done (Blocking), and the split is one
+-- that can be had. The measure is the number of stations left, and the splits.
 -- Assumes nothing.
-use Prim.Native.Nat.{_-_}
+use Prim.Native.Nat.{_+_, _-_, _*_, _≤_}
 use mathlib.Core.Path.{_∙_}
 use native.Mathlib.Omega.{arith}
 use Rattle.temporal.specs.Plan.{units}
 use Rattle.temporal.specs.Struck.{lackingRecord}
 use borrow.Author.Needs.{needs}
-use Rattle.tallies.proofs.BlockLaws.{Blocking, blocking-none, blocking-ready, blocking-over, blocking-more, blocking-all}
+use Rattle.tallies.proofs.BlockLaws.{Blocking, blocking-none, blocking-ready, blocking-over, blocking-more, blocking-again, blocking-all}
+use Rattle.tallies.proofs.BlockLaws.{some-stations}
+use Rattle.tallies.proofs.LaneLaws.{fewer-stations, narrower-split}
 use Rattle.tallies.proofs.tally_source.Statement.{statement}
 use Rattle.tallies.proofs.tally_source.Tie as tie
 
 abbrev Inv-loop : tie.InvT-loop
-Inv-loop work₀ plan out n t g h depth base block source low₀ work low = Blocking (lackingRecord plan out) n t (units g h) base source work₀ low work
+Inv-loop work₀ plan out n t g h depth base block source split₀ low₀ work split low =
+    (split ≤ 3) × Blocking (lackingRecord plan out) n t (units g h) base source work₀ low work
 
 abbrev μ-loop : tie.MeasureT-loop
-μ-loop work₀ plan out n t g h depth base block source low₀ work low = n - low
+μ-loop work₀ plan out n t g h depth base block source split₀ low₀ work split low = 4 * (n - low) + split
 
 loop-holds : tie.Need-loop-holds Inv-loop μ-loop
-loop-holds c = blocking-none _ _ _ _ _ _ _ _ _ (c .before .before .pre)
+loop-holds c = (omega arith, blocking-none _ _ _ _ _ _ _ _ _ (c .before .before .pre))
+
+sub-entries-for : tie.Need-sub-entries-for Inv-loop μ-loop
+sub-entries-for c = omega arith
+
+entries-for-requires : tie.Need-entries-for-requires Inv-loop μ-loop
+entries-for-requires c κs = let start = c .before .before .before .before in (c .before .loop .inv .0, omega (arith, start .pre .room .stations))
+
+columns-of-requires : tie.Need-columns-of-requires Inv-loop μ-loop
+columns-of-requires c κs =
+    let loop = c .before .before in
+    let start = loop .before .before .before in
+    (loop .loop .inv .0, omega (arith, c .entries-for .ensures .small, start .pre .room .stations))
 
 sub-smaller : tie.Need-sub-smaller Inv-loop μ-loop
 sub-smaller c = omega arith
@@ -27,30 +42,109 @@ smaller-requires : tie.Need-smaller-requires Inv-loop μ-loop
 smaller-requires c κs = search needs
 
 tally-block-requires : tie.Need-tally-block-requires Inv-loop μ-loop
-tally-block-requires c κs = blocking-ready _ _ _ _ _ _ _ _ _ (c .before .before .before .before .before .before .pre) _ _ (c .before .before .before .loop .inv) _ (c .before .smaller .ensures) (c .before .before .loop-test .taken)
+tally-block-requires c κs =
+    let smaller = c .before in
+    let found = smaller .before .before in
+    let loop = found .before .before in
+    let start = loop .before .before .before in
+    blocking-ready _ _ _ _ _ _ _ _ _ (start .pre) _ _ (loop .loop .inv .1) _ _ _ (loop .loop .inv .0) (found .entries-for .ensures)
+    (rw (smaller .before .columns-of .ensures) at (smaller .smaller .ensures)) (found .before .loop-test .taken)
 
-same-length : tie.Need-same-length Inv-loop μ-loop
-same-length c = c .before .before .before .tally-block .kept .0 ∙ c .before .before .before .before .before .before .before .loop .inv .kept .same-length
-
-returns : tie.Need-returns Inv-loop μ-loop
-returns c = blocking-over _ _ _ _ _ _ _ _ _ (c .before .before .before .before .before .before .before .before .before .before .pre) _ _ (c .before .before .before .before .before .before .before .loop .inv) _ (c .before .before .before .before .before .smaller .ensures) (c .before .before .before .before .before .before .loop-test .taken) _
-    (rw (c .if1 .taken) at (c .before .before .before .tally-block .ensures))
+enum-told : tie.Need-enum-told Inv-loop μ-loop
+enum-told c = search needs
 
 add-low : tie.Need-add-low Inv-loop μ-loop
-add-low c = let e = c .before .before .before .before .before .smaller .ensures in omega arith
+add-low c =
+    let smaller = c .before .before .before .before .before .before in
+    let found = smaller .before .before in
+    let loop = found .before .before in
+    let start = loop .before .before .before in
+    omega (arith, smaller .smaller .ensures)
 
 loop-less : tie.Need-loop-less Inv-loop μ-loop
-loop-less c = let e = c .before .before .before .before .before .smaller .ensures in let k = c .before .before .before .before .before .before .before .before .before .before .pre .some-block in omega arith
+loop-less c =
+    let smaller = c .before .before .before .before .before .before in
+    let found = smaller .before .before in
+    let loop = found .before .before in
+    let start = loop .before .before .before in
+    let some = some-stations _ _ _ _ _ _ _ _ _ (start .pre) _ _ (loop .loop .inv .1) _ _ _ (loop .loop .inv .0) (found .entries-for .ensures)
+    (rw (smaller .before .columns-of .ensures) at (smaller .smaller .ensures)) (found .before .loop-test .taken) in
+    fewer-stations _ _ _ _ some (omega (arith, smaller .smaller .ensures))
 
 loop-again : tie.Need-loop-again Inv-loop μ-loop
-loop-again c = blocking-more _ _ _ _ _ _ _ _ _ (c .before .before .before .before .before .before .before .before .before .before .pre) _ _ (c .before .before .before .before .before .before .before .loop .inv) _ (c .before .before .before .before .before .smaller .ensures) (c .before .before .before .before .before .before .loop-test .taken) _
-    (rw (c .if1 .left) at (c .before .before .before .tally-block .ensures))
+loop-again c =
+    let smaller = c .before .before .before .before .before .before in
+    let found = smaller .before .before in
+    let loop = found .before .before in
+    let start = loop .before .before .before in (
+      loop .loop .inv .0,
+      blocking-more _ _ _ _ _ _ _ _ _ (start .pre) _ _ (loop .loop .inv .1) _ _ _ (loop .loop .inv .0) (found .entries-for .ensures)
+          (rw (smaller .before .columns-of .ensures) at (smaller .smaller .ensures)) (found .before .loop-test .taken) _
+          (rw (c .enum-told .given .1) at (c .before .before .before .before .tally-block .ensures)),
+    )
+
+enum-told-2 : tie.Need-enum-told-2 Inv-loop μ-loop
+enum-told-2 c = search needs
+
+same-length : tie.Need-same-length Inv-loop μ-loop
+same-length c =
+    let smaller = c .before .before .before .before .before .before in
+    let found = smaller .before .before in
+    let loop = found .before .before in
+    let start = loop .before .before .before in
+    c .before .before .before .before .tally-block .kept .0 ∙ loop .loop .inv .1 .kept .same-length
+
+returns : tie.Need-returns Inv-loop μ-loop
+returns c =
+    let smaller = c .before .before .before .before .before .before in
+    let found = smaller .before .before in
+    let loop = found .before .before in
+    let start = loop .before .before .before in
+    blocking-over _ _ _ _ _ _ _ _ _ (start .pre) _ _ (loop .loop .inv .1) _ _ _ (loop .loop .inv .0) (found .entries-for .ensures)
+    (rw (smaller .before .columns-of .ensures) at (smaller .smaller .ensures)) (found .before .loop-test .taken) _
+    (rw (c .enum-told2 .given .1) at (c .before .before .before .before .tally-block .ensures))
+
+enum-told-3 : tie.Need-enum-told-3 Inv-loop μ-loop
+enum-told-3 c = search needs
+
+sub-split : tie.Need-sub-split Inv-loop μ-loop
+sub-split c =
+    let smaller = c .before .before .before .before .before .before in
+    let found = smaller .before .before in
+    let loop = found .before .before in
+    let start = loop .before .before .before in
+    let (some, again) = blocking-again _ _ _ _ _ _ _ _ _ (start .pre) _ _ (loop .loop .inv .1) _ _ _ (loop .loop .inv .0) (found .entries-for .ensures)
+    (rw (smaller .before .columns-of .ensures) at (smaller .smaller .ensures)) (found .before .loop-test .taken) _
+    (rw (c .enum-told3 .given .1) at (c .before .before .before .before .tally-block .ensures)) in
+    omega arith
+
+loop-less-2 : tie.Need-loop-less-2 Inv-loop μ-loop
+loop-less-2 c =
+    let smaller = c .before .before .before .before .before .before in
+    let found = smaller .before .before in
+    let loop = found .before .before in
+    let start = loop .before .before .before in
+    let (some, again) = blocking-again _ _ _ _ _ _ _ _ _ (start .pre) _ _ (loop .loop .inv .1) _ _ _ (loop .loop .inv .0) (found .entries-for .ensures)
+    (rw (smaller .before .columns-of .ensures) at (smaller .smaller .ensures)) (found .before .loop-test .taken) _
+    (rw (c .enum-told3 .given .1) at (c .before .before .before .before .tally-block .ensures)) in
+    narrower-split _ _ _ some
+
+loop-again-2 : tie.Need-loop-again-2 Inv-loop μ-loop
+loop-again-2 c =
+    let smaller = c .before .before .before .before .before .before in
+    let found = smaller .before .before in
+    let loop = found .before .before in
+    let start = loop .before .before .before in
+    let (some, again) = blocking-again _ _ _ _ _ _ _ _ _ (start .pre) _ _ (loop .loop .inv .1) _ _ _ (loop .loop .inv .0) (found .entries-for .ensures)
+    (rw (smaller .before .columns-of .ensures) at (smaller .smaller .ensures)) (found .before .loop-test .taken) _
+    (rw (c .enum-told3 .given .1) at (c .before .before .before .before .tally-block .ensures)) in
+    (let few = loop .loop .inv .0 in omega arith, again)
 
 same-length-2 : tie.Need-same-length-2 Inv-loop μ-loop
-same-length-2 c = c .before .loop .inv .kept .same-length
+same-length-2 c = c .before .loop .inv .1 .kept .same-length
 
 returns-2 : tie.Need-returns-2 Inv-loop μ-loop
-returns-2 c = blocking-all _ _ _ _ _ _ _ _ _ (c .before .before .before .before .pre) _ _ (c .before .loop .inv) (omega arith)
+returns-2 c = blocking-all _ _ _ _ _ _ _ _ _ (c .before .before .before .before .pre) _ _ (c .before .loop .inv .1) (omega arith)
 
 pub tally-source-spec : {M : Type 1} → statement M
 tally-source-spec =
@@ -59,13 +153,22 @@ tally-source-spec =
     Inv-loop
     μ-loop
     loop-holds
+    sub-entries-for
+    entries-for-requires
+    columns-of-requires
     sub-smaller
     smaller-requires
     tally-block-requires
-    same-length
-    returns
+    enum-told
     add-low
     loop-less
     loop-again
+    enum-told-2
+    same-length
+    returns
+    enum-told-3
+    sub-split
+    loop-less-2
+    loop-again-2
     same-length-2
     returns-2)
