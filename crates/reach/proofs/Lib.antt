@@ -4,8 +4,13 @@ mod PlaceLaws
 mod PassLaws
 mod EntryLaws
 mod TableLaws
+mod MarkLaws
+mod OnceLaws
+mod SweepLaws
+mod SlotLaws
 mod StateLaws
 mod FoldLaws
+mod TrailLaws
 mod SettleLaws
 mod EndLaws
 mod TurnLaws

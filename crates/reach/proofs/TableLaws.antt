@@ -1,18 +1,20 @@
 -- Tables as a whole: places apart, what merging, sending and settling leave at each place and beyond the named part.
 -- Assumes nothing.
-use Prim.Native.Nat.{ℕ, zero, suc, _+_, _*_, _/_, _%_, _<_, _≤_}
+use Prim.Native.Nat.{ℕ, zero, suc, _+_, _*_, _/_, _%_, _<_, _≤_, min}
 use native.Mathlib.Omega.{arith}
 use native.Mathlib.Decide.{decLt, ℕ-discrete}
 use mathlib.Core.Path.{_≡_, refl, sym, ap, _∙_}
 use mathlib.Core.Logic.{_≢_, by-cases}
 use lib.Arith.{digits-div, digits-mod}
 use lib.ListN.{length, getD, length-set}
-use lib.Seq.{drop-set-lt}
+use lib.Seq.{drop-set-lt, getD-set-same}
 use Rattle.counting.proofs.Fewest.{plus}
+use Rattle.entries.proofs.EntryLaws.{entry-merge}
 use Rattle.reach.specs.Table.{Table, mergedTable, sentTable, settledTable}
 use Rattle.reach.specs.Pass.{Beyond}
+use Rattle.reach.specs.Slot.{TakenIn}
 use Rattle.reach.proofs.MergeLaws.{sent-some, sent-none, merged-hops-length, merged-counts-length}
-use Rattle.reach.proofs.EntryLaws.{EntryAt, entry-merged, merged-other-hops, merged-other-counts}
+use Rattle.reach.proofs.EntryLaws.{EntryAt, merged-other-hops, merged-other-counts}
 
 -- ---- places
 
@@ -58,6 +60,37 @@ beyond-sent k x y z v at h b =
     (λ some. rw (sent-some y z v at some) (beyond-merged k x y at _ _ h b))
     (λ none. rw (sent-none y z v at (omega arith)) b)
 
+-- ---- an appearance taken into a station's entry
+
+module _ (x y : Table) where
+  pub merged-taken :
+      (v at : ℕ) → v < length (y .hops) → v < length (y .counts) →
+      TakenIn x y (mergedTable y v (getD (x .hops) at 0) (getD (x .counts) at 0)) v at
+  unfolding mergedTable
+  merged-taken v at h c =
+      record { hops = getD-set-same (y .hops) v _ 0 h; count = getD-set-same (y .counts) v _ 0 c }
+
+  -- it stays where the entry does
+  pub taken-kept :
+      (z w : Table) (v at : ℕ) → getD (w .hops) v 0 ≡ getD (z .hops) v 0 → getD (w .counts) v 0 ≡ getD (z .counts) v 0 →
+      TakenIn x y z v at → TakenIn x y w v at
+  taken-kept z w v at h c t = record { hops = h ∙ t .hops; count = c ∙ t .count }
+
+  -- and is so from an equal entry
+  pub taken-from :
+      (z w : Table) (v at : ℕ) → getD (z .hops) v 0 ≡ getD (y .hops) v 0 → getD (z .counts) v 0 ≡ getD (y .counts) v 0 →
+      TakenIn x z w v at → TakenIn x y w v at
+  taken-from z w v at h c t =
+      record {
+        hops = t .hops ∙ ap (λ a. min a (getD (x .hops) at 0)) h;
+        count = t .count ∙ rw (h, c);
+      }
+
+  -- the entry then holds the sum with the appearance
+  pub entry-taken :
+      (z : Table) (v at : ℕ) (N M : ℕ → ℕ) → EntryAt N y v → EntryAt M x at → TakenIn x y z v at → EntryAt (plus N M) z v
+  entry-taken z v at N M e f t = rw (t .hops, t .count) (entry-merge N M _ _ _ _ e f)
+
 -- ---- settling
 
 module _ (width u : ℕ) (x : Table) where
@@ -76,26 +109,32 @@ module _ (width u : ℕ) (x : Table) where
   settled-before-counts y v (suc k) w h =
       settled-before-counts _ (v + 1) k w (omega arith) ∙ merged-other-counts y v _ _ w (λ e. omega arith)
 
-  -- a station that is settled holds the sum with its appearance of the slot
+  -- a station that is settled has its appearance of the slot taken in
+  pub settled-taken :
+      (y : Table) (v k w : ℕ) → v ≤ w → w < v + k → v + k ≤ length (y .hops) → v + k ≤ length (y .counts) →
+      TakenIn x y (settledTable width u x y v k) w (w * width + u)
+  unfolding settledTable
+  settled-taken y v zero w low high h c = absurd (omega arith)
+  settled-taken y v (suc k) w low high h c =
+      let next = mergedTable y v (getD (x .hops) (v * width + u) 0) (getD (x .counts) (v * width + u) 0) in
+      by-cases (ℕ-discrete w v)
+      (λ same.
+      taken-kept x y next (settledTable width u x next (v + 1) k) w (w * width + u)
+      (settled-before-hops next (v + 1) k w (omega arith)) (settled-before-counts next (v + 1) k w (omega arith))
+      (rw same (merged-taken x y v (v * width + u) (omega arith) (omega arith))))
+      (λ other.
+      let hl = merged-hops-length y v (getD (x .hops) (v * width + u) 0) (getD (x .counts) (v * width + u) 0) in
+      let cl = merged-counts-length y v (getD (x .hops) (v * width + u) 0) (getD (x .counts) (v * width + u) 0) in
+      taken-from x y next (settledTable width u x next (v + 1) k) w (w * width + u)
+      (merged-other-hops y v _ _ w other) (merged-other-counts y v _ _ w other)
+      (settled-taken next (v + 1) k w (omega arith) (omega arith) (omega arith) (omega arith)))
+
+  -- so it holds the sum with it
   pub entry-settled :
       (N M : ℕ → ℕ) (y : Table) (v k w : ℕ) → v ≤ w → w < v + k → v + k ≤ length (y .hops) → v + k ≤ length (y .counts) →
       EntryAt N y w → EntryAt M x (w * width + u) → EntryAt (plus N M) (settledTable width u x y v k) w
-  unfolding settledTable
-  entry-settled N M y v zero w low high h c e f = absurd (omega arith)
-  entry-settled N M y v (suc k) w low high h c e f =
-      by-cases (ℕ-discrete w v)
-      (λ same.
-      let next = mergedTable y v (getD (x .hops) (v * width + u) 0) (getD (x .counts) (v * width + u) 0) in
-      entry-kept next (settledTable width u x next (v + 1) k) w
-      (settled-before-hops next (v + 1) k w (omega arith)) (settled-before-counts next (v + 1) k w (omega arith))
-      (rw same
-      (entry-merged y v _ _ N M (omega arith) (omega arith) (rw same at e) (rw same at f))))
-      (λ other.
-      let next = mergedTable y v (getD (x .hops) (v * width + u) 0) (getD (x .counts) (v * width + u) 0) in
-      let hl = merged-hops-length y v (getD (x .hops) (v * width + u) 0) (getD (x .counts) (v * width + u) 0) in
-      let cl = merged-counts-length y v (getD (x .hops) (v * width + u) 0) (getD (x .counts) (v * width + u) 0) in
-      entry-settled N M next (v + 1) k w (omega arith) (omega arith) (omega arith) (omega arith)
-      (entry-kept y next w (merged-other-hops y v _ _ w other) (merged-other-counts y v _ _ w other) e) f)
+  entry-settled N M y v k w low high h c e f =
+      entry-taken x y (settledTable width u x y v k) w (w * width + u) N M e f (settled-taken y v k w low high h c)
 
   pub beyond-settled :
       (m : ℕ) (z y : Table) (v k : ℕ) → v + k ≤ m → Beyond m z y → Beyond m z (settledTable width u x y v k)

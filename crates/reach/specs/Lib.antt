@@ -2,4 +2,5 @@
 pub mod Answer
 pub mod Table
 pub mod Pass
+pub mod Slot
 pub mod Window

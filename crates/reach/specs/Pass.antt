@@ -1,20 +1,18 @@
--- The pass over a plan's records: what a turn of its loop leaves, and what the tables hold at its end. Definitions only.
+-- The pass over a plan's records: how it begins, and what the tables hold at its end. Definitions only.
 -- Assumes nothing.
-use Prim.Native.Nat.{ℕ, _+_, _*_, _-_, _<_}
+use Prim.Native.Nat.{ℕ, _+_, _*_, _<_}
 use mathlib.Core.Path.{_≡_}
-use mathlib.Core.Bool.{Bool, cond, _||_}
+use mathlib.Core.Bool.{Bool, _||_}
 use mathlib.Core.List.{List}
-use lib.Dec.{ltb}
 use lib.ListN.{length, getD, set, drop, replicate}
 use Rattle.temporal.specs.Plan.{Terms, Allowed}
 use Rattle.temporal.specs.Lists.{any, below}
-use Rattle.temporal.specs.Bytes.{contactAt, planOf}
+use Rattle.temporal.specs.Bytes.{planOf}
 use Rattle.temporal.specs.Cause.{planFault}
 use Rattle.temporal.specs.Shortest.{shortestWalks, shortestWalksTo, hops, count}
 use Rattle.temporal.specs.Outcome.{ReachTables, over}
-use Rattle.plan.specs.Record.{inSlot}
 use Rattle.entries.specs.Entry.{stored}
-use Rattle.reach.specs.Table.{Table, tableOf, foldedTable, settledTable, tableOverflows, Fits}
+use Rattle.reach.specs.Table.{Table, tableOf, tableOverflows, Fits}
 
 -- the appearances' table and the stations' table
 pub record Tables : Type 0 where
@@ -49,15 +47,6 @@ unfoldable pub tablesOverflow : ℕ → ℕ → Tables → Bool
 tablesOverflow n width x =
     any (tableOverflows (x .appearances)) (below (n * width)) || any (tableOverflows (x .stations)) (below n)
 
--- one turn: a record of slot u is folded in, or, where there is none left, the slot that lies q slots before the next is
--- settled, unless that is slot 0 or earlier
-unfoldable pub turnedTables : List ℕ → ℕ → ℕ → ℕ → ℕ → ℕ → Tables → Tables
-turnedTables bs n width q u j x =
-    cond (inSlot bs j u)
-    (record { appearances = foldedTable width (x .appearances) (x .stations) (contactAt bs j); stations = x .stations })
-    (cond (ltb u q) x
-    (record { appearances = x .appearances; stations = settledTable width (u + 1 - q) (x .appearances) (x .stations) 0 n }))
-
 -- the entries at j are the hops and the count of the list l
 pub record EntryHolds (x : Table) (j : ℕ) (l : List (List ℕ)) : Type 0 where
   pub hops-there : getD (x .hops) j 0 ≡ hops l
@@ -84,11 +73,3 @@ pub record ReachReady (bs : List ℕ) (n t : ℕ) (terms : Terms) (s : ℕ) (x :
   pub units : Allowed terms
   pub source : s < n
   pub fits : Fits n (t + 1) (x .appearances) (x .stations)
-
--- what a turn asks: an accepted plan with its stations and slots, no more slots of waiting than it has, a slot u no later than
--- the one after which its last slot is settled, and tables that fit
-pub record Turnable (bs : List ℕ) (n width q u : ℕ) (x : Tables) : Type 0 where
-  pub accepted : planFault bs n (width - 1) ≡ 0
-  pub waits : q < width
-  pub slot : u + 1 < width + q
-  pub fits : Fits n width (x .appearances) (x .stations)
