@@ -10,9 +10,11 @@ use std::path::{Path, PathBuf};
 use std::process::{Child, ChildStdin, ChildStdout, Command, Stdio};
 use std::time::Duration;
 
+use lister::plan::KEPT;
+
 use crate::clock::thread_time;
 use crate::measure::{in_turn, Times, WHOLE};
-use crate::plans::{named, plan_of};
+use crate::plans::{named, plan_of, varied, Plan};
 use crate::question::{ask, compare, question_of, Lent, QUESTIONS};
 use crate::side::LIBRARY;
 use crate::tables::{print_head, print_row, timed};
@@ -23,11 +25,13 @@ const SPELL: Duration = Duration::from_millis(10);
 /// The name that both processes are told: where their memory lies depends on its length.
 const NAME: &str = "bench";
 
-/// The process that answers: compares its library with Rust, then times the library.
+/// The process that answers: compares its library with Rust, which keeps every reading, then times the library.
 pub fn serve(name: &str, plan: &str) -> Result<(), String> {
     let plan = plan_of(plan)?;
     let question = question_of(name, &plan)?;
-    compare(&plan, question);
+    if plan.keeping == KEPT {
+        compare(&plan, question);
+    }
     let (n, t, records) = (plan.stations, plan.slots, plan.records());
     let (source, destination) = question.ends();
     println!("{name} from {source} to {destination}, n {n}, T {t}, records {records}");
@@ -105,20 +109,30 @@ fn times(programs: &[PathBuf; 2], question: &str, plan: &str) -> Result<Times, S
     in_turn(WHOLE, |side| sides[side].time())
 }
 
-/// The table of this program's library beside that of another program.
-pub fn table(other: &str) -> Result<(), String> {
+/// A table of this program's library beside that of another program: some questions about some plans.
+fn table(other: &str, title: &str, questions: &[&str], plans: &[Plan]) -> Result<(), String> {
     let this = env::current_exe().map_err(|error| error.to_string())?;
     let programs = [this, PathBuf::from(other)];
     let columns = ["question", "plan", "this, ms", "other, ms", "ratio"];
-    print_head("This archive and the other", &columns);
-    for question in QUESTIONS {
-        for plan in named() {
+    print_head(title, &columns);
+    for question in questions {
+        for plan in plans {
             let times = times(&programs, question, &plan.name)?;
-            let mut cells = vec![question.to_string(), plan.name];
+            let mut cells = vec![question.to_string(), plan.name.clone()];
             cells.extend(timed(&times));
             print_row(&cells);
         }
     }
     println!();
     Ok(())
+}
+
+/// Every question about the named plans.
+pub fn named_plans(other: &str) -> Result<(), String> {
+    table(other, "This archive and the other", &QUESTIONS, &named())
+}
+
+/// Loads for several g and h, and as records, n and T grow.
+pub fn varied_plans(other: &str) -> Result<(), String> {
+    table(other, "Loads of both archives", &["loads"], &varied())
 }

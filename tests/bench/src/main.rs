@@ -25,6 +25,7 @@ const USAGE: &str = "usage:
   bench quick                      fewer plans and runs
   bench against OTHER              the archive beside that of OTHER, another built bench; both keep every reading,
                                    also where OTHER's archive takes no h
+  bench vary OTHER                 loads of both archives for several g and h, and as records, n and T grow
   bench keepings SOURCES           partial loads of so many sources for several h beside h = 255
   bench serve QUESTION PLAN        times of the archive, one for each line of the input
   bench instructions               instructions of both sides, counted by valgrind
@@ -38,7 +39,8 @@ fn run(words: &[&str]) -> Result<(), String> {
     match words {
         [] => tables::all(),
         ["quick"] => tables::quick(),
-        ["against", other] => against::table(other)?,
+        ["against", other] => against::named_plans(other)?,
+        ["vary", other] => against::varied_plans(other)?,
         ["keepings", sources] => {
             let sources = sources.parse().map_err(|_| USAGE.to_string())?;
             keepings::table(sources)?;

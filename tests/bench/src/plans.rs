@@ -146,9 +146,34 @@ pub fn turned() -> [Plan; 2] {
     })
 }
 
+/// The largest random plan with units that drop readings.
+pub fn dropping() -> [Plan; 3] {
+    [128, 16, 4].map(|keeping| {
+        let [largest, ..] = named();
+        Plan {
+            name: format!("h {keeping}"),
+            ..largest.keeping_for(keeping)
+        }
+    })
+}
+
+/// The plans on which an archive is timed beside another besides the named ones.
+pub fn varied() -> Vec<Plan> {
+    let turned = turned().map(|plan| Plan {
+        name: format!("g {}", plan.turnaround),
+        ..plan
+    });
+    let mut plans = Vec::from(turned);
+    plans.extend(dropping());
+    plans.extend(by_records());
+    plans.extend(by_stations());
+    plans.extend(by_slots());
+    plans
+}
+
 /// The plan of a name.
 pub fn plan_of(name: &str) -> Result<Plan, String> {
-    let mut plans = named().into_iter().chain(by_records());
+    let mut plans = named().into_iter().chain(varied());
     let found = plans.find(|plan| plan.name == name);
     found.ok_or(format!("no plan {name}"))
 }

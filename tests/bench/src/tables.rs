@@ -140,7 +140,11 @@ fn turnarounds(effort: Effort) {
             let [least, ..] = named();
             let question = question_of(name, &plan).expect("a known question");
             let times = measure_plans([&plan, &least], question, effort);
-            let mut cells = vec![name.to_string(), plan.name.clone(), plan.turnaround.to_string()];
+            let mut cells = vec![
+                name.to_string(),
+                plan.name.clone(),
+                plan.turnaround.to_string(),
+            ];
             cells.extend(timed(&times));
             print_row(&cells);
         }
