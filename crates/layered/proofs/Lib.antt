@@ -1,0 +1,2 @@
+-- positions of the plan and of the layered plan
+pub mod PositionLaws

@@ -1,0 +1,1 @@
+// The layered plan of a station.
