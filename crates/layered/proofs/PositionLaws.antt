@@ -28,6 +28,20 @@ pub record Start (bs : List ℕ) (u lo : ℕ) : Type 0 where
 unfoldable pub up : List ℕ → Bool → ℕ → ℕ
 up bs layer i = shift bs (contactAt bs i .slot) layer + i
 
+-- position i is one of those from lo to before hi
+pub record Within (bs : List ℕ) (i lo hi : ℕ) : Type 0 where
+  pub from : lo ≤ i
+  pub to : i < hi
+  pub end : hi ≤ records bs
+
+-- what is known of the layered position q of position i in a layer
+pub record Placed (bs : List ℕ) (q i : ℕ) (layer : Bool) : Type 0 where
+  pub there : i < records bs
+  pub slot : slotAt bs q ≡ contactAt bs i .slot
+  pub which : layerOf bs q ≡ layer
+  pub back : down bs q ≡ i
+  pub upward : up bs layer i ≡ q
+
 module _ (bs : List ℕ) where
   -- two such positions are the same
   pub start-once : (u u′ lo lo′ : ℕ) → u ≤ u′ → Start bs u lo → Start bs u′ lo′ → lo ≤ lo′
@@ -74,13 +88,8 @@ module _ (bs : List ℕ) where
 
     -- ---- one slot: its records stand from lo to before hi
 
-    pub record Within (i lo hi : ℕ) : Type 0 where
-      pub from : lo ≤ i
-      pub to : i < hi
-      pub end : hi ≤ records bs
-
     -- a record stands among those of its slot
-    pub slot-has : (u i : ℕ) → i < records bs → contactAt bs i .slot ≡ u → Within i (shift bs u false) (shift bs u true)
+    pub slot-has : (u i : ℕ) → i < records bs → contactAt bs i .slot ≡ u → Within bs i (shift bs u false) (shift bs u true)
     unfolding shift
     slot-has u i h here =
         let first = start-found u in
@@ -104,17 +113,9 @@ module _ (bs : List ℕ) where
 
     -- ---- up and down
 
-    -- what is known of the layered position q of position i in a layer
-    pub record Placed (q i : ℕ) (layer : Bool) : Type 0 where
-      pub there : i < records bs
-      pub slot : slotAt bs q ≡ contactAt bs i .slot
-      pub which : layerOf bs q ≡ layer
-      pub back : down bs q ≡ i
-      pub upward : up bs layer i ≡ q
-
     -- the two layers of a slot, by numbers: lo and hi, and q between twice the one and twice the other
     placed-by : (q : ℕ) (u : ℕ) → slotAt bs q ≡ u → (layer : Bool) → layerOf bs q ≡ layer → (i : ℕ) → i < records bs
-        → contactAt bs i .slot ≡ u → q ≡ shift bs u layer + i → Placed q i layer
+        → contactAt bs i .slot ≡ u → q ≡ shift bs u layer + i → Placed bs q i layer
     unfolding down up
     placed-by q u here layer which i there same e =
         record {
@@ -138,7 +139,7 @@ module _ (bs : List ℕ) where
     upper q u here h = rw here (le-leb (shift bs u false + shift bs u true) q h)
 
     -- the layered position of a position
-    pub placed-up : (layer : Bool) (i : ℕ) → i < records bs → Placed (up bs layer i) i layer
+    pub placed-up : (layer : Bool) (i : ℕ) → i < records bs → Placed bs (up bs layer i) i layer
     unfolding up
     placed-up false i h =
         let u = contactAt bs i .slot in
@@ -158,7 +159,7 @@ module _ (bs : List ℕ) where
         placed-by q u here true (upper q u here (omega arith)) i h refl refl
 
     -- the position of a layered position
-    pub placed-down : (q : ℕ) → q < 2 * records bs → Placed q (down bs q) (layerOf bs q)
+    pub placed-down : (q : ℕ) → q < 2 * records bs → Placed bs q (down bs q) (layerOf bs q)
     unfolding slotAt
     placed-down q h =
         let u = slotAt bs q in
@@ -168,11 +169,11 @@ module _ (bs : List ℕ) where
         u : ℕ
         u = slotAt bs q
 
-        whole : (i : ℕ) (layer : Bool) → Placed q i layer → Placed q (down bs q) (layerOf bs q)
+        whole : (i : ℕ) (layer : Bool) → Placed bs q i layer → Placed bs q (down bs q) (layerOf bs q)
         whole i layer p = rw (p .back, p .which) p
 
-        low : q < shift bs u false + shift bs u true → Within (q / 2) (shift bs u false) (shift bs u true)
-            → Placed q (down bs q) (layerOf bs q)
+        low : q < shift bs u false + shift bs u true → Within bs (q / 2) (shift bs u false) (shift bs u true)
+            → Placed bs q (down bs q) (layerOf bs q)
         low less w =
             let from = w .from in
             let to = w .to in
@@ -181,8 +182,8 @@ module _ (bs : List ℕ) where
             whole i false
             (placed-by q u refl false (lower q u refl less) i (omega arith) (slot-only u i (omega arith) (omega arith)) (omega arith))
 
-        high : shift bs u false + shift bs u true ≤ q → Within (q / 2) (shift bs u false) (shift bs u true)
-            → Placed q (down bs q) (layerOf bs q)
+        high : shift bs u false + shift bs u true ≤ q → Within bs (q / 2) (shift bs u false) (shift bs u true)
+            → Placed bs q (down bs q) (layerOf bs q)
         high more w =
             let from = w .from in
             let to = w .to in

@@ -19,6 +19,10 @@ inLayer n true u = n + u
 unfoldable pub lowered : ℕ → ℕ → ℕ
 lowered n u = cond (ltb u n) u (u - n)
 
+-- a contact with the plan's stations of its ends
+abbrev pub loweredContact : ℕ → Contact → Contact
+loweredContact n c = record { slot = c .slot; sender = lowered n (c .sender); hearer = lowered n (c .hearer) }
+
 -- the layer in which a reading that is sent in a layer is heard: in layer 1 from v on
 unfoldable pub heardIn : ℕ → Contact → Bool → Bool
 heardIn v c layer = layer || eqb (c .sender) v
