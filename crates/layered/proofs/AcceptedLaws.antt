@@ -63,7 +63,7 @@ raised-above n v layer c d slot above =
     (λ none.
     let same : c .sender ≡ d .sender = omega arith in
     let hearers = ltb-true (c .hearer) (d .hearer) (sym (above-hearer c d slot same) ∙ above) in
-    let heard : heardIn v c layer ≡ heardIn v d layer = ap (λ s. layer || eqb s v) same in
+    let heard : heardIn v c layer ≡ heardIn v d layer = ap (λ s. layer || eqb v s) same in
     above-hearer _ _ slot (ap (inLayer n layer) same) ∙
     lt-ltb (inLayer n (heardIn v c layer) (c .hearer)) (inLayer n (heardIn v d layer) (d .hearer))
     (subst (λ l. inLayer n l (c .hearer) < inLayer n (heardIn v d layer) (d .hearer)) (sym heard)

@@ -37,6 +37,7 @@ pub record Within (bs : List ℕ) (i lo hi : ℕ) : Type 0 where
 -- what is known of the layered position q of position i in a layer
 pub record Placed (bs : List ℕ) (q i : ℕ) (layer : Bool) : Type 0 where
   pub there : i < records bs
+  pub below : q < 2 * records bs
   pub slot : slotAt bs q ≡ contactAt bs i .slot
   pub which : layerOf bs q ≡ layer
   pub back : down bs q ≡ i
@@ -113,6 +114,11 @@ module _ (bs : List ℕ) where
 
     -- ---- up and down
 
+    shift-inside : (u : ℕ) (layer : Bool) → shift bs u layer ≤ records bs
+    unfolding shift
+    shift-inside u false = start-found u .inside
+    shift-inside u true = start-found (u + 1) .inside
+
     -- the two layers of a slot, by numbers: lo and hi, and q between twice the one and twice the other
     placed-by : (q : ℕ) (u : ℕ) → slotAt bs q ≡ u → (layer : Bool) → layerOf bs q ≡ layer → (i : ℕ) → i < records bs
         → contactAt bs i .slot ≡ u → q ≡ shift bs u layer + i → Placed bs q i layer
@@ -120,6 +126,7 @@ module _ (bs : List ℕ) where
     placed-by q u here layer which i there same e =
         record {
           there = there;
+          below = omega (arith, shift-inside u layer);
           slot = here ∙ sym same;
           which = which;
           back = rw (here, which) (omega arith);

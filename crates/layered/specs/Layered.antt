@@ -25,7 +25,7 @@ loweredContact n c = record { slot = c .slot; sender = lowered n (c .sender); he
 
 -- the layer in which a reading that is sent in a layer is heard: in layer 1 from v on
 unfoldable pub heardIn : ℕ → Contact → Bool → Bool
-heardIn v c layer = layer || eqb (c .sender) v
+heardIn v c layer = layer || eqb v (c .sender)
 
 -- a contact whose sender is in a layer
 unfoldable pub raised : ℕ → ℕ → Bool → Contact → Contact
