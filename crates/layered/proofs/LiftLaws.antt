@@ -64,7 +64,7 @@ leads-raised n v layer c u h k =
     ))
 
 -- a contact leads from its sender alone
-sent-by : (c : Contact) (u w : ℕ) → leadsTo c u ≡ some w → u ≡ c .sender
+pub sent-by : (c : Contact) (u w : ℕ) → leadsTo c u ≡ some w → u ≡ c .sender
 sent-by c u w e =
     by-cases (ℕ-discrete u (c .sender)) (λ same. same)
     (λ other. let none-there = leads-none c u other in absurd (let z : _≡_ {A = ℕ} 0 1 = cc in omega arith))
