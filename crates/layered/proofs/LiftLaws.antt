@@ -1,5 +1,5 @@
--- The walks of a plan in its layered plan. A walk is lifted leg by leg: the layer of a leg is that of the one before it, or layer 1 once a leg
--- is sent by v. Every walk lifts in one way, and a walk of the layered plan from layer 0 is the lift of the walk below it.
+-- The walks of a plan in its layered plan. A walk is lifted leg by leg: a leg's layer is that of the leg before it, or layer 1 once a leg is
+-- sent by v. Every walk lifts in one way, and a walk of the layered plan from layer 0 is the lift of the walk below it.
 -- Assumes nothing.
 use Prim.Native.Nat.{ℕ, zero, suc, _+_, _-_, _*_, _≤_, _<_}
 use native.Mathlib.Omega.{arith}

@@ -12,11 +12,8 @@ use lib.Dec.{leb}
 use Rattle.temporal.specs.Lists.{below, firstWhere}
 use Rattle.temporal.specs.Bytes.{contactAt, records}
 use Rattle.temporal.proofs.ListLaws.{FirstBelow, first-below}
+use Rattle.layered.specs.Writing.{Sorted}
 use Rattle.layered.specs.Layered.{slotStart, slotAt, shift, layerOf, down}
-
--- the records' slots do not fall
-abbrev pub Sorted : List ℕ → Type 0
-Sorted bs = (i k : ℕ) → i ≤ k → k < records bs → contactAt bs i .slot ≤ contactAt bs k .slot
 
 -- the records before position lo are in slots before u, the others are not
 pub record Start (bs : List ℕ) (u lo : ℕ) : Type 0 where
@@ -114,7 +111,7 @@ module _ (bs : List ℕ) where
 
     -- ---- up and down
 
-    shift-inside : (u : ℕ) (layer : Bool) → shift bs u layer ≤ records bs
+    pub shift-inside : (u : ℕ) (layer : Bool) → shift bs u layer ≤ records bs
     unfolding shift
     shift-inside u false = start-found u .inside
     shift-inside u true = start-found (u + 1) .inside

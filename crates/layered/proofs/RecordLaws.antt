@@ -8,45 +8,42 @@ use mathlib.Core.List.{List, [], _∷_, _++_, flatMap}
 use lib.ListN.{length, getD, length-append, List·getD-append}
 use lib.Seq.{getD-append-add}
 use borrow.Author.Tests.{lt-ltb, le-ltb}
-use Rattle.temporal.specs.Lists.{from, below}
+use Rattle.temporal.specs.Lists.{from}
 use Rattle.temporal.specs.Plan.{Contact, units}
 use Rattle.temporal.specs.Bytes.{wordAt, contactAt, records}
 use Rattle.temporal.specs.Cause.{planFault}
 use Rattle.temporal.proofs.Accepted.{accepted}
 use Rattle.temporal.proofs.PlanLaws.{slots-sorted}
 use Rattle.layered.specs.Layered.{inLayer, lowered, loweredContact, heardIn, raised, layerOf, down}
-use Rattle.layered.specs.Layered.{layeredContact, recordBytes, layered}
-use Rattle.layered.proofs.PositionLaws.{Sorted, placed-down}
+use Rattle.layered.specs.Layered.{layeredContact, recordBytes, bytesFrom, layered}
+use Rattle.layered.specs.Writing.{Sorted}
+use Rattle.layered.proofs.PositionLaws.{placed-down}
 
 -- ---- records one behind another
 
 module _ (f : ℕ → Contact) where
-  -- the bytes of the contacts f i, f (i + 1), .., k of them
-  abbrev pub bytesFrom : ℕ → ℕ → List ℕ
-  bytesFrom i k = flatMap (λ q. recordBytes (f q)) (from i k)
-
-  pub length-bytes : (i k : ℕ) → length (bytesFrom i k) ≡ k * 6
+  pub length-bytes : (i k : ℕ) → length (bytesFrom f i k) ≡ k * 6
   unfolding from flatMap
   length-bytes i zero = refl
   length-bytes i (suc k) = omega (arith, length-bytes (suc i) k)
 
-  byte-at : (i k q d x : ℕ) → q < k → d < 6 → x ≡ q * 6 + d → getD (bytesFrom i k) x 0 ≡ getD (recordBytes (f (i + q))) d 0
+  byte-at : (i k q d x : ℕ) → q < k → d < 6 → x ≡ q * 6 + d → getD (bytesFrom f i k) x 0 ≡ getD (recordBytes (f (i + q))) d 0
   unfolding from flatMap
   byte-at i zero q d x h small e = absurd (omega arith)
   byte-at i (suc k) zero d x h small e =
       let place : x ≡ d = omega arith in
       let same : i ≡ i + zero = omega arith in
-      ap (λ y. getD (bytesFrom i (suc k)) y 0) place ∙
-      List·getD-append (recordBytes (f i)) (bytesFrom (suc i) k) 0 d small ∙ ap (λ y. getD (recordBytes (f y)) d 0) same
+      ap (λ y. getD (bytesFrom f i (suc k)) y 0) place ∙
+      List·getD-append (recordBytes (f i)) (bytesFrom f (suc i) k) 0 d small ∙ ap (λ y. getD (recordBytes (f y)) d 0) same
   byte-at i (suc k) (suc q) d x h small e =
       let place : x ≡ length (recordBytes (f i)) + (q * 6 + d) = omega arith in
       let next : suc i + q ≡ i + suc q = omega arith in
-      ap (λ y. getD (bytesFrom i (suc k)) y 0) place ∙
-      getD-append-add (recordBytes (f i)) (bytesFrom (suc i) k) (q * 6 + d) 0 ∙
+      ap (λ y. getD (bytesFrom f i (suc k)) y 0) place ∙
+      getD-append-add (recordBytes (f i)) (bytesFrom f (suc i) k) (q * 6 + d) 0 ∙
       byte-at (suc i) k q d (q * 6 + d) (omega arith) small refl ∙ ap (λ y. getD (recordBytes (f y)) d 0) next
 
   -- a record's contact is the one whose bytes stand there
-  pub contact-bytes : (i k q : ℕ) → q < k → contactAt (bytesFrom i k) q ≡ f (i + q)
+  pub contact-bytes : (i k q : ℕ) → q < k → contactAt (bytesFrom f i k) q ≡ f (i + q)
   unfolding contactAt wordAt
   contact-bytes i k q h =
       rw (
@@ -63,7 +60,7 @@ module _ (f : ℕ → Contact) where
 
 module _ (bs : List ℕ) (n v : ℕ) where
   pub layered-length : length (layered bs n v) ≡ records bs * 12
-  unfolding layered below
+  unfolding layered
   layered-length = omega (arith, length-bytes (layeredContact bs n v) 0 (2 * records bs))
 
   -- each record stands in it twice
@@ -72,7 +69,7 @@ module _ (bs : List ℕ) (n v : ℕ) where
   layered-records = let size = layered-length in omega arith
 
   pub layered-contact : (q : ℕ) → q < 2 * records bs → contactAt (layered bs n v) q ≡ layeredContact bs n v q
-  unfolding layered below
+  unfolding layered
   layered-contact q h = contact-bytes (layeredContact bs n v) 0 (2 * records bs) q h ∙ ap (layeredContact bs n v) (zero-add q)
 
 -- a station goes up and comes down
@@ -100,3 +97,16 @@ module _ (bs : List ℕ) (n t : ℕ) (ok : planFault bs n t ≡ 0) where
       let within = accepted bs n t ok .contact (down bs q) (placed-down bs accepted-sorted q h .there) in
       ap (loweredContact n) (layered-contact bs n v q h) ∙
       lowered-raised n v (layerOf bs q) (contactAt bs (down bs q)) (within .sender-station) (within .hearer-station)
+
+-- the plan's station, as code finds it
+pub lowered-low : (n u : ℕ) → u < n → u ≡ lowered n u
+unfolding lowered
+lowered-low n u h = rw (lt-ltb u n h)
+
+pub lowered-high : (n u : ℕ) → n ≤ u → u - n ≡ lowered n u
+unfolding lowered
+lowered-high n u h = rw (le-ltb u n h)
+
+pub lowered-whole : (n : ℕ) (c k : Contact) (sender hearer : ℕ) → c ≡ k → sender ≡ lowered n (c .sender) → hearer ≡ lowered n (c .hearer)
+    → record { slot = c .slot; sender = sender; hearer = hearer } ≡ loweredContact n k
+lowered-whole n c k sender hearer e first last = rw (first, last, e)

@@ -200,11 +200,12 @@ module _ (bs : List ℕ) (n t : ℕ) (terms : Terms) (v : ℕ) (ok : planFault b
             there u k =
                 let (walk, size) = in-complete-list (layered bs n v) (2 * n) t terms accepted-double s (n + z) u .0 k in
                 let (same, below, has) = walk-down u walk in
-                mem-map (lifted bs v false) inside .1
-                (map (down bs) u,
-                mem-select (isInterior (planOf bs n t terms) s z v) (shortestWalksTo (planOf bs n t terms) s z) .1
-                (in-complete-list bs n t terms ok s z (map (down bs) u) .1 (below, length-map u (down bs) ∙ size ∙ hops-same w m), has),
-                sym same)
+                mem-map (lifted bs v false) inside .1 (
+                  map (down bs) u,
+                  mem-select (isInterior (planOf bs n t terms) s z v) (shortestWalksTo (planOf bs n t terms) s z) .1
+                      (in-complete-list bs n t terms ok s z (map (down bs) u) .1 (below, length-map u (down bs) ∙ size ∙ hops-same w m), has),
+                  sym same,
+                )
 
             back : (u : List ℕ) → List·Memᴰ u (map (lifted bs v false) inside) → List·Memᴰ u double
             back u k =

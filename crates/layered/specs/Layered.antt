@@ -6,7 +6,7 @@ use Prim.Native.Nat.{ℕ, _+_, _-_, _*_, _/_}
 use mathlib.Core.Bool.{Bool, true, false, cond, _||_}
 use mathlib.Core.List.{List, [], _∷_, flatMap}
 use lib.Dec.{ltb, leb, eqb}
-use Rattle.temporal.specs.Lists.{below, firstWhere}
+use Rattle.temporal.specs.Lists.{from, below, firstWhere}
 use Rattle.temporal.specs.Plan.{Contact}
 use Rattle.temporal.specs.Bytes.{contactAt, records}
 
@@ -63,6 +63,10 @@ layeredContact bs n v q = raised n v (layerOf bs q) (contactAt bs (down bs q))
 abbrev pub recordBytes : Contact → List ℕ
 recordBytes c = 0 ∷ c .slot ∷ 0 ∷ c .sender ∷ 0 ∷ c .hearer ∷ []
 
+-- the bytes of the contacts f q, f (q + 1), .., k of them
+abbrev pub bytesFrom : (ℕ → Contact) → ℕ → ℕ → List ℕ
+bytesFrom f q k = flatMap (λ i. recordBytes (f i)) (from q k)
+
 -- The layered plan's bytes: each record of the plan twice.
 unfoldable pub layered : List ℕ → ℕ → ℕ → List ℕ
-layered bs n v = flatMap (λ q. recordBytes (layeredContact bs n v q)) (below (2 * records bs))
+layered bs n v = bytesFrom (layeredContact bs n v) 0 (2 * records bs)

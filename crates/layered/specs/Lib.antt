@@ -1,2 +1,3 @@
--- The layered plan of a station. Definitions only; what follows from them is in proofs/.
+-- The layered plan of a station, and what writing it asks. Definitions only; what follows from them is in proofs/.
 pub mod Layered
+pub mod Writing
