@@ -1,5 +1,5 @@
 -- The layered plan of an accepted plan is accepted. Assumes nothing.
-use Prim.Native.Nat.{ℕ, suc, _+_, _-_, _*_, _/_, _≤_, _<_}
+use Prim.Native.Nat.{ℕ, suc, _*_, _/_, _≤_, _<_}
 use native.Mathlib.Omega.{arith}
 use native.Mathlib.Decide.{decLt, ℕ-discrete}
 use mathlib.Core.Path.{_≡_, refl, sym, ap, subst, _∙_}
@@ -14,10 +14,9 @@ use Rattle.temporal.specs.Cause.{isAbove, planFault}
 use Rattle.temporal.proofs.ListLaws.{not-both}
 use Rattle.temporal.proofs.CheckLaws.{above-slot, above-sender, below-sender, above-hearer}
 use Rattle.temporal.proofs.Accepted.{Accepted, ContactWithin, accepted}
-use Rattle.temporal.proofs.PlanLaws.{slots-sorted}
 use Rattle.temporal.proofs.RulesKept.{rules-kept}
 use Rattle.layered.specs.Layered.{inLayer, heardIn, raised, slotAt, shift, layerOf, down, layeredContact, layered}
-use Rattle.layered.proofs.PositionLaws.{Placed, Within, up, slot-has, placed-down}
+use Rattle.layered.proofs.PositionLaws.{Placed, up, slot-has, placed-down}
 use Rattle.layered.proofs.RecordLaws.{layered-length, layered-records, layered-contact, accepted-sorted}
 
 -- ---- stations and contacts of a layer

@@ -1,13 +1,12 @@
 -- The layered plan written slot after slot, and what a caller of the code shows and has. Assumes nothing.
-use Prim.Native.Nat.{ℕ, zero, suc, _+_, _-_, _*_, _/_, _≤_, _<_}
+use Prim.Native.Nat.{ℕ, _+_, _-_, _*_, _/_, _≤_, _<_}
 use native.Mathlib.Omega.{arith}
 use native.Mathlib.Decide.{decLt}
 use native.Mathlib.Nat.{zero-add}
-use mathlib.Core.Path.{_≡_, refl, sym, ap, ap₂, subst, _∙_}
-use mathlib.Core.Bool.{Bool, true, false}
+use mathlib.Core.Path.{_≡_, ap, subst, _∙_}
+use mathlib.Core.Bool.{true, false}
 use mathlib.Core.List.{List, _++_}
 use mathlib.Core.Logic.{_≢_, by-cases}
-use borrow.Author.Tests.{le-leb, lt-leb, eq-eqb, ne-eqb}
 use lib.ListN.{length, take, drop}
 use lib.Seq.{sets, sets-eq, take-at}
 use Rattle.temporal.specs.Plan.{Contact}
@@ -17,12 +16,11 @@ use Rattle.temporal.specs.Cause.{planFault}
 use Rattle.temporal.proofs.Accepted.{accepted}
 use Rattle.plan.specs.Record.{SlotRecords}
 use Rattle.plan.proofs.SlotLaws.{in-slot-inv, in-slot-none}
-use Rattle.layered.specs.Layered.{inLayer, heardIn, raised, slotAt, shift, layerOf, down, layeredContact}
-use Rattle.layered.specs.Layered.{recordBytes, bytesFrom, layered}
-use Rattle.layered.specs.Writing.{Small, Layerable, Placeable, SlotBounds}
-use Rattle.layered.proofs.PositionLaws.{Start, start-at, up, Placed, placed-down, shift-inside}
+use Rattle.layered.specs.Layered.{slotAt, shift, layeredContact}
+use Rattle.layered.specs.Layered.{bytesFrom, layered}
+use Rattle.layered.specs.Writing.{Layerable, SlotBounds}
+use Rattle.layered.proofs.PositionLaws.{Start, start-at}
 use Rattle.layered.proofs.RecordLaws.{length-bytes, layered-length, accepted-sorted}
-use Rattle.layered.proofs.AcceptedLaws.{station-below}
 use Rattle.layered.proofs.WritingLaws.{Written, written-none, written-more, written-all}
 
 -- ---- slot after slot

@@ -1,3 +1,5 @@
+-- figures of a small plan by computation
+pub mod LayeredFigures
 -- positions of the plan and of the layered plan
 pub mod PositionLaws
 -- the layered plan's records, and that it is accepted

@@ -1,29 +1,28 @@
--- The walks of a plan in its layered plan. A walk is lifted leg by leg: a leg's layer is that of the leg before it, or layer 1 once a leg is
--- sent by v. Every walk lifts in one way, and a walk of the layered plan from layer 0 is the lift of the walk below it.
+-- The walks of a plan in its layered plan. A walk is lifted leg by leg: a leg's layer is that of the leg before it, or layer 1 once a leg
+-- is sent by v. Every walk lifts in one way, and a walk of the layered plan from layer 0 is the lift of the walk below it.
 -- Assumes nothing.
-use Prim.Native.Nat.{ℕ, zero, suc, _+_, _-_, _*_, _≤_, _<_}
+use Prim.Native.Nat.{ℕ, _+_, _*_, _<_}
 use native.Mathlib.Omega.{arith}
 use native.Mathlib.Decide.{ℕ-discrete}
 use mathlib.Core.Path.{_≡_, refl, sym, ap, ap₂, subst, _∙_}
-use mathlib.Core.Bool.{Bool, true, false, cond, _&&_, _||_, and-false}
+use mathlib.Core.Bool.{Bool, true, false, cond, _&&_, and-false}
 use mathlib.Core.List.{List, [], _∷_, map, List·Memᴰ, List·Memᴰ·head, List·Memᴰ·tail, List·Memᴰ·not-nil}
-use mathlib.Core.Logic.{_⊎_, inl, inr, ⊎-elim, _≢_, by-cases}
+use mathlib.Core.Logic.{by-cases}
 use mathlib.Core.Option.{Option, none, some, Option·map, bind, map-eq-some-iff}
-use borrow.Author.Tests.{eq-eqb, ne-eqb, eqb-true, eqb-false}
+use borrow.Author.Tests.{eq-eqb, ne-eqb}
 use lib.Dec.{eqb}
-use lib.ListN.{length, getElem?}
-use Rattle.temporal.specs.Lists.{Before, Rising}
-use Rattle.temporal.specs.Plan.{Contact, Plan, Terms, Appearance, start, leadsTo, mayFollow}
-use Rattle.temporal.specs.Walk.{along, step, run, holds, endsIn, isAt}
+use lib.ListN.{getElem?}
+use Rattle.temporal.specs.Plan.{Contact, Plan, Terms, Appearance, leadsTo, mayFollow}
+use Rattle.temporal.specs.Walk.{along, step, holds, endsIn, isAt}
 use Rattle.temporal.specs.Bytes.{contactAt, records, planOf}
 use Rattle.temporal.specs.Cause.{planFault}
 use Rattle.temporal.proofs.PlanLaws.{contact-there, contact-inv, contact-within}
 use Rattle.temporal.proofs.RuleLaws.{leads-below, leads-none}
-use Rattle.temporal.proofs.Accepted.{ContactWithin, accepted}
+use Rattle.temporal.proofs.Accepted.{accepted}
 use Rattle.temporal.proofs.ListLaws.{by-member}
-use Rattle.temporal.proofs.WalkLaws.{StepBy, step-inv, ends-nil, ends-cons, ends-step}
+use Rattle.temporal.proofs.WalkLaws.{step-inv, ends-nil, ends-cons, ends-step}
 use Rattle.layered.specs.Layered.{inLayer, heardIn, raised, layerOf, down, layeredContact, layered}
-use Rattle.layered.proofs.PositionLaws.{Placed, up, placed-up, placed-down, up-rises}
+use Rattle.layered.proofs.PositionLaws.{Placed, up, placed-up, placed-down}
 use Rattle.layered.proofs.RecordLaws.{layered-records, layered-contact, accepted-sorted}
 
 -- an appearance in a layer

@@ -1,30 +1,22 @@
 -- What the code that writes the layered plan rests on: one contact raised, one place, and the records of one slot.
 -- Assumes nothing.
-use Prim.Native.Nat.{ℕ, zero, suc, _+_, _-_, _*_, _/_, _≤_, _<_}
+use Prim.Native.Nat.{ℕ, _+_, _-_, _*_, _≤_, _<_}
 use native.Mathlib.Omega.{arith}
-use native.Mathlib.Decide.{decLt}
-use native.Mathlib.Nat.{zero-add}
-use mathlib.Core.Path.{_≡_, refl, sym, ap, ap₂, subst, _∙_}
+use mathlib.Core.Path.{_≡_, sym, ap, ap₂, _∙_}
 use mathlib.Core.Bool.{Bool, true, false}
-use mathlib.Core.List.{List, _++_}
-use mathlib.Core.Logic.{_≢_, by-cases}
+use mathlib.Core.List.{List}
+use mathlib.Core.Logic.{_≢_}
 use borrow.Author.Tests.{le-leb, lt-leb, eq-eqb, ne-eqb}
-use lib.ListN.{length, take, drop}
-use lib.Seq.{sets, sets-eq, take-at}
+use lib.ListN.{length}
+use lib.Seq.{sets}
 use Rattle.temporal.specs.Plan.{Contact}
-use Rattle.temporal.specs.Outcome.{over}
 use Rattle.temporal.specs.Bytes.{contactAt, records}
-use Rattle.temporal.specs.Cause.{planFault}
-use Rattle.temporal.proofs.Accepted.{accepted}
-use Rattle.plan.specs.Record.{SlotRecords}
-use Rattle.plan.proofs.SlotLaws.{in-slot-inv, in-slot-none}
 use Rattle.layered.specs.Layered.{inLayer, heardIn, raised, slotAt, shift, layerOf, down, layeredContact}
 use Rattle.layered.specs.Layered.{recordBytes, bytesFrom, layered}
 use Rattle.layered.specs.Writing.{Small, Layerable, Placeable, SlotBounds}
-use Rattle.layered.proofs.PositionLaws.{Start, start-at, up, Placed, placed-down, shift-inside}
-use Rattle.layered.proofs.RecordLaws.{length-bytes, layered-length, accepted-sorted}
+use Rattle.layered.proofs.PositionLaws.{up, placed-down, shift-inside}
 use Rattle.layered.proofs.AcceptedLaws.{station-below}
-use Rattle.layered.proofs.WritingLaws.{Written, written-none, written-more, written-all}
+use Rattle.layered.proofs.WritingLaws.{Written, written-all}
 
 -- ---- one contact
 

@@ -1,27 +1,27 @@
 -- The shortest walks of the layered plan from s to z in layer 1 are, lowered, the plan's shortest walks from s to z that have v inside, in
 -- their order. Assumes nothing.
-use Prim.Native.Nat.{ℕ, zero, suc, _+_, _*_, _≤_, _<_}
+use Prim.Native.Nat.{ℕ, suc, _+_, _*_, _≤_, _<_}
 use native.Mathlib.Omega.{arith}
 use mathlib.Core.Path.{_≡_, refl, sym, ap, ap₂, subst, _∙_}
-use mathlib.Core.Bool.{Bool, true, false, not, _&&_, _||_, or-assoc, or-false, and-eq-true-iff}
-use mathlib.Core.List.{List, [], _∷_, map, map-map, List·Memᴰ, List·Memᴰ·head, List·Memᴰ·tail, List·Memᴰ·not-nil}
-use mathlib.Core.Logic.{_⊎_, inl, inr, ⊎-elim, _≢_, _↔_}
+use mathlib.Core.Bool.{Bool, true, false, _&&_, _||_, or-assoc, or-false, and-eq-true-iff}
+use mathlib.Core.List.{List, [], _∷_, map, List·Memᴰ, List·Memᴰ·head, List·Memᴰ·tail}
+use mathlib.Core.Logic.{_⊎_, inl, inr, ⊎-elim, _≢_}
 use mathlib.Core.Option.{some}
 use borrow.Author.Tests.{eqb-true, ne-eqb}
 use lib.Dec.{eqb}
 use lib.ListN.{length, length-map}
 use Rattle.temporal.specs.Lists.{select, member, any, Before, Rising}
-use Rattle.temporal.specs.Plan.{Contact, Plan, Terms, Appearance, start}
-use Rattle.temporal.specs.Walk.{run, lastOr, stationsOf, holds, endsIn, isAt, isWalkTo, isInterior}
-use Rattle.temporal.specs.Shortest.{shortestWalksTo, hops, through}
+use Rattle.temporal.specs.Plan.{Contact, Terms, Appearance, start}
+use Rattle.temporal.specs.Walk.{run, lastOr, stationsOf, holds, isAt, isWalkTo, isInterior}
+use Rattle.temporal.specs.Shortest.{shortestWalksTo, hops, count, through}
 use Rattle.temporal.specs.Bytes.{contactAt, records, planOf}
 use Rattle.temporal.specs.Cause.{planFault}
 use Rattle.temporal.proofs.Accepted.{accepted}
-use Rattle.temporal.proofs.PlanLaws.{contact-there, contact-inv, contacts-length}
-use Rattle.temporal.proofs.ListLaws.{mem-map, mem-select, rising-select, length-zero, empty-or-member, not-both}
+use Rattle.temporal.proofs.PlanLaws.{contact-inv, contacts-length}
+use Rattle.temporal.proofs.ListLaws.{mem-map, mem-select, rising-select, empty-or-member}
 use Rattle.temporal.proofs.ShortestLaws.{hops-empty}
 use Rattle.temporal.proofs.WalkLaws.{run-nil, run-cons, run-positions, step-inv, ends-inv}
-use Rattle.temporal.proofs.Adequacy.{in-complete-list, walk-at-least, walk-within-slots, complete-list-rises, few-hops}
+use Rattle.temporal.proofs.Adequacy.{in-complete-list, walk-at-least, walk-within-slots, complete-list-rises}
 use Rattle.layered.specs.Layered.{inLayer, heardIn, down, layered}
 use Rattle.layered.proofs.PositionLaws.{up, placed-up, up-rises}
 use Rattle.layered.proofs.RecordLaws.{accepted-sorted}
@@ -200,12 +200,11 @@ module _ (bs : List ℕ) (n t : ℕ) (terms : Terms) (v : ℕ) (ok : planFault b
             there u k =
                 let (walk, size) = in-complete-list (layered bs n v) (2 * n) t terms accepted-double s (n + z) u .0 k in
                 let (same, below, has) = walk-down u walk in
-                mem-map (lifted bs v false) inside .1 (
-                  map (down bs) u,
-                  mem-select (isInterior (planOf bs n t terms) s z v) (shortestWalksTo (planOf bs n t terms) s z) .1
-                      (in-complete-list bs n t terms ok s z (map (down bs) u) .1 (below, length-map u (down bs) ∙ size ∙ hops-same w m), has),
-                  sym same,
-                )
+                let fewest = length-map u (down bs) ∙ size ∙ hops-same w m in
+                let listed = in-complete-list bs n t terms ok s z (map (down bs) u) .1 (below, fewest) in
+                let plain = shortestWalksTo (planOf bs n t terms) s z in
+                mem-map (lifted bs v false) inside .1
+                (map (down bs) u, mem-select (isInterior (planOf bs n t terms) s z v) plain .1 (listed, has), sym same)
 
             back : (u : List ℕ) → List·Memᴰ u (map (lifted bs v false) inside) → List·Memᴰ u double
             back u k =
@@ -227,3 +226,16 @@ module _ (bs : List ℕ) (n t : ℕ) (terms : Terms) (v : ℕ) (ok : planFault b
             ap (map (map (down bs))) (lifts (m .0) (m .1)) ∙
             come-down inside (λ u k. fits-walk u (member-of u k .walk)))
             (empty-or-member inside)
+
+        -- so there are as many as the through count says,
+        pub layered-count : 0 < through (planOf bs n t terms) s z v
+            → count (shortestWalksTo (planOf (layered bs n v) (2 * n) t terms) s (n + z)) ≡ through (planOf bs n t terms) s z v
+        unfolding through
+        layered-count positive = sym (length-map double (map (down bs))) ∙ ap length (layered-walks positive)
+
+        -- with the hops of the pair
+        pub layered-hops : 0 < through (planOf bs n t terms) s z v
+            → hops (shortestWalksTo (planOf (layered bs n v) (2 * n) t terms) s (n + z)) ≡ hops (shortestWalksTo (planOf bs n t terms) s z)
+        unfolding through
+        layered-hops positive =
+            ⊎-elim (λ none. absurd (omega (arith, ap length none))) (λ m. hops-same (m .0) (m .1)) (empty-or-member inside)

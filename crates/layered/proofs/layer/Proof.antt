@@ -28,9 +28,10 @@ write-slot-requires c κs =
     let found = c .before in
     let head = found .before .before in
     let pre = head .before .before .before .pre in
-    let inv = head .loop .inv in
-    (layerable-kept _ _ _ _ (inv .written .same-length) pre,
-    layering-bounds _ _ _ _ pre _ _ inv (omega arith) _ (found .slot-end-of .ensures))
+    let inv = head .loop .inv in (
+      layerable-kept _ _ _ _ (inv .written .same-length) pre,
+      layering-bounds _ _ _ _ pre _ _ inv (omega arith) _ (found .slot-end-of .ensures),
+    )
 
 loop-less : tie.Need-loop-less Inv-loop μ-loop
 unfolding records
