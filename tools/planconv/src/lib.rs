@@ -2,18 +2,23 @@
 //!
 //! A line is "slot a b": three decimal numbers from 0 to 65535, blanks between them; a sends and b
 //! hears. The bytes of a record are the same three numbers, each 16 bits, high byte first. Between
-//! lines and bytes order is kept, and no rule of plans is looked at.
+//! lines and bytes order is kept, and no rule of plans is looked at. Names of stations stand in remarks. A
+//! plan's first fault is explained from its bytes.
 
 mod double;
+mod explain;
+mod names;
 
 use std::fmt;
 
 pub use double::double;
+pub use explain::{explain, sizes, words, Limits, Sizes, LIBRARY, PROGRAM};
+pub use names::{name_lines, names, Names};
 
 /// The numbers of one record: slot, a, b.
 const FIELDS: usize = 3;
 /// The bytes of one record.
-const RECORD_BYTES: usize = 2 * FIELDS;
+pub const RECORD_BYTES: usize = 2 * FIELDS;
 
 /// Why there is no conversion.
 #[derive(Clone, Debug, PartialEq, Eq)]
@@ -51,6 +56,14 @@ pub enum LineFault {
     NotANumber(String),
     /// The number does not fit 16 bits.
     TooLarge(String),
+    /// A remark that names a station ends before the station's number.
+    NoStation,
+    /// A remark that names a station ends before the name.
+    NoName(u16),
+    /// The station has a name from an earlier line.
+    NamedTwice(u16),
+    /// Another station has the name from an earlier line.
+    SameName(String, u16),
 }
 
 impl fmt::Display for LineFault {
@@ -61,6 +74,12 @@ impl fmt::Display for LineFault {
             }
             LineFault::NotANumber(word) => write!(to, "not a number: {word:?}"),
             LineFault::TooLarge(word) => write!(to, "over {}: {word}", u16::MAX),
+            LineFault::NoStation => write!(to, "no station number behind \"station\""),
+            LineFault::NoName(station) => write!(to, "no name for station {station}"),
+            LineFault::NamedTwice(station) => write!(to, "station {station} has a name already"),
+            LineFault::SameName(name, other) => {
+                write!(to, "station {other} has the name {name:?} already")
+            }
         }
     }
 }
@@ -104,9 +123,14 @@ fn field(word: &str) -> Result<u16, LineFault> {
     number.map_err(|_| LineFault::TooLarge(word.to_string()))
 }
 
+/// The text behind the '#' of a line whose first character but blanks it is.
+fn remark(line: &str) -> Option<&str> {
+    line.trim_start().strip_prefix('#')
+}
+
 /// The bytes of a line; none for a blank line and for one whose first character but blanks is '#'.
 fn line_bytes(line: &str) -> Result<Vec<u8>, LineFault> {
-    if line.trim_start().starts_with('#') {
+    if remark(line).is_some() {
         return Ok(Vec::new());
     }
     let words: Vec<&str> = line.split_whitespace().collect();
@@ -141,7 +165,7 @@ fn record(bytes: &[u8]) -> Record {
 }
 
 /// The records of a plan's bytes.
-fn records(bytes: &[u8]) -> Result<impl Iterator<Item = Record> + '_, Fault> {
+pub fn records(bytes: &[u8]) -> Result<impl Iterator<Item = Record> + '_, Fault> {
     let records = bytes.chunks_exact(RECORD_BYTES);
     let rest = records.remainder().len();
     if rest > 0 {

@@ -81,8 +81,43 @@ fn a_plan_that_is_not_in_the_old_format_leaves_standard_output_empty() {
 }
 
 #[test]
+fn a_fault_is_explained() {
+    let said = converted("explain", PLAN_A);
+    assert_eq!(said, b"no fault: stations 5, slots 4, contacts 12\n");
+    let said = planconv(&["explain", "4", "4"], PLAN_A);
+    let said = String::from_utf8(said.stdout).unwrap();
+    assert_eq!(
+        said,
+        "refused 4: record 11 of 12 (position 10: slot 4, station 3 sends, station 4 hears): \
+         station 4 is not below 4, the number of stations [a equals b, or either is \u{2265} n]\n"
+    );
+    let said = converted("explain", &PLAN_A[..11]);
+    assert!(said.starts_with(b"refused 2: 11 bytes are no multiple of 6"));
+}
+
+#[test]
+fn names_are_listed() {
+    let lines = b"# station 3 weir  mast\n1 0 1\n#station 0 lock\n";
+    assert_eq!(
+        converted("names", lines),
+        b"# station 0 lock\n# station 3 weir mast\n"
+    );
+    let said = message(&["names"], b"1 0 1\n# station x lock\n");
+    assert_eq!(said, "line 2: not a number: \"x\"\n");
+}
+
+#[test]
 fn other_words_give_the_usage() {
-    for words in [[].as_slice(), &["to-byte"], &["to-bytes", "double"]] {
+    for words in [
+        [].as_slice(),
+        &["to-byte"],
+        &["to-bytes", "double"],
+        &["explain", "5"],
+        &["explain", "5", "x"],
+        &["explain", "-1", "5"],
+        &["explain", "+1", "5"],
+        &["names", "x"],
+    ] {
         assert!(message(words, PLAN_A).starts_with("usage:\n"));
     }
 }
