@@ -13,15 +13,14 @@ use std::{env, io, thread};
 use crate::run::{finish, start, InputFile, Written};
 use crate::Program;
 
-const NOT_READ: &str = "load: reading standard input failed\n";
-const NOT_WRITTEN: &str = "load: writing standard output failed\n";
-
 /// Plan A of document 01, doubled.
-const PLAN_A: &[u8] = include_bytes!("../../plans/a.plan");
+pub const PLAN_A: &[u8] = include_bytes!("../../plans/a.plan");
 /// The length of a beginning of it that is a plan too.
 const BEGINNING: usize = 48;
 /// The device to which every write fails.
 const FULL: &str = "/dev/full";
+/// The bytes that a pipe holds before a write to it waits.
+const PIPE_HOLDS: usize = 65_536;
 /// The pause between two looks at a program's state, and the most looks.
 const LOOK: Duration = Duration::from_millis(5);
 const MOST_LOOKS: usize = 1_000;
@@ -53,52 +52,63 @@ pub fn all(program: Program) -> Result<usize, String> {
     Ok(cases.len())
 }
 
+/// Nothing but the line that tells of a failed read.
+fn not_read(program: Program) -> Written {
+    program.message("reading standard input failed")
+}
+
+/// Nothing but the line that tells of a failed write.
+fn not_written(program: Program) -> Written {
+    program.message("writing standard output failed")
+}
+
 fn told(error: io::Error) -> String {
     error.to_string()
 }
 
 /// Runs the program from a shell, which closes what the redirections say.
-fn redirected(program: Program, redirections: &str, stdin: Stdio) -> Result<Written, String> {
+pub fn redirected(program: Program, redirections: &str, stdin: Stdio) -> Result<Written, String> {
     let path = fs::canonicalize(program.path).map_err(told)?;
     let mut shell = Command::new("sh");
-    shell.args(["-c", &format!("exec \"$0\" {redirections}")]);
-    finish(start(shell.arg(path).stdin(stdin).stdout(Stdio::piped()))?)
+    shell.args(["-c", &format!("exec \"$0\" \"$@\" {redirections}")]);
+    shell.arg(path).args(program.arguments);
+    finish(start(shell.stdin(stdin).stdout(Stdio::piped()))?)
 }
 
 fn closed_input(program: Program) -> Result<(), String> {
-    redirected(program, "<&-", Stdio::null())?.expect(&Written::error(NOT_READ))
+    redirected(program, "<&-", Stdio::null())?.expect(&not_read(program))
 }
 
 fn both_closed(program: Program) -> Result<(), String> {
-    redirected(program, "<&- >&-", Stdio::null())?.expect(&Written::error(NOT_READ))
+    redirected(program, "<&- >&-", Stdio::null())?.expect(&not_read(program))
 }
 
 fn closed_output(program: Program) -> Result<(), String> {
-    let file = InputFile::new();
+    let file = InputFile::default();
     let stdin = file.holding(PLAN_A)?.into();
-    redirected(program, ">&-", stdin)?.expect(&Written::error(NOT_WRITTEN))
+    redirected(program, ">&-", stdin)?.expect(&not_written(program))
 }
 
 /// Runs the program with the given standard input and output.
-fn started(program: Program, stdin: Stdio, stdout: Stdio) -> Result<Child, String> {
-    start(Command::new(program.path).stdin(stdin).stdout(stdout))
+pub fn started(program: Program, stdin: Stdio, stdout: Stdio) -> Result<Child, String> {
+    start(program.command().stdin(stdin).stdout(stdout))
 }
 
 fn directory(program: Program) -> Result<(), String> {
     let directory = File::open(env::temp_dir()).map_err(told)?;
     let child = started(program, directory.into(), Stdio::piped())?;
-    finish(child)?.expect(&Written::error(NOT_READ))
+    finish(child)?.expect(&not_read(program))
 }
 
 fn full_output(program: Program) -> Result<(), String> {
-    let file = InputFile::new();
+    let file = InputFile::default();
     let stdin = file.holding(PLAN_A)?.into();
     let full = OpenOptions::new().write(true).open(FULL).map_err(told)?;
-    finish(started(program, stdin, full.into())?)?.expect(&Written::error(NOT_WRITTEN))
+    finish(started(program, stdin, full.into())?)?.expect(&not_written(program))
 }
 
 /// Two ends of a connection: one to write to, and one for the program's standard input.
-fn connection() -> Result<(UnixStream, UnixStream), String> {
+pub fn connection() -> Result<(UnixStream, UnixStream), String> {
     UnixStream::pair().map_err(told)
 }
 
@@ -108,7 +118,7 @@ fn failing_after(program: Program, bytes: usize) -> Result<(), String> {
     theirs.set_nonblocking(true).map_err(told)?;
     ours.write_all(&PLAN_A[..bytes]).map_err(told)?;
     let child = started(program, OwnedFd::from(theirs).into(), Stdio::piped())?;
-    finish(child)?.expect(&Written::error(NOT_READ))
+    finish(child)?.expect(&not_read(program))
 }
 
 /// The program is stopped and goes on while it waits for the rest of the input; it reads all of it.
@@ -117,16 +127,35 @@ fn interrupted(program: Program) -> Result<(), String> {
     theirs.set_read_timeout(Some(READ_LIMIT)).map_err(told)?;
     ours.write_all(&PLAN_A[..BEGINNING]).map_err(told)?;
     let child = started(program, OwnedFd::from(theirs).into(), Stdio::piped())?;
-    wait_for(child.id(), 'S')?;
-    send(child.id(), "STOP")?;
-    wait_for(child.id(), 'T')?;
-    send(child.id(), "CONT")?;
+    interrupt(child.id())?;
     ours.write_all(&PLAN_A[BEGINNING..]).map_err(told)?;
     drop(ours);
     finish(child)?.expect(&program.expected(PLAN_A))
 }
 
-/// Waits until a process is in a state: S where it sleeps, as in a read, T where it is stopped.
+/// Stops a process that waits for its input or its output, and lets it go on.
+fn interrupt(process: u32) -> Result<(), String> {
+    wait_for(process, 'S')?;
+    send(process, "STOP")?;
+    wait_for(process, 'T')?;
+    send(process, "CONT")
+}
+
+/// The program is stopped and goes on while it waits for a reader of its output, which is more than a pipe holds; all of
+/// it comes.
+pub fn interrupted_write(program: Program, input: &[u8]) -> Result<(), String> {
+    let expected = program.expected(input);
+    if expected.output.len() <= PIPE_HOLDS {
+        return Err(format!("only {} bytes", expected.output.len()));
+    }
+    let file = InputFile::default();
+    let stdin = file.holding(input)?.into();
+    let child = started(program, stdin, Stdio::piped())?;
+    interrupt(child.id())?;
+    finish(child)?.expect(&expected)
+}
+
+/// Waits until a process is in a state: S where it sleeps, as in a read or a write, T where it is stopped.
 fn wait_for(process: u32, state: char) -> Result<(), String> {
     let path = Path::new("/proc").join(process.to_string()).join("stat");
     for _ in 0..MOST_LOOKS {

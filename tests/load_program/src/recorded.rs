@@ -4,8 +4,8 @@
 
 use std::fs;
 
-use crate::run::{written, Delivery, InputFile, Written};
-use crate::Program;
+use load_program::run::{written, Delivery, InputFile, Written};
+use load_program::Program;
 
 /// Runs the program on every input of a folder; answers their number, or tells of the first difference.
 pub fn compare(program: Program, folder: &str) -> Result<usize, String> {
@@ -15,13 +15,13 @@ pub fn compare(program: Program, folder: &str) -> Result<usize, String> {
     };
     let (stdin, stdout) = (read("stdin")?, read("stdout")?);
     let cut_off = || format!("{folder}/stdin: the last case is cut off");
-    let file = InputFile::new();
+    let file = InputFile::default();
     let (mut rest, mut expected) = (stdin.as_slice(), stdout.as_slice());
     let mut cases = 0;
     while !rest.is_empty() {
         let (label, input) = take_case(&mut rest).ok_or_else(cut_off)?;
         let told = |what: String| format!("{}, of {folder}: {what}", label.escape_ascii());
-        let got = written(program.path, input, Delivery::File, &file).map_err(told)?;
+        let got = written(program, input, Delivery::File, &file).map_err(told)?;
         let text = [label, b":\n", &got.output].concat();
         let (front, behind) = expected.split_at(text.len().min(expected.len()));
         let got = Written {

@@ -1,4 +1,4 @@
-//! One run of the program.
+//! One run of a program.
 
 use std::fs::{self, File};
 use std::io::{self, Read, Write};
@@ -9,6 +9,8 @@ use std::time::Duration;
 use std::{env, fmt, process, thread};
 
 use lister::random::Random;
+
+use crate::Program;
 
 /// The longest time of one run.
 const LONGEST_RUN: Duration = Duration::from_secs(10);
@@ -43,14 +45,16 @@ pub struct InputFile {
     path: PathBuf,
 }
 
-impl InputFile {
-    pub fn new() -> InputFile {
-        let name = format!("load_program_{}.input", process::id());
+impl Default for InputFile {
+    fn default() -> InputFile {
+        let name = format!("program_{}.input", process::id());
         InputFile {
             path: env::temp_dir().join(name),
         }
     }
+}
 
+impl InputFile {
     /// The file with an input in it, opened at its beginning.
     pub fn holding(&self, input: &[u8]) -> Result<File, String> {
         let opened = fs::write(&self.path, input).and_then(|()| File::open(&self.path));
@@ -113,9 +117,9 @@ fn told_text(name: &str, text: &[u8]) -> String {
     format!("  {name}, {} bytes:\n{lines}", text.len())
 }
 
-/// All that the program writes for an input.
+/// All that a program writes for an input.
 pub fn written(
-    program: &str,
+    program: Program,
     input: &[u8],
     delivery: Delivery,
     file: &InputFile,
@@ -124,12 +128,28 @@ pub fn written(
         Delivery::File => Stdio::from(file.holding(input)?),
         Delivery::Pipe => Stdio::piped(),
     };
-    let mut child = start(Command::new(program).stdin(stdin).stdout(Stdio::piped()))?;
+    let mut child = start(program.command().stdin(stdin).stdout(Stdio::piped()))?;
     if let Some(pipe) = child.stdin.take() {
         let parts = parts(input);
         thread::spawn(move || deliver(pipe, &parts));
     }
     finish(child)
+}
+
+/// Runs an input in every delivery, and tells of the first difference.
+pub fn compare(
+    program: Program,
+    label: &str,
+    input: &[u8],
+    file: &InputFile,
+) -> Result<(), String> {
+    let expected = program.expected(input);
+    for delivery in [Delivery::File, Delivery::Pipe] {
+        let told = |what: String| format!("{label}, from a {delivery}: {what}");
+        let got = written(program, input, delivery, file).map_err(told)?;
+        got.expect(&expected).map_err(told)?;
+    }
+    Ok(())
 }
 
 /// Starts a command whose standard error is read.
