@@ -54,9 +54,7 @@ impl Ranked {
 
     /// The appearance that a contact brings after an appearance.
     fn followed(&self, at: usize, position: usize) -> Option<usize> {
-        let contact = self.plan.contacts.get(position)?;
-        let reached = self.appearances.all[at].step(self.plan.terms, *contact)?;
-        Some(self.appearances.number(reached))
+        self.appearances.stepped(&self.plan, at, position)
     }
 
     /// The rank of offered positions; none if they are no shortest walk.

@@ -3,8 +3,8 @@
 //!
 //! Every walk from a source is listed, hop by hop; the shortest are picked by comparing lengths;
 //! a count is the length of a list. It serves as the other side of comparisons on small plans. The
-//! modules `fast`, `fast_pairs`, `fast_avoiding`, `fast_sets`, `fast_struck` and `fast_ways` alone list no
-//! walk; they serve plans with too many.
+//! modules `fast`, `fast_account`, `fast_pairs`, `fast_avoiding`, `fast_sets`, `fast_struck` and `fast_ways` alone
+//! list no walk; they serve plans with too many.
 //!
 //! The words here, and document 01's where they differ:
 //!
@@ -28,6 +28,8 @@
 //!
 //! The operations keep document 01's names.
 
+pub mod account;
+pub mod account_cases;
 pub mod answer;
 pub mod band;
 pub mod band_cases;
@@ -41,6 +43,7 @@ pub mod drawing_bits;
 pub mod drawing_samples;
 pub mod drawn_cases;
 pub mod fast;
+pub mod fast_account;
 pub mod fast_avoiding;
 pub mod fast_pairs;
 pub mod fast_sets;

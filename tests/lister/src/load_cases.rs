@@ -25,8 +25,14 @@ use crate::files::{case_bytes, Filed};
 use crate::load_program::load_text;
 use crate::plan::RECORD_BYTES;
 
-pub use digits::{rare_path, RarePath, RARE_PATHS};
-pub use turnarounds::{stretched, RARE_TWO_SLOTS};
+pub use causes::FAULTS;
+pub use counts::inputs as large_counts;
+pub use digits::{cycle, rare_path, RarePath, RARE_PATHS};
+pub use examples::inputs as example_inputs;
+pub use generated::{damaged_inputs, valid_plan, Size, SIZES};
+pub use ladders::layered;
+pub use lengths::spread_records;
+pub use turnarounds::{by_hand, stretched, RARE_TWO_SLOTS};
 
 /// The longest label, in bytes.
 pub const LONGEST_LABEL: usize = 60;
@@ -50,7 +56,7 @@ pub struct Input {
 
 impl Input {
     /// Bytes, with their number stated by hand.
-    fn on_bytes(label: &str, bytes: Vec<u8>, stated: u8) -> Input {
+    pub fn on_bytes(label: &str, bytes: Vec<u8>, stated: u8) -> Input {
         Input {
             label: label.to_string(),
             bytes,
@@ -59,7 +65,7 @@ impl Input {
     }
 
     /// Records, with their number stated by hand.
-    fn on_records(label: &str, records: &[Record], stated: u8) -> Input {
+    pub fn on_records(label: &str, records: &[Record], stated: u8) -> Input {
         Input::on_bytes(label, plan_bytes(records), stated)
     }
 
@@ -77,7 +83,7 @@ impl Input {
     }
 
     /// The case of this input with a turnaround.
-    fn turning(&self, turnaround: u16) -> Case {
+    pub fn turning(&self, turnaround: u16) -> Case {
         Case {
             label: format!("{}, g {turnaround}", self.label),
             turnaround,
@@ -88,7 +94,7 @@ impl Input {
 }
 
 /// Inputs of a table: label, records, number.
-fn on_table(table: &[(&str, &[Record], u8)]) -> Vec<Input> {
+pub fn on_table(table: &[(&str, &[Record], u8)]) -> Vec<Input> {
     let input = |(label, records, stated): &(&str, &[Record], u8)| {
         Input::on_records(label, records, *stated)
     };

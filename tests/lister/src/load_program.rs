@@ -49,7 +49,7 @@ pub fn is_listed(plan: &Plan) -> bool {
 }
 
 /// The means by which the loads of a plan are found.
-fn means_for(plan: &Plan) -> Means {
+pub fn means_for(plan: &Plan) -> Means {
     if is_listed(plan) {
         LISTED
     } else {

@@ -4,6 +4,7 @@ use std::io::Read;
 use std::process::ExitCode;
 use std::{fs, io};
 
+use lister::account::{account_text, MOST_SHOWN};
 use lister::files::{stdin_bytes, stdout_text, Filed};
 use lister::load_program::load_text;
 use lister::means::LISTED;
@@ -13,8 +14,9 @@ use lister::show::{
     set_text, struck_text, text_of, verdict_text,
 };
 use lister::{
-    band_cases, cases, drawn_cases, foremost_cases, load_cases, pair_cases, partial_cases, program,
-    reach_cases, record_cases, set_cases, struck_cases, verdict_cases, way_cases,
+    account_cases, band_cases, cases, drawn_cases, foremost_cases, load_cases, pair_cases,
+    partial_cases, program, reach_cases, record_cases, set_cases, struck_cases, verdict_cases,
+    way_cases,
 };
 
 const USAGE: &str = "usage:
@@ -23,6 +25,9 @@ const USAGE: &str = "usage:
   lister load-cases DIR          write DIR/stdin and DIR/stdout, cases of the load programs
   lister one-slot-cases DIR      write DIR/stdin and DIR/stdout, cases of the load program with g = 1
   lister load-text g < input     what the load program with turnaround g prints
+  lister account-cases DIR       write DIR/stdin and DIR/stdout, cases of the account of a station
+  lister account-text g V k < input
+      the account of station V with turnaround g and up to k walks of each pair
   lister pair-cases DIR          write DIR/stdin and DIR/stdout, cases of pair, loads and busiest
   lister way-cases DIR           write DIR/stdin and DIR/stdout, cases of first way and next way
   lister set-cases DIR           write DIR/stdin and DIR/stdout, cases of through set
@@ -62,6 +67,13 @@ fn run(words: &[&str]) -> Result<(), String> {
         ["one-slot-cases", directory] => write_files(directory, &load_cases::one_slot_cases()),
         ["load-text", g] => {
             print!("{}", load_text(decimal(g)?, &standard_input()?));
+            Ok(())
+        }
+        ["account-cases", directory] => write_files(directory, &account_cases::all_cases()),
+        ["account-text", g, station, number] => {
+            let (g, station, number) = (decimal(g)?, decimal(station)?, shown(number)?);
+            let text = account_text(g, &standard_input()?, station, number);
+            print!("{text}");
             Ok(())
         }
         ["pair-cases", directory] => write_files(directory, &pair_cases::all_cases()),
@@ -167,6 +179,15 @@ fn hexadecimal(digits: &str) -> Result<Vec<u8>, String> {
         .chunks_exact(2)
         .map(|two| 16 * two[0] + two[1])
         .collect())
+}
+
+/// A number of walks that an account can have.
+fn shown(word: &str) -> Result<usize, String> {
+    let number = decimal(word)?;
+    match number <= MOST_SHOWN {
+        true => Ok(number),
+        false => Err(format!("above {MOST_SHOWN}: {word}")),
+    }
 }
 
 fn decimal(word: &str) -> Result<usize, String> {

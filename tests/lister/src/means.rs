@@ -1,8 +1,8 @@
 //! The means by which an operation finds its values.
 //!
 //! Each operation's arguments, causes and lent memory are in one place, a method of `Means`. Of the
-//! two means, the plain lister lists walks, and the modules `fast`, `fast_pairs`, `fast_avoiding`,
-//! `fast_sets`, `fast_struck` and `fast_ways` add up numbers of walks.
+//! two means, the plain lister lists walks, and the modules `fast`, `fast_account`, `fast_pairs`,
+//! `fast_avoiding`, `fast_sets`, `fast_struck` and `fast_ways` add up numbers of walks.
 
 /// The largest count, 2^64−1; one more is cause 9.
 pub const COUNT_LIMIT: u64 = u64::MAX;

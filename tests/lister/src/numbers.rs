@@ -115,6 +115,13 @@ impl Appearances {
         self.all.partition_point(|other| *other < appearance)
     }
 
+    /// The appearance that the contact at a position brings after an appearance.
+    pub fn stepped(&self, plan: &Plan, at: usize, position: usize) -> Option<usize> {
+        let contact = plan.contacts.get(position)?;
+        let reached = self.all[at].step(plan.terms, *contact)?;
+        Some(self.number(reached))
+    }
+
     /// The number of an appearance, if contacts can bring it.
     pub fn known(&self, appearance: Appearance) -> Option<usize> {
         self.all.binary_search(&appearance).ok()

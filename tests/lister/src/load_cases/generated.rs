@@ -55,10 +55,14 @@ pub fn inputs() -> Vec<Input> {
             });
         }
     }
-    for index in 0..DAMAGED {
-        inputs.push(damaged(&mut random, index));
-    }
+    inputs.extend((0..DAMAGED).map(|index| damaged(&mut random, index)));
     inputs
+}
+
+/// The damaged plans alone.
+pub fn damaged_inputs() -> Vec<Input> {
+    let mut inputs = inputs();
+    inputs.split_off(inputs.len() - DAMAGED)
 }
 
 /// A valid plan of a size.

@@ -2,7 +2,7 @@
 
 use super::Input;
 use crate::plans::Owned;
-use crate::reach_cases::{falling_ladder, spaced_sent_ladder, Builder};
+use crate::reach_cases::{falling_ladder, spaced_ladder, spaced_sent_ladder, Builder};
 
 pub fn inputs() -> Vec<Input> {
     [layers(), one_way(), slots()].concat()
@@ -38,14 +38,16 @@ fn layers() -> Vec<Input> {
         (31, 1),
         (32, 1),
     ]);
-    let input = |(layers, width): &(usize, usize)| {
-        let mut builder = Builder::turning(1);
-        builder.ladder(*layers, *width);
-        let label = format!("ladder of {layers} layers of {width}");
-        let stated = if layers * width > 31 { 1 } else { 0 };
-        Input::on_bytes(&label, Owned::built(&builder).bytes, stated)
-    };
+    let input = |(layers, width): &(usize, usize)| layered(1, *layers, *width);
     ladders.iter().map(input).collect()
+}
+
+/// Layers a turnaround apart, of stations that meet all of the next one.
+pub fn layered(turnaround: usize, layers: usize, width: usize) -> Input {
+    let builder = spaced_ladder(turnaround, layers, width);
+    let label = format!("ladder of {layers} layers of {width}");
+    let stated = if layers * width > 31 { 1 } else { 0 };
+    Input::on_bytes(&label, Owned::built(&builder).bytes, stated)
 }
 
 /// Rows of stations that meet the next in several slots; 32 hops have 33 stations, and 64 slots are

@@ -21,7 +21,7 @@ const GENERATED: usize = 34;
 const SEVERAL: [u16; 9] = [0, 1, 3, 4, 15, 16, 17, 256, 65535];
 
 /// An input and its turnaround.
-type Turned = (Input, u16);
+pub type Turned = (Input, u16);
 
 /// The inputs that the program with g = 1 does not have in its files.
 pub fn inputs() -> Vec<Input> {
@@ -107,7 +107,7 @@ fn faults_first() -> Vec<Case> {
 }
 
 /// The plans by hand but for plan A, and rows in every slot. Their labels name their turnaround behind the rest.
-fn by_hand() -> Vec<Turned> {
+pub fn by_hand() -> Vec<Turned> {
     let turned = TURNED_PLANS[1..].iter().map(|plan| plan.labelled());
     let turned = turned.chain(rows_around()).map(|plan| {
         let (label, _) = plan.label.rsplit_once(", g ").expect("a turnaround");

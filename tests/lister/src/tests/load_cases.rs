@@ -3,32 +3,19 @@
 use std::collections::BTreeSet;
 use std::sync::OnceLock;
 
-use super::read_back::{assert_labels, take, take_number};
+use super::read_back::{assert_labels, both_print, labelled_texts, number_of, with_outcomes};
 use crate::files::{stdin_bytes, stdout_text};
 use crate::load_cases::{
     all_cases, all_inputs, one_slot_cases, rare_path, Case, RarePath, LONGEST_INPUT, LONGEST_LABEL,
     LONGEST_TEXT, RARE_PATHS, RARE_TWO_SLOTS,
 };
-use crate::load_program::{accepted_plan, is_listed, load_text, load_text_by};
+use crate::load_program::{accepted_plan, load_text, load_text_by};
 use crate::loads::share;
-use crate::means::{COUNTED, LISTED};
 
 /// All cases and their texts, made once.
 fn cases() -> &'static [(Case, String)] {
     static CASES: OnceLock<Vec<(Case, String)>> = OnceLock::new();
-    let with_text = |case: Case| {
-        let text = case.text();
-        (case, text)
-    };
-    CASES.get_or_init(|| all_cases().into_iter().map(with_text).collect())
-}
-
-/// The number that a text states, 0 where it has loads.
-fn number_of(text: &str) -> u8 {
-    match text.strip_prefix("refused ") {
-        Some(number) => number.trim_end().parse().unwrap(),
-        None => 0,
-    }
+    CASES.get_or_init(|| with_outcomes(all_cases(), Case::text))
 }
 
 /// The numbers of the lines below a heading: station, pairs, load.
@@ -254,23 +241,15 @@ fn the_longest_text_is_attained_with_both_turnarounds() {
 
 #[test]
 fn listed_and_counted_cases() {
-    let mut listed = 0;
-    let mut counted = 0;
+    let mut seen = [0; 2];
     for (case, text) in cases() {
         let turnaround = case.turnaround.into();
-        let Ok(plan) = accepted_plan(turnaround, &case.bytes) else {
-            continue;
-        };
-        if !is_listed(&plan) {
-            counted += 1;
-            continue;
-        }
-        listed += 1;
-        for means in [LISTED, COUNTED] {
-            let by_means = load_text_by(means, turnaround, &case.bytes);
-            assert_eq!(by_means, *text, "{}", case.label);
+        if let Ok(plan) = accepted_plan(turnaround, &case.bytes) {
+            let by_means = |means| load_text_by(means, turnaround, &case.bytes);
+            seen[usize::from(both_print(&plan, text, by_means))] += 1;
         }
     }
+    let [counted, listed] = seen;
     assert!(listed > 100 && counted > 60, "{listed} {counted}");
 }
 
@@ -279,35 +258,18 @@ fn stdin_read_back_gives_stdout() {
     let all = all_cases();
     let stdin = stdin_bytes(&all);
     assert!(stdin.len() < 900_000);
-    let mut rest = stdin.as_slice();
-    let mut stdout = Vec::new();
-    let mut read = 0;
-    while !rest.is_empty() {
-        let [label_length, input_length, turnaround] =
-            [2; 3].map(|length| take_number(&mut rest, length));
-        stdout.extend(take(&mut rest, label_length));
-        stdout.extend(b":\n");
-        stdout.extend(load_text(turnaround, take(&mut rest, input_length)).bytes());
-        read += 1;
-    }
-    assert_eq!(read, all.len());
-    assert_eq!(stdout, stdout_text(&all).into_bytes());
+    let read = labelled_texts(&stdin, |[_, _, turnaround], input| {
+        load_text(turnaround, input)
+    });
+    assert!(read == (all.len(), stdout_text(&all)));
 }
 
 #[test]
 fn stdin_of_one_slot_read_back_gives_stdout() {
     let all = one_slot_cases();
     let stdin = stdin_bytes(&all);
-    let mut rest = stdin.as_slice();
-    let mut stdout = Vec::new();
-    for _ in &all {
-        let [label_length, input_length] = [2; 2].map(|length| take_number(&mut rest, length));
-        stdout.extend(take(&mut rest, label_length));
-        stdout.extend(b":\n");
-        stdout.extend(load_text(1, take(&mut rest, input_length)).bytes());
-    }
-    assert!(rest.is_empty());
-    assert_eq!(stdout, stdout_text(&all).into_bytes());
+    let read = labelled_texts(&stdin, |[_, _], input| load_text(1, input));
+    assert!(read == (all.len(), stdout_text(&all)));
 }
 
 #[test]

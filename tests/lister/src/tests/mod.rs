@@ -1,5 +1,7 @@
 //! Tests of the lister.
 
+mod account;
+mod account_cases;
 mod asked;
 mod band;
 mod band_cases;
@@ -13,6 +15,7 @@ mod drawn_loads;
 mod enumerated;
 mod examples;
 mod fast;
+mod fast_account;
 mod fast_pairs;
 mod fast_sets;
 mod fast_ways;

@@ -4,6 +4,9 @@ use std::collections::BTreeSet;
 use std::str::FromStr;
 
 use crate::files::{stdout_text, Filed};
+use crate::load_program::is_listed;
+use crate::means::{Means, COUNTED, LISTED};
+use crate::plan::Plan;
 
 /// Cases with what their calls answer and leave.
 pub fn with_outcomes<C, O>(cases: Vec<C>, outcome: fn(&C) -> O) -> Vec<(C, O)> {
@@ -45,6 +48,43 @@ pub fn take_number(bytes: &mut &[u8], length: usize) -> usize {
     let digits = take(bytes, length);
     let next = |number: usize, byte: &u8| 256 * number + usize::from(*byte);
     digits.iter().fold(0, next)
+}
+
+/// The number that a text states, 0 where it is no refusal.
+pub fn number_of(text: &str) -> u8 {
+    match text.strip_prefix("refused ") {
+        Some(number) => number.trim_end().parse().unwrap(),
+        None => 0,
+    }
+}
+
+/// Asserts that both means give the text of a plan, if it can be listed; tells whether it can.
+pub fn both_print(plan: &Plan, text: &str, by_means: impl Fn(Means) -> String) -> bool {
+    let listed = is_listed(plan);
+    for means in [LISTED, COUNTED].into_iter().filter(|_| listed) {
+        assert_eq!(by_means(means), text, "{}", means.name());
+    }
+    listed
+}
+
+/// What a program prints that reads a head of 16-bit numbers, of which the first two are the lengths of a label and of
+/// an input, then these, and prints the label, a colon, a line feed and the text; and the number of cases.
+pub fn labelled_texts<const WORDS: usize>(
+    stdin: &[u8],
+    text: impl Fn([usize; WORDS], &[u8]) -> String,
+) -> (usize, String) {
+    let mut rest = stdin;
+    let (mut read, mut stdout) = (0, String::new());
+    while !rest.is_empty() {
+        let head = [2; WORDS].map(|length| take_number(&mut rest, length));
+        let label = take(&mut rest, head[0]);
+        let input = take(&mut rest, head[1]);
+        stdout += std::str::from_utf8(label).unwrap();
+        stdout += ":\n";
+        stdout += &text(head, input);
+        read += 1;
+    }
+    (read, stdout)
 }
 
 /// The entries that the runs of a table give; the others are left out.
