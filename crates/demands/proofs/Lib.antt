@@ -35,3 +35,9 @@ pub mod Band
 pub mod Struck
 -- C-24: loads for the drawing program
 pub mod Drawn
+-- the account of a station
+mod EndsLaws
+mod RefusalLaws
+mod WhyRefusals
+mod WhyText
+pub mod Why

@@ -22,7 +22,8 @@ use Rattle.temporal.proofs.FewLaws.{mostLists, few-anywhere}
 use Rattle.temporal.proofs.GrownLaws.{grown, grownShortest, onward, grownWalksTo, pairs-by, load-by}
 use Rattle.text.specs.Decimal.{code, codes, powersUpTo, digitCount, decimal}
 use Rattle.report.specs.Sizes.{largest, topStation, inputStations, inputSlots, wrongInput, overLimits}
-use Rattle.report.specs.Report.{field, heading, line, loadsText, inputCauses, inputPlan, refusalText, refusalOf, printed}
+use Rattle.text.specs.Field.{field, fields, labelled}
+use Rattle.report.specs.Report.{heading, line, loadsText, inputCauses, inputPlan, refusalText, refusalOf, printed}
 use Rattle.examples.specs.Questions.{planA}
 use Rattle.demands.specs.LoadText.{planALinesTwoSlots, planALinesOneSlot, asText, printedBefore, LoadText}
 
@@ -64,7 +65,7 @@ module _ (terms : Terms) (right : first (termsCauses terms) ≡ 0) where
   few = leb-true _ _ refl
 
   -- no cause of refusal
-  accepted : refusalOf (planA .bytes) terms ≡ 0
+  pub accepted : refusalOf (planA .bytes) terms ≡ 0
   unfolding from below any wordAt contactAt records planOf cause first outside wrongLength wrongSlot wrongEnds isAbove wrongOrder recordCauses planCauses largest topStation inputStations inputSlots wrongInput overLimits inputCauses flatMap
   accepted =
       without-terms (planA .bytes) ∙
@@ -78,20 +79,20 @@ module _ (terms : Terms) (right : first (termsCauses terms) ≡ 0) where
       unless-none (refusalOf (planA .bytes) terms) refusalText (loadsText (inputPlan (planA .bytes) terms)) accepted ∙
       text-grown (inputPlan (planA .bytes) terms)
 
-allowed-one : first (termsCauses (turning 1)) ≡ 0
+pub allowed-one : first (termsCauses (turning 1)) ≡ 0
 unfolding termsCauses wrongTurnaround wrongKeeping cause first
 allowed-one = refl
 
-allowed-two : first (termsCauses (turning 2)) ≡ 0
+pub allowed-two : first (termsCauses (turning 2)) ≡ 0
 unfolding termsCauses wrongTurnaround wrongKeeping cause first
 allowed-two = refl
 
 computed-two : grownText (inputPlan (planA .bytes) (turning 2)) ≡ asText planALinesTwoSlots
-unfolding grownText from below sum select any member distinct leadsTo mayFollow along step run lastOr holds endsIn isInterior orElse firstNonempty endsBelow wordAt contactAt records planOf code codes powersUpTo digitCount decimal largest topStation inputStations inputSlots field heading line asText grown grownShortest onward grownWalksTo pairsBy loadBy flatMap bind
+unfolding grownText from below sum select any member distinct leadsTo mayFollow along step run lastOr holds endsIn isInterior orElse firstNonempty endsBelow wordAt contactAt records planOf code codes powersUpTo digitCount decimal largest topStation inputStations inputSlots field fields labelled heading line asText grown grownShortest onward grownWalksTo pairsBy loadBy flatMap bind
 computed-two = refl
 
 computed-one : grownText (inputPlan (planA .bytes) (turning 1)) ≡ asText planALinesOneSlot
-unfolding grownText from below sum select any member distinct leadsTo mayFollow along step run lastOr holds endsIn isInterior orElse firstNonempty endsBelow wordAt contactAt records planOf code codes powersUpTo digitCount decimal largest topStation inputStations inputSlots field heading line asText grown grownShortest onward grownWalksTo pairsBy loadBy flatMap bind
+unfolding grownText from below sum select any member distinct leadsTo mayFollow along step run lastOr holds endsIn isInterior orElse firstNonempty endsBelow wordAt contactAt records planOf code codes powersUpTo digitCount decimal largest topStation inputStations inputSlots field fields labelled heading line asText grown grownShortest onward grownWalksTo pairsBy loadBy flatMap bind
 computed-one = refl
 
 as-before : (bs : List ℕ) → printed bs (turning 1) ≡ printedBefore bs

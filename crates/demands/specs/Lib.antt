@@ -29,3 +29,5 @@ pub mod Band
 pub mod Struck
 -- C-24: loads for the drawing program
 pub mod Drawn
+-- the account of a station
+pub mod Why

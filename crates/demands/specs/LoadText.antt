@@ -9,7 +9,8 @@ use Rattle.temporal.specs.Plan.{turning}
 use Rattle.temporal.specs.Cause.{cause, first, unless, planCauses, tooManyAnywhere}
 use Rattle.examples.specs.Questions.{planA}
 use Rattle.report.specs.Sizes.{inputStations, inputSlots}
-use Rattle.report.specs.Report.{ascii, lineFeed, loadsText, refusalText, inputCauses, inputPlan, printed}
+use Rattle.text.specs.Field.{ascii, lineFeed}
+use Rattle.report.specs.Report.{loadsText, refusalText, inputCauses, inputPlan, printed}
 
 -- the six lines for units that turn round in two slots, as document 02 has them (C-20)
 abbrev pub planALinesTwoSlots : List String

@@ -1,5 +1,5 @@
-// What the load programs share: plan records from standard input, and the text on standard output. A failed read or write is told
-// in one line on standard error.
+// What the programs that read a plan share: plan records from standard input, and a text on standard output. A failed read or write is
+// told on standard error, in the line that the program gives.
 ghost use Rattle.input.specs.Input.{InputWithin};
 use input::Input;
 use libc::STDERR_FILENO;
@@ -7,19 +7,19 @@ use libc::STDIN_FILENO;
 use libc::STDOUT_FILENO;
 
 // Reads until the input ends or the buffer is full.
-pub fn read_records(bytes: &mut [u8]) -> Input
+pub fn read_records(failed: &[u8], bytes: &mut [u8]) -> Input
     ensures { λ r. ⌜ InputWithin r (now (bytes .exit)) ⌝ }
 {
     let Input::Read(got) = input::read_all(STDIN_FILENO, bytes) else {
-        io::write_all(STDERR_FILENO, b"load: reading standard input failed\n");
+        io::write_all(STDERR_FILENO, failed);
         return Input::Failed;
     };
     Input::Read(got)
 }
 
 // Writes a text.
-pub fn write_text(text: &[u8]) {
+pub fn write_text(failed: &[u8], text: &[u8]) {
     if !io::write_all(STDOUT_FILENO, text) {
-        io::write_all(STDERR_FILENO, b"load: writing standard output failed\n");
+        io::write_all(STDERR_FILENO, failed);
     }
 }

@@ -18,9 +18,10 @@ fn text_of(input: &[u8], out: &mut [u8; 697]) -> usize
 fn main() {
     let mut bytes = [0u8; 6145];
     let mut out = [0u8; 697];
-    let Input::Read(got) = load::read_records(&mut bytes) else {
+    let Input::Read(got) = load::read_records(b"load: reading standard input failed\n", &mut bytes)
+    else {
         return;
     };
     let size = text_of(&bytes[..got], &mut out);
-    load::write_text(&out[..size]);
+    load::write_text(b"load: writing standard output failed\n", &out[..size]);
 }

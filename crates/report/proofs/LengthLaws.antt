@@ -18,7 +18,9 @@ use Rattle.counting.proofs.SumLaws.{sum-less}
 use Rattle.counting.proofs.ExactSum.{load-at-most}
 use Rattle.text.specs.Decimal.{decimal}
 use Rattle.text.proofs.DecimalLaws.{decimal-short}
-use Rattle.report.specs.Report.{field, heading, line, refusalText, ascii, space, lineFeed, loadsText}
+use Rattle.text.specs.Field.{ascii, space, lineFeed}
+use Rattle.text.proofs.FieldLaws.{fields-length, labelled-length}
+use Rattle.report.specs.Report.{heading, line, loadsText}
 
 -- ---- the pairs of a station
 
@@ -31,7 +33,7 @@ few-differ : any (λ n. ltb 992 (length (select differs (endsBelow n n)))) (belo
 unfolding differs any below from select endsBelow flatMap
 few-differ = refl
 
-few-pairs : (p : Plan) (v : ℕ) → p .stations ≤ 32 → pairs p v ≤ 992
+pub few-pairs : (p : Plan) (v : ℕ) → p .stations ≤ 32 → pairs p v ≤ 992
 unfolding partialPairs pairsBelow differs
 few-pairs p v h =
     let less : length (select (isPairOf p v) (endsBelow (p .stations) (p .stations))) ≤ length (select differs (endsBelow (p .stations) (p .stations))) =
@@ -49,22 +51,14 @@ few-pairs p v h =
     at-most true false = omega arith
     at-most false b = omega arith
 
-small-load : (p : Plan) (v : ℕ) → p .stations ≤ 32 → load p v < 10 ^ 13
+pub small-load : (p : Plan) (v : ℕ) → p .stations ≤ 32 → load p v < 10 ^ 13
 small-load p v h = omega (arith, load-at-most p (p .stations) v, few-pairs p v h)
 
 -- ---- lines
 
 line-length : (v p l : ℕ) → length (line v p l) ≡ length (decimal v) + length (decimal p) + length (decimal l) + 3
-unfolding line field
-line-length v p l =
-    omega (
-      arith,
-      length-append (decimal v) space,
-      length-append (decimal p) space,
-      length-append (decimal l) lineFeed,
-      length-append (field v space) (field p space),
-      length-append (field v space ++ field p space) (field l lineFeed),
-    )
+unfolding line
+line-length v p l = omega (arith, fields-length v space p space l lineFeed)
 
 module _ (p : Plan) (few : p .stations ≤ 32) where
   abbrev lineAt : ℕ → List ℕ
@@ -109,17 +103,8 @@ module _ (p : Plan) (few : p .stations ≤ 32) where
       (λ h. omega (arith, lines-short 10 (p .stations) 0 (omega arith) (omega arith) (omega arith)))
 
 heading-length : (n t m : ℕ) → length (heading n t m) ≡ length (decimal n) + length (decimal t) + length (decimal m) + 27
-unfolding heading field
-heading-length n t m =
-    omega (
-      arith,
-      length-append (decimal n) (ascii " slots "),
-      length-append (decimal t) (ascii " contacts "),
-      length-append (decimal m) lineFeed,
-      length-append (ascii "stations ") (field n (ascii " slots ")),
-      length-append (ascii "stations " ++ field n (ascii " slots ")) (field t (ascii " contacts ")),
-      length-append (ascii "stations " ++ field n (ascii " slots ") ++ field t (ascii " contacts ")) (field m lineFeed),
-    )
+unfolding heading
+heading-length n t m = omega (arith, labelled-length (ascii "stations ") n (ascii " slots ") t (ascii " contacts ") m lineFeed)
 
 -- The longest text: 35 bytes of the first line, 10 lines of 20 and 22 of 21.
 pub text-length : (p : Plan) → p .stations ≤ 32 → p .slots ≤ 63 → length (p .contacts) ≤ 1024 → length (loadsText p) ≤ 697

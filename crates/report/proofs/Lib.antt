@@ -1,5 +1,4 @@
 -- The laws of the report.
 pub mod SizeLaws
 pub mod LengthLaws
-pub mod LineLaws
 pub mod ReportLaws

@@ -38,15 +38,14 @@ use Rattle.loads.specs.declared.LoadsAnswer.{LoadsAnswer}
 use Rattle.loads.specs.declared.LoadsAnswer.the-variants as loads-answer
 use Rattle.loads.proofs.LoadLaws.{loads-works}
 use Rattle.text.specs.Written as text
+use Rattle.text.proofs.PieceLaws.{pieces-all}
 use Rattle.text.specs.Decimal.{decimal}
 use Rattle.text.proofs.DecimalLaws.{decimal-short, decimal-most}
 use Rattle.report.specs.Sizes.{inputStations, inputSlots, wrongInput, overLimits}
+use Rattle.text.specs.Field.{ascii, lineFeed, field}
 use Rattle.report.specs.Report.{
-  field,
   heading,
   line,
-  ascii,
-  lineFeed,
   loadsText,
   refusalText,
   inputCauses,
@@ -68,7 +67,7 @@ refusal-length k =
     length-append (ascii "refused ") (decimal k ++ lineFeed) ∙ rw (length-append (decimal k) lineFeed) (omega arith)
 
 -- it fits the output buffer
-pub refusal-room : (k size : ℕ) → size ≡ 697 → 0 + length (refusalText k) ≤ size
+pub refusal-room : (k size : ℕ) → 697 ≤ size → 0 + length (refusalText k) ≤ size
 refusal-room k size e = omega (arith, refusal-length k, decimal-most k)
 
 -- ---- from a text written at the beginning to the contract
@@ -87,7 +86,7 @@ report-text bs terms out old r now new t p e l =
     }
 
 -- a buffer whose beginning is written has at least as many entries
-length-over : (new old : List ℕ) → length new ≤ length (over new old)
+pub length-over : (new old : List ℕ) → length new ≤ length (over new old)
 unfolding over
 length-over new old = omega (arith, length-append new (drop (length new) old))
 
@@ -99,7 +98,7 @@ texted-within {bs} {terms} {out} r =
 
 -- ---- the lines of stations whose entries are the same
 
-flatMap-ext :
+pub flatMap-ext :
     (f g : ℕ → List ℕ) (i k : ℕ) → ((v : ℕ) → v < i + k → f v ≡ g v) → flatMap f (from i k) ≡ flatMap g (from i k)
 unfolding from flatMap
 flatMap-ext f g i zero h = refl
@@ -148,23 +147,23 @@ module _ (bs : List ℕ) (n t : ℕ) (terms : Terms) (out ps ls area : List ℕ)
   abbrev plan : Plan
   plan = planOf bs n t terms
 
-  few-stations : n ≤ 32
+  pub few-stations : n ≤ 32
   few-stations = limit-stations n t (w .limits)
 
-  few-slots : t ≤ 63
+  pub few-slots : t ≤ 63
   unfolding overLimits
   few-slots = ltb-false 63 t (or-false-right (ltb 32 n) (ltb 63 t) (w .limits))
 
-  few-records : records bs ≤ 1024
+  pub few-records : records bs ≤ 1024
   unfolding wrongInput
   few-records =
       ltb-false 1024 (records bs) (or-false-right (not (eqb (length bs % 6) 0)) (ltb 1024 (records bs)) (w .right-input))
 
-  passes : first (inputCauses bs) ≡ 0
+  pub passes : first (inputCauses bs) ≡ 0
   passes = no-input-cause bs (w .right-input) (rw (← w .stations, ← w .slots) (w .limits))
 
   -- the numbers of the plan's causes, 12, 14 and 9 are what loads answers
-  unfoldable causes : List ℕ
+  unfoldable pub causes : List ℕ
   causes = planCauses bs n t ++ (termsCauses terms ++ cause 9 (tooManyAnywhere plan) ∷ [])
 
   work-room : workSize n t ≤ length area
@@ -186,7 +185,7 @@ module _ (bs : List ℕ) (n t : ℕ) (terms : Terms) (out ps ls area : List ℕ)
       loads-works bs n t terms n ps ls area ok right (omega arith) (omega (arith, few-stations, w .pairs-size))
       (omega (arith, few-stations, w .loads-size)) work-room
 
-  loads-number : loads bs n t terms old .number ≡ first causes
+  pub loads-number : loads bs n t terms old .number ≡ first causes
   unfolding causes planFault partialLoads
   loads-number = decide (planFault bs n t) (first (termsCauses terms)) refl refl
     where
@@ -236,7 +235,7 @@ module _ (bs : List ℕ) (n t : ℕ) (terms : Terms) (out ps ls area : List ℕ)
     none : first causes ≡ 0
     none = sym (ap (λ o. o .number) answer ∙ loads-number)
 
-    no-fault : planFault bs n t ≡ 0
+    pub no-fault : planFault bs n t ≡ 0
     unfolding causes planFault
     no-fault = first-append-left (planCauses bs n t) _ none
 
@@ -244,27 +243,28 @@ module _ (bs : List ℕ) (n t : ℕ) (terms : Terms) (out ps ls area : List ℕ)
     unfolding causes
     rest = first-append-right (planCauses bs n t) _ none
 
-    right : first (termsCauses terms) ≡ 0
+    pub right : first (termsCauses terms) ≡ 0
     right = first-append-left (termsCauses terms) _ rest
 
-    not-many : tooManyAnywhere plan ≡ false
+    pub not-many : tooManyAnywhere plan ≡ false
     not-many = first-head 8 (tooManyAnywhere plan) [] (first-append-right (termsCauses terms) _ rest)
 
     tables :
         loadBuffers ps′ ls′ area′ ≡ partlyLoaded plan n old .buffers
     tables = ap (λ o. o .buffers) (answer ∙ works no-fault right)
 
-    pairs-table : ps′ ≡ over (map (pairs plan) (below n)) ps
+    pub pairs-table : ps′ ≡ over (map (pairs plan) (below n)) ps
     unfolding partlyLoaded planOf
     pairs-table = ap (λ x. x .pairsTable) tables ∙ rw not-many refl
 
-    loads-table : ls′ ≡ over (map (load plan) (below n)) ls
+    pub loads-table : ls′ ≡ over (map (load plan) (below n)) ls
     unfolding partlyLoaded planOf
     loads-table = ap (λ x. x .loadTable) tables ∙ rw not-many refl
 
-    lines-same : linesOf ps′ ls′ 0 n ≡ flatMap (λ v. line v (pairs plan v) (load plan v)) (below n)
-    unfolding linesOf below
+    lines-same : linesOf ps′ ls′ n ≡ flatMap (λ v. line v (pairs plan v) (load plan v)) (below n)
+    unfolding below
     lines-same =
+        pieces-all _ n ∙
         flatMap-ext _ _ 0 n (λ v h.
         ap₂ (line v) (ap (λ x. getD x v 0) pairs-table ∙ written (pairs plan) n v ps (omega arith))
         (ap (λ x. getD x v 0) loads-table ∙ written (load plan) n v ls (omega arith)))
@@ -280,7 +280,7 @@ module _ (bs : List ℕ) (n t : ℕ) (terms : Terms) (out ps ls area : List ℕ)
         rw (← w .stations, ← w .slots) refl)
 
     -- the tables have an entry for each station, and the text has room
-    printable : Printable 0 n ps′ ls′ (tableOf ps′ ls′ n t (length bs / 6)) out
+    pub printable : Printable 0 n ps′ ls′ (tableOf ps′ ls′ n t (length bs / 6)) out
     unfolding planOf
     printable =
         record {

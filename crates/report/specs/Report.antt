@@ -1,9 +1,6 @@
 -- What the load program prints: document 01's section "Plan A". Definitions only.
 -- Assumes nothing.
 use Prim.Native.Nat.{ℕ}
-use Prim.Native.Char.{code}
-use Prim.Native.String.{String}
-use Prim.Native.String as string
 use mathlib.Core.Path.{_≡_}
 use mathlib.Core.List.{List, [], _∷_, _++_, flatMap}
 use lib.ListN.{length}
@@ -14,32 +11,16 @@ use Rattle.temporal.specs.Bytes.{planOf}
 use Rattle.temporal.specs.Cause.{cause, first, unless, planCauses, termsCauses, tooManyAnywhere}
 use Rattle.temporal.specs.Outcome.{over}
 use Rattle.temporal.specs.OutcomePair.{LoadBuffers, loads}
-use Rattle.text.specs.Decimal.{decimal}
+use Rattle.text.specs.Field.{ascii, space, lineFeed, field, fields, labelled}
 use Rattle.report.specs.Sizes.{inputStations, inputSlots, wrongInput, overLimits}
-
--- the ASCII codes of a text
-abbrev pub ascii : String → List ℕ
-ascii string.[] = []
-ascii (string._∷_ c s) = code c ∷ ascii s
-
--- a space, and the line feed that ends every line
-abbrev pub space : List ℕ
-space = 32 ∷ []
-
-abbrev pub lineFeed : List ℕ
-lineFeed = 10 ∷ []
-
--- a number in decimal, and what stands behind it
-unfoldable pub field : ℕ → List ℕ → List ℕ
-field x behind = decimal x ++ behind
 
 -- the first line: the numbers of stations, slots and contacts
 unfoldable pub heading : ℕ → ℕ → ℕ → List ℕ
-heading n t m = ascii "stations " ++ field n (ascii " slots ") ++ field t (ascii " contacts ") ++ field m lineFeed
+heading n t m = labelled (ascii "stations ") n (ascii " slots ") t (ascii " contacts ") m lineFeed
 
 -- a station's line: station, pairs, load
 unfoldable pub line : ℕ → ℕ → ℕ → List ℕ
-line v p l = field v space ++ field p space ++ field l lineFeed
+line v p l = fields v space p space l lineFeed
 
 -- the loads of a plan: the first line, then a line for each station
 unfoldable pub loadsText : Plan → List ℕ

@@ -6,7 +6,7 @@ ghost use Rattle.text.specs.Written.{Put};
 ghost use Rattle.temporal.specs.Plan.{turning};
 ghost use Rattle.loads.specs.Answer.{loadBuffers};
 ghost use Rattle.report.specs.Sizes.{topStation, inputStations, inputSlots, wrongInput, overLimits};
-ghost use Rattle.report.specs.Report.{field, heading, line, refusalText, Reported};
+ghost use Rattle.report.specs.Report.{heading, line, refusalText, Reported};
 ghost use Rattle.report.specs.Work.{linesOf, tableOf, Printable, Within};
 use loads::LoadsAnswer;
 
@@ -30,7 +30,7 @@ fn top_station(input: &[u8], i: usize) -> usize
 }
 
 // The largest station number of all records; 0 where there is no record.
-fn top_of(input: &[u8]) -> usize
+pub fn top_of(input: &[u8]) -> usize
     ensures { λ r. ⌜ r + 1 ≡ inputStations (now (input .entry)) ⌝ }
 {
     let m = input.len() / 6;
@@ -44,7 +44,7 @@ fn top_of(input: &[u8]) -> usize
 }
 
 // The last record's slot; 1 where there is no record.
-fn slots_of(input: &[u8]) -> usize
+pub fn slots_of(input: &[u8]) -> usize
     ensures { λ r. ⌜ r ≡ inputSlots (now (input .entry)) ⌝ }
 {
     let m = input.len() / 6;
@@ -56,7 +56,7 @@ fn slots_of(input: &[u8]) -> usize
 }
 
 // Whether the input is not a multiple of 6 bytes, or over 1,024 records.
-fn wrong_input(input: &[u8]) -> bool
+pub fn wrong_input(input: &[u8]) -> bool
     ensures { λ r. ⌜ r ≡ wrongInput (now (input .entry)) ⌝ }
 {
     if input.len() % 6 != 0 {
@@ -66,7 +66,7 @@ fn wrong_input(input: &[u8]) -> bool
 }
 
 // Whether stations up to this one are over 32, or slots over 63.
-fn over_limits(top: usize, t: usize) -> bool
+pub fn over_limits(top: usize, t: usize) -> bool
     ensures { λ r. ⌜ r ≡ overLimits (top + 1) t ⌝ }
 {
     if 31 < top {
@@ -75,22 +75,13 @@ fn over_limits(top: usize, t: usize) -> bool
     63 < t
 }
 
-// Writes a number and what stands behind it.
-fn put_field(out: &mut [u8], at: usize, x: u64, behind: &[u8]) -> usize
-    requires { ⌜ at + length (field x (now behind)) ≤ length (now out) ⌝ }
-    ensures { λ r. ⌜ Put at (field x (now (behind .entry))) (now (out .entry)) r (now (out .exit)) ⌝ }
-{
-    let end = text::put_decimal(out, at, x);
-    text::put_bytes(out, end, behind)
-}
-
 // Writes the one line of a refusal.
-fn put_refusal(out: &mut [u8], at: usize, k: u64) -> usize
+pub fn put_refusal(out: &mut [u8], at: usize, k: u64) -> usize
     requires { ⌜ at + length (refusalText k) ≤ length (now out) ⌝ }
     ensures { λ r. ⌜ Put at (refusalText k) (now (out .entry)) r (now (out .exit)) ⌝ }
 {
     let end = text::put_bytes(out, at, b"refused ");
-    put_field(out, end, k, b"\n")
+    text::put_field(out, end, k, b"\n")
 }
 
 // Writes the first line.
@@ -98,10 +89,17 @@ fn put_heading(out: &mut [u8], at: usize, n: u64, t: u64, m: u64) -> usize
     requires { ⌜ at + length (heading n t m) ≤ length (now out) ⌝ }
     ensures { λ r. ⌜ Put at (heading n t m) (now (out .entry)) r (now (out .exit)) ⌝ }
 {
-    let a = text::put_bytes(out, at, b"stations ");
-    let b = put_field(out, a, n, b" slots ");
-    let c = put_field(out, b, t, b" contacts ");
-    put_field(out, c, m, b"\n")
+    text::put_labelled(
+        out,
+        at,
+        b"stations ",
+        n,
+        b" slots ",
+        t,
+        b" contacts ",
+        m,
+        b"\n",
+    )
 }
 
 // Writes a station's line.
@@ -109,15 +107,13 @@ fn put_line(out: &mut [u8], at: usize, v: u64, pairs: u64, load: u64) -> usize
     requires { ⌜ at + length (line v pairs load) ≤ length (now out) ⌝ }
     ensures { λ r. ⌜ Put at (line v pairs load) (now (out .entry)) r (now (out .exit)) ⌝ }
 {
-    let a = put_field(out, at, v, b" ");
-    let b = put_field(out, a, pairs, b" ");
-    put_field(out, b, load, b"\n")
+    text::put_fields(out, at, v, b" ", pairs, b" ", load, b"\n")
 }
 
 // Writes a line for each of the first n stations.
 fn put_lines(out: &mut [u8], at: usize, n: usize, pairs: &[u64], sums: &[u64]) -> usize
-    requires { ⌜ Printable at n (now pairs) (now sums) (linesOf (now pairs) (now sums) 0 n) (now out) ⌝ }
-    ensures { λ r. ⌜ Put at (linesOf (now (pairs .entry)) (now (sums .entry)) 0 n) (now (out .entry)) r (now (out .exit)) ⌝ }
+    requires { ⌜ Printable at n (now pairs) (now sums) (linesOf (now pairs) (now sums) n) (now out) ⌝ }
+    ensures { λ r. ⌜ Put at (linesOf (now (pairs .entry)) (now (sums .entry)) n) (now (out .entry)) r (now (out .exit)) ⌝ }
 {
     let mut end = at;
     let mut v = 0;

@@ -44,3 +44,22 @@ module _ (at : ℕ) (x y old : List ℕ) (room : at + length (x ++ y) ≤ length
               ap (λ k. sets (sets old at x) k y) (p .place) ∙
               sets-append x y old at ∙ sym (written-sets at (x ++ y) old room);
         }
+
+-- three texts, one behind the other
+module _ (at : ℕ) (x y z old : List ℕ) (room : at + length (x ++ y ++ z) ≤ length old) where
+  pub room-first-of-three : at + length x ≤ length old
+  room-first-of-three = room-first at x y old (room-first at (x ++ y) z old room)
+
+  module _ (a : ℕ) (mid : List ℕ) (p : Put at x old a mid) where
+    pub room-second-of-three : a + length y ≤ length mid
+    room-second-of-three = room-rest at x y old (room-first at (x ++ y) z old room) a mid p
+
+    module _ (b : ℕ) (then : List ℕ) (q : Put a y mid b then) where
+      two : Put at (x ++ y) old b then
+      two = put-both at x y old (room-first at (x ++ y) z old room) a mid p b then q
+
+      pub room-third-of-three : b + length z ≤ length then
+      room-third-of-three = room-rest at (x ++ y) z old room b then two
+
+      pub put-three : (c : ℕ) (now : List ℕ) → Put b z then c now → Put at (x ++ y ++ z) old c now
+      put-three c now r = put-both at (x ++ y) z old room b then two c now r

@@ -13,9 +13,6 @@ enum-known-got c = search needs
 enum-told : tie.Need-enum-told
 enum-told c = search needs
 
-slice-aggregate-write-all : tie.Need-slice-aggregate-write-all
-slice-aggregate-write-all c = search needs
-
 write-all-requires : tie.Need-write-all-requires
 write-all-requires c κs = search needs
 
@@ -38,7 +35,6 @@ read-records-spec =
     read-all-requires
     enum-known-got
     enum-told
-    slice-aggregate-write-all
     write-all-requires
     same-length
     returns

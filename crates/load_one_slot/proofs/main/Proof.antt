@@ -11,6 +11,9 @@ use Rattle.load_one_slot.proofs.main.Tie as tie
 slice-aggregate-read-records : tie.Need-slice-aggregate-read-records
 slice-aggregate-read-records c = search needs
 
+slice-aggregate-read-records-2 : tie.Need-slice-aggregate-read-records-2
+slice-aggregate-read-records-2 c = search needs
+
 read-records-requires : tie.Need-read-records-requires
 read-records-requires c κs = search needs
 
@@ -26,7 +29,7 @@ returns c = search needs
 -- what was read lies within the input buffer
 read-within :
     (c : tie.After-known-told) →
-    Counts (c .before .got .given .0 .0) (c .before .before .before .before .read-records .last .0)
+    Counts (c .before .got .given .0 .0) (c .before .before .before .before .read-records .last .1 .0)
 read-within c = rw (c .before .got .given .1) at (c .before .before .before .before .read-records .ensures)
 
 array-share-prefix-bytes : tie.Need-array-share-prefix-bytes
@@ -38,11 +41,14 @@ slice-aggregate-text-of c = read-within (c .before) .1
 text-of-requires : tie.Need-text-of-requires
 text-of-requires c κs = search needs
 
-array-share-prefix-out : tie.Need-array-share-prefix-out
-array-share-prefix-out c = texted-within (c .text-of .ensures)
-
 slice-aggregate-write-text : tie.Need-slice-aggregate-write-text
-slice-aggregate-write-text c = sym (length-take-le _ _ (texted-within (c .before .text-of .ensures)))
+slice-aggregate-write-text c = search needs
+
+array-share-prefix-out : tie.Need-array-share-prefix-out
+array-share-prefix-out c = texted-within (c .before .text-of .ensures)
+
+slice-aggregate-write-text-2 : tie.Need-slice-aggregate-write-text-2
+slice-aggregate-write-text-2 c = sym (length-take-le _ _ (texted-within (c .before .before .text-of .ensures)))
 
 write-text-requires : tie.Need-write-text-requires
 write-text-requires c κs = search needs
@@ -55,6 +61,7 @@ main-spec =
     tie.close
     (tie.spec
     slice-aggregate-read-records
+    slice-aggregate-read-records-2
     read-records-requires
     enum-known-got
     enum-told
@@ -62,7 +69,8 @@ main-spec =
     array-share-prefix-bytes
     slice-aggregate-text-of
     text-of-requires
-    array-share-prefix-out
     slice-aggregate-write-text
+    array-share-prefix-out
+    slice-aggregate-write-text-2
     write-text-requires
     returns-2)

@@ -1,7 +1,8 @@
 -- `report::put_refusal` meets its contract: the word, then the number with the line's end.
 -- Assumes nothing.
 use Rattle.text.proofs.PutLaws.{room-first, room-rest, put-both}
-use Rattle.report.specs.Report.{field, refusalText, ascii, lineFeed}
+use Rattle.text.specs.Field.{field, ascii, lineFeed}
+use Rattle.report.specs.Report.{refusalText}
 use borrow.Author.Needs.{needs}
 use Rattle.report.proofs.put_refusal.Statement.{statement}
 use Rattle.report.proofs.put_refusal.Tie as tie

@@ -11,7 +11,7 @@ put-heading-requires : tie.Need-put-heading-requires
 unfolding tableOf
 put-heading-requires c κs =
     let a = c .before .before .before .before .args in
-    room-first 0 (heading (a .n) (a .t) (a .m)) (linesOf (a .pairs .now) (a .sums .now) 0 (a .n)) (a .out .now) (c .before .before .before .before .pre .text-room)
+    room-first 0 (heading (a .n) (a .t) (a .m)) (linesOf (a .pairs .now) (a .sums .now) (a .n)) (a .out .now) (c .before .before .before .before .pre .text-room)
 
 put-lines-requires : tie.Need-put-lines-requires
 unfolding tableOf
@@ -22,7 +22,7 @@ put-lines-requires c κs =
       pairs-room = pre .pairs-room;
       loads-room = pre .loads-room;
       text-room =
-          room-rest 0 (heading (a .n) (a .t) (a .m)) (linesOf (a .pairs .now) (a .sums .now) 0 (a .n)) (a .out .now)
+          room-rest 0 (heading (a .n) (a .t) (a .m)) (linesOf (a .pairs .now) (a .sums .now) (a .n)) (a .out .now)
           (pre .text-room) _ _ (c .before .before .before .put-heading .ensures);
     }
 
@@ -33,7 +33,7 @@ returns : tie.Need-returns
 unfolding tableOf
 returns c =
     let a = c .before .before .before .before .before .before .before .before .before .before .before .args in
-    put-both 0 (heading (a .n) (a .t) (a .m)) (linesOf (a .pairs .now) (a .sums .now) 0 (a .n)) (a .out .now)
+    put-both 0 (heading (a .n) (a .t) (a .m)) (linesOf (a .pairs .now) (a .sums .now) (a .n)) (a .out .now)
     (c .before .before .before .before .before .before .before .before .before .before .before .pre .text-room) _ _ (c .before .before .before .before .before .before .put-heading .ensures) _ _ (c .before .before .put-lines .ensures)
 
 pub put-table-spec : {M : Type 1} → statement M

@@ -1,11 +1,11 @@
--- `report::put_field` meets its contract: the number, then what stands behind it.
+-- `text::put_field` meets its contract: the number, then what stands behind it.
 -- Assumes nothing.
 use Rattle.text.proofs.PutLaws.{room-first, room-rest, put-both}
 use Rattle.text.specs.Decimal.{decimal}
-use Rattle.report.specs.Report.{field}
+use Rattle.text.specs.Field.{field}
 use borrow.Author.Needs.{needs}
-use Rattle.report.proofs.put_field.Statement.{statement}
-use Rattle.report.proofs.put_field.Tie as tie
+use Rattle.text.proofs.put_field.Statement.{statement}
+use Rattle.text.proofs.put_field.Tie as tie
 
 put-decimal-requires : tie.Need-put-decimal-requires
 unfolding field
