@@ -33,7 +33,7 @@ pub enum Packed {
     TooWide,
 }
 
-// How many appearances of a station the pass keeps where readings go stale.
+// How deep the ring of the pass is where readings go stale. The work area stays as it is.
 pub fn depth(work: &mut [u64], plan: &[u8], n: usize, t: usize, h: usize) -> usize
     requires { ⌜ DepthReady (now plan) n t h (now work) ⌝ }
     ensures { λ r. ⌜ DepthOf (now (plan .entry)) n h (now (work .entry)) (now (work .exit)) r ⌝ }
@@ -41,7 +41,7 @@ pub fn depth(work: &mut [u64], plan: &[u8], n: usize, t: usize, h: usize) -> usi
     if t <= h + 1 {
         return h;
     }
-    stale::depth_of(work, plan, n, h)
+    stale::depth_of(plan, n, t, h)
 }
 
 // The most columns of a row for which the pass fits e entries a station where nothing goes stale, with q parts of what waits.

@@ -1,9 +1,9 @@
--- Places of the work area where readings go stale: its parts, the slots of the cells and the counters lie within it and apart from each
--- other. Assumes nothing.
+-- Places of the work area where readings go stale: its parts, the marks of the cells and the heads lie within it and apart from each
+-- other, and so do the cells of two numbers. Assumes nothing.
 use Prim.Native.Nat.{ℕ, suc, _+_, _*_, _/_, _%_, _<_, _≤_}
 use native.Mathlib.Omega.{arith}
-use native.Mathlib.Nat.{le-refl, mul-le-mul, mul-le-mul-right, suc-mul}
-use native.Mathlib.Decide.{decLe}
+use native.Mathlib.Nat.{le-refl, mul-le-mul, mul-le-mul-right, suc-mul, mul-comm, mul-pos, mod-lt, div-add-mod', div-lt-iff-lt-mul}
+use native.Mathlib.Decide.{decLe, ℕ-discrete}
 use lib.Arith.{digits-lt, digits-div, digits-mod}
 use mathlib.Core.Path.{_≡_, sym, ap, _∙_}
 use mathlib.Core.List.{List}
@@ -11,6 +11,7 @@ use mathlib.Core.Logic.{_⊎_, inl, inr, ⊎-elim, by-cases, _≢_}
 use lib.ListN.{length}
 use Rattle.pass.specs.Row.{partSize}
 use Rattle.pass.specs.Sweep.{Area}
+use Rattle.pass.proofs.PlaceLaws.{place-apart}
 use Rattle.stale.specs.Size.{windowSize}
 use Rattle.stale.specs.Window.{ringAt, markAt, TwoParts, WindowArea}
 
@@ -31,17 +32,11 @@ module _ (n block : ℕ) where
   unfolding ringAt
   ring-first i = let m = mul-le-mul-right {m = 2} {n = 2 + i} (partSize n block) (omega arith) in omega arith
 
-  pub ring-next : (i : ℕ) → ringAt n block i + partSize n block ≡ ringAt n block (i + 1)
-  unfolding ringAt
-  ring-next i =
-      let one : suc (2 + i) ≡ 2 + (i + 1) = omega arith in
-      omega (arith, suc-mul (2 + i) (partSize n block), ap (λ k. k * partSize n block) one)
-
   pub ring-apart : (i k : ℕ) → i ≢ k → Apart n block (ringAt n block i) (ringAt n block k)
   ring-apart i k d =
       by-cases (decLe (suc i) k) (λ h. inl (ring-before i k h)) (λ h. inr (ring-before k i (omega arith)))
 
-  -- the slots and the counters lie behind the parts
+  -- the marks and the heads lie behind the parts
   pub parts-end : (d i : ℕ) → i ≤ d → ringAt n block i + partSize n block ≤ (3 + d) * partSize n block
   unfolding ringAt
   parts-end d i h =
@@ -59,12 +54,6 @@ module _ (n block : ℕ) where
       let inside = digits-lt one hv in
       omega arith
 
-  pub mark-next : (d i v : ℕ) → markAt n block d i v + n ≡ markAt n block d (i + 1) v
-  unfolding markAt
-  mark-next d i v =
-      let one : suc i ≡ i + 1 = omega arith in
-      omega (arith, suc-mul i n, ap (λ k. k * n) one)
-
   pub mark-at : (d i v : ℕ) → markAt n block d i 0 + v ≡ markAt n block d i v
   unfolding markAt
   mark-at d i v = omega arith
@@ -77,6 +66,30 @@ module _ (n block : ℕ) where
       let first = sym (digits-div i hv) ∙ ap (λ x. x / n) digits ∙ digits-div k hz in
       let second = sym (digits-mod i hv) ∙ ap (λ x. x % n) digits ∙ digits-mod k hz in
       ⊎-elim (λ (d : i ≢ k). d first) (λ (d : v ≢ z). d second) differ
+
+-- ---- the cells of numbers
+
+module _ (n d : ℕ) (some : 0 < n) where
+  pub cells-some : 0 < d → 0 < n * d
+  cells-some deep = mul-pos some deep
+
+  pub number-inside : (k : ℕ) → 0 < d → k % (n * d) / n < d
+  number-inside k deep =
+      let low = mod-lt k (cells-some deep) in
+      div-lt-iff-lt-mul some .1 (omega (arith, mul-comm n d))
+
+  pub number-place : (k : ℕ) → k % (n * d) % n < n
+  number-place k = mod-lt (k % (n * d)) some
+
+  -- two numbers that are as near to each other as there are cells have different cells
+  pub number-apart : (k l : ℕ) → k < l → l < k + n * d
+      → (k % (n * d) / n ≢ l % (n * d) / n) ⊎ (k % (n * d) % n ≢ l % (n * d) % n)
+  number-apart k l low high =
+      by-cases (ℕ-discrete (k % (n * d) / n) (l % (n * d) / n))
+      (λ same. inr (λ place.
+      place-apart (n * d) k l low high
+      (omega (arith, div-add-mod' (k % (n * d)) n, div-add-mod' (l % (n * d)) n, ap (λ i. i * n) same, place))))
+      inl
 
 -- ---- places as code computes them
 
@@ -128,7 +141,7 @@ module _ {n block d : ℕ} {w : List ℕ} (a : WindowArea n block d w) where
       let f = heard-fits in
       record { some = a .some; parts = omega arith; fits = let m = suc-mul 1 (partSize n block) in omega arith }
 
-  -- a cell of the rings, the windows among them, and what is heard
+  -- a part of the ring, or the windows, and what is heard
   pub ring-heard : (i : ℕ) → i ≤ d → TwoParts n block (ringAt n block i) (partSize n block) w
   ring-heard i h = let f = heard-fits in record { some = a .some; to-fits = ring-fits i h; from-fits = f }
 

@@ -7,7 +7,7 @@ use native.Mathlib.Decide.{decLe, ℕ-discrete}
 use mathlib.Core.Path.{_≡_, refl, sym, ap, subst, _∙_}
 use mathlib.Core.Bool.{Bool, true, false, cond}
 use mathlib.Core.List.{List}
-use mathlib.Core.Logic.{_⊎_, inl, inr, ⊎-elim, by-cases, _≢_}
+use mathlib.Core.Logic.{_⊎_, inl, inr, by-cases, _≢_}
 use mathlib.Core.Option.{some as present}
 use borrow.Author.Tests.{ltb-true, ltb-false, eqb-true, eqb-false}
 use lib.Dec.{ltb, eqb}
@@ -52,18 +52,18 @@ use Rattle.pass.proofs.EndLaws.{appearance-small, appearance-large, start-small
 use Rattle.pass.proofs.EndLaws.{RowHeld, entries-overflow, entries-counted}
 use Rattle.pass.proofs.ReachLaws.{stations-over}
 use Rattle.pass.proofs.PassLaws.{drop-same}
-use Rattle.stale.specs.Depth.{heardBefore, heardRecords}
+use Rattle.stale.specs.Depth.{slotLoad, spread}
 use Rattle.stale.specs.Size.{windowSize}
-use Rattle.stale.specs.Window.{ringAt, markAt, windowsOf, goesOn, sentRecords, keptRecords, windowSlot, begunWindow}
+use Rattle.stale.specs.Window.{ringAt, markAt, headOf, windowsOf, goesOn, sentRecords, keptRecords, windowSlot, begunWindow}
 use Rattle.stale.specs.Window.{WindowArea, RecordsFit, WindowReady}
-use Rattle.stale.proofs.DepthLaws.{rises, heard-most}
+use Rattle.stale.proofs.DepthLaws.{slot-run, load-run}
 use Rattle.stale.proofs.RingPlaces.{area-same, mark-behind, mark-at, mark-inside, heard-fits, first-parts, ring-first, parts-end}
-use Rattle.stale.proofs.WindowSteps.{on-stop, on-rest, counters-fit}
+use Rattle.stale.proofs.WindowSteps.{on-stop, on-rest, heads-fit}
 use Rattle.stale.proofs.WindowCells.{Holds, ThinAt, holds-alike, part-alike}
-use Rattle.stale.proofs.RingLaws.{Ring, counterOf}
-use Rattle.stale.proofs.WindowWalks.{heardBy, heardIn, heard-less, WindowState, NoneWaits}
+use Rattle.stale.proofs.RingLaws.{Ring, newest, ring-wider}
+use Rattle.stale.proofs.WindowWalks.{heardBy, heardIn, heard-less, keptSince, since-next, WindowState, NoneWaits}
 use Rattle.stale.proofs.WindowSlots.{state-window, Gathered, windows-gathered, Hearing, hearing-none, hearing-all, none-comes}
-use Rattle.stale.proofs.WindowSlots.{LargeHere, Done, Midway, all-done, Kept, kept-all}
+use Rattle.stale.proofs.WindowSlots.{LargeHere, Done, midway-most, all-done, Kept, kept-all}
 
 -- ---- a slot
 
@@ -80,43 +80,44 @@ pub record SlotOf (bs : List ℕ) (p : Plan) (n c j e : ℕ) : Type 0 where
 
 -- What a slot u leaves, with the first e records done: the length and what lies beyond stay; with one lane to an entry the flag says that
 -- an appearance in the slot is large; where it is not up, none is, the work area has the state by slot u, and nothing waits.
-pub record SlotLeft (bs : List ℕ) (lay : Lanes) (p : Plan) (s : ℕ) (may : ℕ → ℕ → Bool) (n block h d u e : ℕ) (old : List ℕ) (y : Sweep)
+pub record SlotLeft (bs : List ℕ) (lay : Lanes) (p : Plan) (s : ℕ) (may : ℕ → ℕ → Bool) (n block d u e : ℕ) (old : List ℕ) (y : Sweep)
     : Type 0 where
   pub same : length (y .work) ≡ length old
   pub beyond : (i : ℕ) → windowSize n d block ≤ i → getD (y .work) i 0 ≡ getD old i 0
   pub over : y .over ≡ true → lay .lanes ≡ 1 → LargeHere n (λ v. heardIn p s everywhere v u)
-  pub state : y .over ≡ false → WindowState bs lay p s may n block h d u e old (y .work)
+  pub state : y .over ≡ false → WindowState bs lay p s may n block d u e old (y .work)
   pub none : y .over ≡ false → NoneWaits lay n block (y .work)
   pub small : y .over ≡ false → (v : ℕ) → v < n → Small (heardIn p s everywhere v u)
 
 module _ (bs : List ℕ) (lay : Lanes) (full : Filled lay) (p : Plan) (s : ℕ) (col : ℕ → ℕ) (n block c : ℕ) (turns : 0 < p .terms .turnaround)
     (some : 0 < p .terms .keeping) (fits : SlotsWithin p) (few : p .slots ≤ 255) (d : ℕ) (old : List ℕ) (area : WindowArea n block d old)
-    (j e : ℕ) (slot : SlotOf bs p n c j e) (deep : (v : ℕ) → v < n → (d ≡ p .terms .keeping) ⊎ (heardBefore bs v e ≤ d))
-    (small : e < 18446744073709551616) (w : List ℕ)
-    (state : WindowState bs lay p s (mayLeave s col) n block (p .terms .keeping) d c j old w) (none : NoneWaits lay n block w) where
+    (j e : ℕ) (slot : SlotOf bs p n c j e) (hs : s < n) (most : c < 255)
+    (deep : (u : ℕ) → spread (slotLoad bs n) u (p .terms .keeping) ≤ n * d) (inside : e ≤ records bs) (small : e < 72057594037927936)
+    (w : List ℕ)
+    (state : WindowState bs lay p s (mayLeave s col) n block d c j old w) (none : NoneWaits lay n block w) where
   windows : Sweep
   windows = windowsOf bs lay n block d (p .terms) s col w (c + 1) n j (e - j)
 
-  gathered : Gathered lay full p s col n block c turns some bs d j old area j (e - j) w windows
+  gathered : Gathered lay full p s col n block c turns some bs d j old area most deep j (e - j) w windows
   unfolding windows
   gathered =
-      windows-gathered lay full p s col n block c turns some bs d j old area (e - j) w n j state (λ h. absurd (omega arith))
+      windows-gathered lay full p s col n block c turns some bs d j old area most deep (e - j) w n j state (λ h. absurd (omega arith))
       (λ i low high. slot .sender i low (let f = slot .from in omega arith))
 
   -- the state with the windows
-  state-here : WindowState bs lay p s (mayLeave s col) n block (p .terms .keeping) d c j old (windows .work)
-  state-here = state-window (area .deep) (gathered .only) state
+  state-here : WindowState bs lay p s (mayLeave s col) n block d c j old (windows .work)
+  state-here = state-window area (gathered .only) state
 
   sent-list : List ℕ
   sent-list = sentRecords bs n block (ringAt n block d) (partSize n block) (windows .work) j (e - j)
 
-  hearing : windows .over ≡ false → Hearing bs lay p s (mayLeave s col) n block (p .terms .keeping) d c old j e e sent-list
+  hearing : windows .over ≡ false → Hearing bs lay p s (mayLeave s col) n block d c old j e e sent-list
   unfolding sent-list
   hearing down =
       let f = slot .from in
-      hearing-all bs lay p s (mayLeave s col) n block (p .terms .keeping) d c old area j e (slot .sender) fits few (e - j) j _ (omega arith)
+      hearing-all bs lay p s (mayLeave s col) n block d c old area j e (slot .sender) fits few (e - j) j _ (omega arith)
       (omega arith) (slot .there) (slot .slot) (slot .hearer)
-      (hearing-none bs lay p s (mayLeave s col) n block (p .terms .keeping) d c old area j e (slot .sender) (windows .work)
+      (hearing-none bs lay p s (mayLeave s col) n block d c old area j e (slot .sender) (windows .work)
       state-here
       (λ v hv. holds-alike (part-alike (partSize n block) v (inl (ring-first n block d)) hv (gathered .only)) (none v hv))
       (λ i low high. gathered .here down i low (omega arith)) (slot .done))
@@ -140,31 +141,43 @@ module _ (bs : List ℕ) (lay : Lanes) (full : Filled lay) (p : Plan) (s : ℕ) 
   unheard v other m =
       let f = slot .from in
       sym (all-heard everywhere v m)
-      ∙ sym (none-comes bs lay p s (mayLeave s col) n block (p .terms .keeping) d c old area j e (slot .sender) fits few v (e - j) j
+      ∙ sym (none-comes bs lay p s (mayLeave s col) n block d c old area j e (slot .sender) fits few v (e - j) j
       (omega arith) (omega arith) (slot .there) other m)
       ∙ none-arrived p s everywhere j (c + 1) (slot .done) v m
 
   kept-here : windows .over ≡ false
-      → Kept bs lay p s (mayLeave s col) n block (p .terms .keeping) d c j e old (keptRecords bs lay n block d (c + 1) sent-list j (e - j))
+      → Kept bs lay p s (mayLeave s col) n block d c j e old (keptRecords bs lay n block d s (c + 1) sent-list j (e - j))
   kept-here down =
       let f = slot .from in
-      kept-all bs lay p s (mayLeave s col) n block (p .terms .keeping) d c j e old area (slot .from) by-next unheard
-      (λ v. omega (arith, heard-most bs v e)) deep (slot .hearer) (e - j) j sent-list (omega arith) (omega arith)
+      let here = hearing down .state in
+      kept-all bs lay p s (mayLeave s col) n block d c j e old area (slot .from) hs most by-next unheard small (slot .hearer) (e - j) j
+      sent-list (omega arith) (omega arith)
       (record {
-        same = hearing down .state .same;
-        beyond = hearing down .state .beyond;
-        stations = λ v hv. inr (record {
-          total = hearing down .state .totals v hv;
-          ring = hearing down .state .rings v hv;
-          heard = heard-here down v hv;
-          thin = hearing down .state .thin v hv;
-          fresh = λ x low high. absurd (omega arith);
-        });
+        same = here .same;
+        beyond = here .beyond;
+        number = here .number;
+        kept = 0;
+        counter = here .counter;
+        few = omega (arith, here .few);
+        so-far = omega arith;
+        ones = λ v. 0;
+        once = λ v. omega arith;
+        hearers = omega arith;
+        stations = λ v hv. inr (
+          refl,
+          record {
+            total = here .totals v hv;
+            ring = λ other. ring-wider (λ x low high. omega arith) (here .rings v hv other);
+            heard = heard-here down v hv;
+            thin = here .thin v hv;
+            fresh = λ x low high. absurd (omega arith);
+          },
+        );
       })
 
   -- past the last record every station is done
-  all-left : (y : Sweep) → Kept bs lay p s (mayLeave s col) n block (p .terms .keeping) d c j e old y
-      → SlotLeft bs lay p s (mayLeave s col) n block (p .terms .keeping) d (c + 1) e old y
+  all-left : (y : Sweep) → Kept bs lay p s (mayLeave s col) n block d c j e old y
+      → SlotLeft bs lay p s (mayLeave s col) n block d (c + 1) e old y
   all-left y x =
       record {
         same = x .midway .same;
@@ -175,29 +188,39 @@ module _ (bs : List ℕ) (lay : Lanes) (full : Filled lay) (p : Plan) (s : ℕ) 
           beyond = x .midway .beyond;
           totals = λ v hv. done f v hv .total;
           thin = λ v hv. done f v hv .thin;
-          rings = λ v hv. done f v hv .ring;
+          number = x .midway .number;
+          counter = x .midway .counter;
+          few = omega (arith, x .midway .few, x .midway .so-far, x .all f);
+          rings = λ v hv other. ring-wider (λ z low high. since-next bs n c z (x .midway .kept) high (kept-few f)) (done f v hv .ring other);
         };
         none = λ f v hv. done f v hv .none;
         small = λ f v hv. done f v hv .few;
       }
     where
-      done : y .over ≡ false → (v : ℕ) → v < n → Done bs lay p s (mayLeave s col) n block (p .terms .keeping) d c j e old v (y .work)
-      done f =
-          all-done bs lay p s (mayLeave s col) n block (p .terms .keeping) d c j e old area (slot .from) by-next unheard
-          (λ v. omega (arith, heard-most bs v e)) deep _
-          (subst (λ i. Midway bs lay p s (mayLeave s col) n block (p .terms .keeping) d c j e old i (y .work)) (x .all f) (x .midway))
+      -- no more are kept than the slot has records and the plan stations
+      kept-few : y .over ≡ false → x .midway .kept ≤ slotLoad bs n (c + 1)
+      kept-few f =
+          load-run bs n (c + 1) (x .midway .kept)
+          (midway-most bs lay p s (mayLeave s col) n block d c j e old (x .position) (y .work) (x .midway))
+          (omega (arith, slot-run bs (c + 1) j e (slot .from) inside (slot .slot), x .midway .so-far, x .all f))
 
-  pub slot-left : SlotLeft bs lay p s (mayLeave s col) n block (p .terms .keeping) d (c + 1) e old
+      done : y .over ≡ false → (v : ℕ) → v < n
+          → Done bs lay p s (mayLeave s col) n block d c j e old v (x .midway .number) (x .midway .kept) (y .work)
+      done f =
+          all-done bs lay p s (mayLeave s col) n block d c j e old area (slot .from) hs most by-next unheard small (x .position) (x .all f)
+          (y .work) (x .midway)
+
+  pub slot-left : SlotLeft bs lay p s (mayLeave s col) n block d (c + 1) e old
       (windowSlot bs lay n block d (p .terms) s col w (c + 1) j e)
   unfolding windowSlot windows sent-list
   slot-left = go (windows .over) refl
     where
       others : List ℕ → Sweep
       others y =
-          keptRecords bs lay n block d (c + 1) (sentRecords bs n block (ringAt n block d) (partSize n block) y j (e - j)) j (e - j)
+          keptRecords bs lay n block d s (c + 1) (sentRecords bs n block (ringAt n block d) (partSize n block) y j (e - j)) j (e - j)
 
       go : (b : Bool) → windows .over ≡ b
-          → SlotLeft bs lay p s (mayLeave s col) n block (p .terms .keeping) d (c + 1) e old (goesOn windows others)
+          → SlotLeft bs lay p s (mayLeave s col) n block d (c + 1) e old (goesOn windows others)
       go true q =
           rw (on-stop windows others q)
           (record {
@@ -222,7 +245,7 @@ pub record Windowing (bs : List ℕ) (n t : ℕ) (terms : Terms) (s : ℕ) (lay 
   pub inside : j ≤ records bs
   done : (i : ℕ) → i < j → contactAt bs i .slot < u
   ahead : (i : ℕ) → j ≤ i → i < records bs → u ≤ contactAt bs i .slot
-  pub state : WindowState bs lay (planOf bs n t terms) s (mayLeave s col) n block (terms .keeping) d (u - 1) j old w
+  pub state : WindowState bs lay (planOf bs n t terms) s (mayLeave s col) n block d (u - 1) j old w
   none : NoneWaits lay n block w
   small : (v x : ℕ) → v < n → x < u → count (shortestWalks (planOf bs n t terms) s v x) ≤ 18446744073709551615
 
@@ -316,25 +339,18 @@ module _ (bs : List ℕ) (n t : ℕ) (terms : Terms) (d s : ℕ) (lay : Lanes) (
         most : t ≤ 255
         most = accepted bs n t ok .slots
 
-        -- the rings are deep enough for what is heard
-        deep-here : (v : ℕ) → v < n → (d ≡ terms .keeping) ⊎ (heardBefore bs v e ≤ d)
-        deep-here v hv =
-            ⊎-elim inl
-            (λ (few : (v : ℕ) → v < n → heardRecords bs v ≤ d). inr (omega (arith, few v hv, rises bs v e (records bs) end-inside)))
-            (ready .deep .1)
-
-        end-small : e < 18446744073709551616
+        end-small : e < 72057594037927936
         end-small = let a = end-inside in let b = accepted bs n t ok .few in omega arith
 
         -- what the slot leaves
-        left : SlotLeft bs lay (planOf bs n t terms) s (mayLeave s col) n block (terms .keeping) d u e old (sweepOf r w′)
+        left : SlotLeft bs lay (planOf bs n t terms) s (mayLeave s col) n block d u e old (sweepOf r w′)
         unfolding planOf
         left =
             rw out
-            (subst (λ y. SlotLeft bs lay (planOf bs n t terms) s (mayLeave s col) n block (terms .keeping) d y e old
+            (subst (λ y. SlotLeft bs lay (planOf bs n t terms) s (mayLeave s col) n block d y e old
             (windowSlot bs lay n block d terms s col w y j e)) this-slot
             (slot-left bs lay (x .full) (planOf bs n t terms) s col n block (u - 1) turns keeps (slots-within bs n t terms ok) most d old
-            area j e of-slot deep-here end-small w (x .state) (x .none)))
+            area j e of-slot (ready .source) (omega (arith, most, x .from-one)) (ready .deep .1) end-inside end-small w (x .state) (x .none)))
 
         module _ (up : r ≡ true) where
           stopped-with : (z : Ended) → EndedAs bs n t terms s n lay col block w′ z
@@ -378,7 +394,7 @@ module _ (bs : List ℕ) (n t : ℕ) (terms : Terms) (d s : ℕ) (lay : Lanes) (
                   (λ before. let k = x .done i (omega arith) in omega arith);
               ahead = λ i from inside. let k = later i from inside in omega arith;
               state =
-                  subst (λ y. WindowState bs lay (planOf bs n t terms) s (mayLeave s col) n block (terms .keeping) d y e old w′) up
+                  subst (λ y. WindowState bs lay (planOf bs n t terms) s (mayLeave s col) n block d y e old w′) up
                   (left .state h);
               none = left .none h;
               small = λ v y hv below. by-cases (ℕ-discrete y u)
@@ -390,11 +406,11 @@ module _ (bs : List ℕ) (n t : ℕ) (terms : Terms) (d s : ℕ) (lay : Lanes) (
     -- ---- past the last slot
 
     module _ (r : Ended) (past : t < u) (e : r ≡ lastEnded n t n (any (areaOverflows n w) (below n))) where
-      state : WindowState bs lay (planOf bs n t terms) s (mayLeave s col) n block (terms .keeping) d t j old w
+      state : WindowState bs lay (planOf bs n t terms) s (mayLeave s col) n block d t j old w
       state =
           let l = x .last in
           let end : u - 1 ≡ t = omega arith in
-          subst (λ y. WindowState bs lay (planOf bs n t terms) s (mayLeave s col) n block (terms .keeping) d y j old w) end (x .state)
+          subst (λ y. WindowState bs lay (planOf bs n t terms) s (mayLeave s col) n block d y j old w) end (x .state)
 
       at : (i k : ℕ) → i ≡ k → getD w i 0 ≡ getD w k 0
       at i k q = ap (λ m. getD w m 0) q
@@ -495,10 +511,10 @@ module _ (bs : List ℕ) (n t : ℕ) (terms : Terms) (d s : ℕ) (lay : Lanes) (
       begun-state lay full (planOf bs n t terms) s (mayLeave s col) n block 1 old (source-free s col) (first-parts entry-area)
       (ready .source)
 
-  counters-room : markAt n block d d 0 + n ≤ length bare
-  counters-room = let f = counters-fit entry-area in let same = begun .same in omega arith
+  heads-room : markAt n block d d 0 + n ≤ length bare
+  heads-room = let f = heads-fit entry-area in let same = begun .same in omega arith
 
-  -- before the counters, and behind them, nothing more changes
+  -- before the heads, and behind them, nothing more changes
   begins-other : (i : ℕ) → (i < markAt n block d d 0) ⊎ (markAt n block d d 0 + n ≤ i) → getD begins i 0 ≡ getD bare i 0
   unfolding begunWindow bare
   begins-other i out = rw e (filled-other (begunArea n block 1 old s (ones (lay .width) (lay .lanes))) (markAt n block d d 0) n 0 i out)
@@ -506,12 +522,12 @@ module _ (bs : List ℕ) (n t : ℕ) (terms : Terms) (d s : ℕ) (lay : Lanes) (
   begins-length : length begins ≡ length old
   begins-length = begun-length-window bs n t terms d s lay block old begins ready e
 
-  -- the counters are 0
-  counter-zero : (v : ℕ) → v < n → counterOf n block d v begins ≡ 0
+  -- the heads are 0
+  head-zero : (v : ℕ) → v < n → headOf n block d begins v ≡ 0
   unfolding begunWindow bare
-  counter-zero v hv =
+  head-zero v hv =
       rw (e, ← mark-at n block d d v)
-      (filled-at (begunArea n block 1 old s (ones (lay .width) (lay .lanes))) (markAt n block d d 0) n 0 v hv counters-room)
+      (filled-at (begunArea n block 1 old s (ones (lay .width) (lay .lanes))) (markAt n block d d 0) n 0 v hv heads-room)
 
   begins-beyond : (i : ℕ) → windowSize n d block ≤ i → getD begins i 0 ≡ getD old i 0
   begins-beyond i far =
@@ -586,17 +602,20 @@ module _ (bs : List ℕ) (n t : ℕ) (terms : Terms) (d s : ℕ) (lay : Lanes) (
 
   -- nothing is kept
   begun-ring : (v : ℕ) → v < n
-      → Ring lay n block d (terms .keeping) 0 v (heardBefore bs v 0) (heardIn (planOf bs n t terms) s everywhere v)
+      → Ring lay n block d 0 v 0 (keptSince bs n 0) (heardIn (planOf bs n t terms) s everywhere v)
       (λ i. heardIn (planOf bs n t terms) s (mayLeave s col i) v) begins
+  unfolding newest
   begun-ring v hv =
-      let none = counter-zero v hv in
       record {
-        few = omega arith;
-        after = λ k q. absurd (let b = q .kept in omega arith);
-        before = λ k q. absurd (let b = q .kept in omega arith);
-        rising = λ k l q less last. absurd (omega arith);
-        holds = λ k q. absurd (let b = q .kept in omega arith);
-        whole = λ x low high late. absurd (omega arith);
+        at = λ k. 0;
+        ahead = λ k h. refl;
+        before = λ k. omega arith;
+        rising = λ k l own less last. absurd (omega arith);
+        young = λ k own. absurd (omega arith);
+        head = head-zero v hv;
+        marks = λ k q own. absurd (omega arith);
+        holds = λ k q own. absurd (omega arith);
+        whole = λ x low high. absurd (omega arith);
       }
 
   pub windowing-begun : Windowing bs n t terms s lay col block d begins 1 0 begins
@@ -613,7 +632,10 @@ module _ (bs : List ℕ) (n t : ℕ) (terms : Terms) (d s : ℕ) (lay : Lanes) (
           beyond = λ i h. refl;
           totals = begun-total;
           thin = begun-thin;
-          rings = begun-ring;
+          number = 0;
+          counter = head-zero s (ready .source);
+          few = omega arith;
+          rings = λ v hv other. begun-ring v hv;
         };
         none = begun-none;
         small = λ v x h below.

@@ -1,8 +1,8 @@
 -- The functions of the pass where readings go stale: what they leave, from what the functions that they call leave, and their loops.
 -- Assumes nothing.
-use Prim.Native.Nat.{ℕ, suc, _+_, _-_, _*_, _/_, _%_, _^_, _<_, _≤_, min}
+use Prim.Native.Nat.{ℕ, zero, suc, _+_, _-_, _*_, _/_, _%_, _^_, _<_, _≤_}
 use native.Mathlib.Omega.{arith}
-use native.Mathlib.Nat.{mod-lt, mul-le-mul, le-of-lt}
+use native.Mathlib.Nat.{mul-le-mul, le-of-lt}
 use lib.Pow.{pow-mono}
 use mathlib.Core.Path.{_≡_, refl, sym, ap, _∙_}
 use mathlib.Core.Bool.{Bool, true, false, and-false}
@@ -27,11 +27,12 @@ use Rattle.pass.specs.Entry.{absorbed, Absorbable}
 use Rattle.pass.specs.Sweep.{Sweep, sweepOf, clearedColumn, tooWide, stopsAt, begunArea}
 use Rattle.pass.proofs.WidthLaws.{column-entry, ones-by, wide-split, wide-whole}
 use Rattle.stale.specs.Window.{ringAt, markAt, takenCell, openedCell, emptiedCell, maskedRow, wideEntry, maskedCell}
-use Rattle.stale.specs.Window.{keptCell, gatheredCell, keptCells}
-use Rattle.stale.specs.Window.{windowCell, windowNext, windowsOf, sentRecords, pushedAt, pushedCell, keptOne, keptNext}
-use Rattle.stale.specs.Window.{goesOn, keptRecords, windowSlot, begunWindow, TwoParts, WindowArea, GatheredNext}
+use Rattle.stale.specs.Window.{numberPart, numberPlace, numberMark, headOf, oldestOf}
+use Rattle.stale.specs.Window.{keptCell, followedCell, lowerLink, nextHead, gatheredCell}
+use Rattle.stale.specs.Window.{windowCell, windowNext, windowsOf, sentRecords, pushedEntry, pushedMarks, pushedCell, keptOne, keptNext}
+use Rattle.stale.specs.Window.{goesOn, keptRecords, windowSlot, begunWindow, TwoParts, WindowArea, Followed, GatheredNext}
 use Rattle.pass.proofs.PlaceLaws.{row-inside}
-use Rattle.stale.proofs.RingPlaces.{ring-next, mark-next, mark-at, ring-fits, mark-fits}
+use Rattle.stale.proofs.RingPlaces.{mark-at, ring-fits, mark-fits, number-inside, number-place}
 
 -- ---- an entry taken into another
 
@@ -123,87 +124,104 @@ module _ (lay : Lanes) (n block : ℕ) (col : ℕ → ℕ) (w : List ℕ) (base 
   unfolding maskedCell
   mask-done row out narrow a e = rw (← narrow) (ap (sweepOf false) (e ∙ rw a))
 
--- ---- the cells of a ring
+-- ---- numbers and heads
 
-module _ (n block : ℕ) (w : List ℕ) (base v part at first end : ℕ) where
-  pub kept-early : getD w at 0 < first → w ≡ keptCell n block w base v part at first end
+-- a head that code found
+pub head-by : (n block d : ℕ) (w : List ℕ) (v at : ℕ) → at ≡ markAt n block d d v → getD w at 0 ≡ headOf n block d w v
+head-by n block d w v at is = rw is
+
+pub head-place : {n block d : ℕ} {w : List ℕ} → WindowArea n block d w → (v at : ℕ) → v < n → at ≡ markAt n block d d v → at < length w
+head-place {d = d} a v at hv is = rw is (mark-fits a d v (omega arith) hv)
+
+pub number-mark-place : {n block d : ℕ} {w : List ℕ} → WindowArea n block d w → (k at : ℕ) → at ≡ numberMark n block d k → at < length w
+number-mark-place {n} {block} {d} a k at is =
+    rw is (mark-fits a (k % (n * d) / n) (k % (n * d) % n) (let l = number-inside n d (a .some) k (a .deep) in omega arith)
+    (number-place n d (a .some) k))
+
+pub number-fits : {n block d : ℕ} {w : List ℕ} → WindowArea n block d w → (k part : ℕ) → part ≡ numberPart n block d k
+    → part + partSize n block ≤ length w
+number-fits {n} {block} {d} a k part is =
+    rw is (ring-fits a (k % (n * d) / n) (let l = number-inside n d (a .some) k (a .deep) in omega arith))
+
+-- the part of a number, and another
+pub number-parts : {n block d : ℕ} {w : List ℕ} → WindowArea n block d w → (base k part : ℕ) → base + partSize n block ≤ length w
+    → part ≡ numberPart n block d k → TwoParts n block base part w
+number-parts {n} {block} {d} a base k part fits is =
+    record {
+      some = a .some;
+      to-fits = fits;
+      from-fits = number-fits a k part is;
+    }
+
+-- ---- the cells along the links
+
+module _ (n block d : ℕ) (w : List ℕ) (base v slot end k : ℕ) where
+  pub kept-taken : (part place : ℕ) (out : List ℕ) → slot < end → part ≡ numberPart n block d k → place ≡ numberPlace n d k
+      → out ≡ takenCell n block w base v part place 0 → out ≡ keptCell n block d w base v slot end k
   unfolding keptCell
-  kept-early early = sym (rw (lt-ltb (getD w at 0) first early))
+  kept-taken part place out before is at e = rw (lt-ltb slot end before) (e ∙ rw (is, at))
 
-  pub kept-taken : (out : List ℕ) → first ≤ getD w at 0 → getD w at 0 < end → out ≡ takenCell n block w base v part v 0
-      → out ≡ keptCell n block w base v part at first end
+  pub kept-late : end ≤ slot → w ≡ keptCell n block d w base v slot end k
   unfolding keptCell
-  kept-taken out from before e = rw (le-ltb (getD w at 0) first from, lt-ltb (getD w at 0) end before) e
+  kept-late late = sym (rw (le-ltb slot end late))
 
-  pub kept-late : first ≤ getD w at 0 → end ≤ getD w at 0 → w ≡ keptCell n block w base v part at first end
-  unfolding keptCell
-  kept-late from late = sym (rw (le-ltb (getD w at 0) first from, le-ltb (getD w at 0) end late))
+pub link-low : (link head : ℕ) → link < head → link ≡ lowerLink link head
+unfolding lowerLink
+link-low link head h = sym (rw (lt-ltb link head h))
 
--- the cells before i are gathered
-pub record GatheringCell (n block d base v first end k : ℕ) (old : List ℕ) (part at i : ℕ) (now : List ℕ) : Type 0 where
-  pub within : i ≤ k
-  pub place : part ≡ ringAt n block i
-  pub mark : at ≡ markAt n block d i v
+pub link-none : (link head : ℕ) → head ≤ link → 0 ≡ lowerLink link head
+unfolding lowerLink
+link-none link head h = sym (rw (le-ltb link head h))
+
+module _ (n block d : ℕ) (w : List ℕ) (base v first end head at : ℕ) (some : 0 < head) (is : at ≡ numberMark n block d (head - 1)) where
+  pub follow-early : getD w at 0 % 256 < first → Followed n block d base v first end head w w 0
+  unfolding followedCell nextHead
+  follow-early early =
+      let test = lt-ltb (getD w (numberMark n block d (head - 1)) 0 % 256) first (rw is at early) in
+      record { cell = rw test; next = rw test; falls = some }
+
+  pub follow-on : (out : List ℕ) (r : ℕ) → first ≤ getD w at 0 % 256 → out ≡ keptCell n block d w base v (getD w at 0 % 256) end (head - 1)
+      → r ≡ lowerLink (getD w at 0 / 256) head → r < head → Followed n block d base v first end head w out r
+  unfolding followedCell nextHead
+  follow-on out r from e f falls =
+      let test = le-ltb (getD w (numberMark n block d (head - 1)) 0 % 256) first (rw is at from) in
+      record { cell = rw (test, ← is) e; next = rw (test, ← is) f; falls = falls }
+
+-- what is gathered from a head on is what is left to gather
+pub record GatheringCell (n block d base v oldest first end head : ℕ) (old : List ℕ) (at : ℕ) (now : List ℕ) : Type 0 where
+  pub left : ℕ
+  pub enough : at ≤ left
   pub same : length now ≡ length old
-  pub rest : gatheredCell n block d now base v first end i (k - i) ≡ gatheredCell n block d old base v first end 0 k
+  pub rest : gatheredCell n block d now base v oldest first end at left ≡ gatheredCell n block d old base v oldest first end head head
 
-module _ (n block d base v first end k : ℕ) (old : List ℕ) where
-  pub gathering-none : (part at : ℕ) → part ≡ ringAt n block 0 → at ≡ markAt n block d 0 v
-      → GatheringCell n block d base v first end k old part at 0 old
-  gathering-none part at is mark =
-      let same : k - 0 ≡ k = omega arith in
-      record { within = omega arith; place = is; mark = mark; same = refl; rest = ap (gatheredCell n block d old base v first end 0) same }
+module _ (n block d base v oldest first end head : ℕ) (old : List ℕ) where
+  pub gathering-none : GatheringCell n block d base v oldest first end head old head old
+  gathering-none = record { left = head; enough = omega arith; same = refl; rest = refl }
 
-  pub gathering-more : (i part at size : ℕ) (now now′ : List ℕ) → i < k → GatheringCell n block d base v first end k old part at i now
-      → size ≡ partSize n block
-      → length now′ ≡ length now → now′ ≡ keptCell n block now base v part at first end
-      → GatheringCell n block d base v first end k old (part + size) (at + n) (i + 1) now′
+  pub gathering-more : (at at′ : ℕ) (now now′ : List ℕ) → oldest < at → GatheringCell n block d base v oldest first end head old at now
+      → length now′ ≡ length now → Followed n block d base v first end at now now′ at′
+      → GatheringCell n block d base v oldest first end head old at′ now′
   unfolding gatheredCell
-  gathering-more i part at size now now′ less g is kept e =
-      let more : k - i ≡ suc (k - (i + 1)) = omega arith in
+  gathering-more at at′ now now′ less g kept f =
+      let some = g .enough in
+      let more : g .left ≡ suc (g .left - 1) = omega arith in
+      let test = lt-ltb oldest at less in
       record {
-        within = omega arith;
-        place = rw (g .place, is) (ring-next n block i);
-        mark = rw (g .mark) (mark-next n block d i v);
+        left = g .left - 1;
+        enough = omega (arith, f .falls);
         same = kept ∙ g .same;
-        rest = rw (e, g .place, g .mark) (sym (ap (gatheredCell n block d now base v first end i) more) ∙ g .rest);
+        rest = rw (f .cell, f .next)
+            (sym (ap (gatheredCell n block d now base v oldest first end at) more ∙ rw test) ∙ g .rest);
       }
 
-  pub gathering-all : (i part at : ℕ) (now : List ℕ) → k ≤ i → GatheringCell n block d base v first end k old part at i now
-      → now ≡ gatheredCell n block d old base v first end 0 k
+  pub gathering-all : (at : ℕ) (now : List ℕ) → at ≤ oldest → GatheringCell n block d base v oldest first end head old at now
+      → now ≡ gatheredCell n block d old base v oldest first end head head
   unfolding gatheredCell
-  gathering-all i part at now past g =
-      let none : k - i ≡ 0 = omega arith in
-      sym (ap (gatheredCell n block d now base v first end i) none) ∙ g .rest
-
-  -- there is a cell more
-  pub gathering-room : (i part at : ℕ) (now : List ℕ) → i < k → k ≤ d → v < n → WindowArea n block d old
-      → base + partSize n block ≤ length old
-      → GatheringCell n block d base v first end k old part at i now
-      → TwoParts n block base part now × (at < length now)
-  gathering-room i part at now less few hv a fits g =
-      let p = ring-fits a i (omega arith) in
-      let m = mark-fits a i v (omega arith) hv in
-      let same = g .same in
-      (record { some = a .some; to-fits = omega arith; from-fits = rw (g .place) (omega arith) }, rw (g .mark) (omega arith))
-
-  -- and room for the places behind it
-  pub gathering-next : (i part at : ℕ) (now : List ℕ) → i < k → k ≤ d → v < n → WindowArea n block d old
-      → GatheringCell n block d base v first end k old part at i now
-      → (part + partSize n block ≤ length old) × (at + n < length old)
-  gathering-next i part at now less few hv a g =
-      let p = ring-fits a i (omega arith) in
-      let m = mark-fits a (i + 1) v (omega arith) hv in
-      (rw (g .place) p, rw (g .mark, mark-next n block d i v) m)
-
-pub kept-cells-by : (n block d : ℕ) (w : List ℕ) (v counter r : ℕ) → counter ≡ markAt n block d d v → r ≡ min (getD w counter 0) d
-    → r ≡ keptCells n block d w v
-unfolding keptCells
-kept-cells-by n block d w v counter r is e = e ∙ rw is
-
-pub kept-few : (n block d : ℕ) (w : List ℕ) (v r : ℕ) → r ≡ keptCells n block d w v → r ≤ d
-unfolding keptCells
-kept-few n block d w v r is = omega arith
+  gathering-all at now past g = sym (none (g .left)) ∙ g .rest
+    where
+      none : (k : ℕ) → gatheredCell n block d now base v oldest first end at k ≡ now
+      none zero = refl
+      none (suc k) = rw (le-ltb oldest at past)
 
 -- ---- a window
 
@@ -216,14 +234,14 @@ module _ (split n block g h d s : ℕ) (col : ℕ → ℕ) (w : List ℕ) (v u b
       rw (eq-eqb v s same)
       (ap (sweepOf false) (g ∙ rw (is, ones-by split one (f ∙ ap (λ y. ones (widthOf y) (lanesOf y)) e))))
 
-  pub window-other : (k first end : ℕ) (one two : List ℕ) (out : Sweep) → v ≢ s → k ≡ keptCells n block d w v → one ≡ emptiedCell n w base v
-      → first ≡ windowFirst h u → end ≡ windowEnd g u
-      → two ≡ gatheredCell n block d one base v first end 0 k
+  pub window-other : (head oldest first end : ℕ) (one two : List ℕ) (out : Sweep) → v ≢ s → head ≡ headOf n block d w v
+      → oldest ≡ oldestOf n block d s w → one ≡ emptiedCell n w base v → first ≡ windowFirst h u → end ≡ windowEnd g u
+      → two ≡ gatheredCell n block d one base v oldest first end head head
       → out ≡ maskedCell (lanesBy split) n block col two base v
       → out ≡ windowCell (lanesBy split) n block d (units g h) s col w v u
   unfolding windowCell
-  window-other k first end one two out other q a b c d e =
-      rw (ne-eqb v s other) (e ∙ rw (d, a, b, c, q, is))
+  window-other head oldest first end one two out other q o a b c d e =
+      rw (ne-eqb v s other) (e ∙ rw (d, a, b, c, q, o, is))
 
 -- ---- the windows of some records
 
@@ -349,34 +367,33 @@ two-same a e =
 
 -- ---- keeping
 
--- the next cell is one of the ring
-pub low-cell : (k d : ℕ) → 0 < d → k % d ≤ d
-low-cell k d some = let h = mod-lt k some in omega arith
+-- a number's cell
+pub entry-by : (n block d : ℕ) (w : List ℕ) (v k part place size : ℕ) (one out : List ℕ)
+    → part ≡ numberPart n block d k → place ≡ numberPlace n d k → size ≡ partSize n block
+    → one ≡ emptiedCell n w part place → out ≡ takenCell n block one part place size v 0 → out ≡ pushedEntry n block d w v k
+unfolding pushedEntry
+entry-by n block d w v k part place size one out ep ex es eo et = et ∙ rw (eo, ep, ex, es)
 
--- places that code found
-module _ {n block d : ℕ} {w : List ℕ} (a : WindowArea n block d w) where
-  pub cell-place : (k part : ℕ) → part ≡ ringAt n block (k % d) → part + partSize n block ≤ length w
-  cell-place k part is = rw is (ring-fits a (k % d) (low-cell k d (a .deep)))
+-- its mark and the heads
+pub marks-by : (n block d s : ℕ) (w : List ℕ) (u v k head mark counter next : ℕ)
+    → head ≡ markAt n block d d v → mark ≡ numberMark n block d k → counter ≡ markAt n block d d s → next ≡ (k + 1) % 2 ^ 64
+    → set (set (set w mark (getD w head 0 % 72057594037927936 * 256 + u % 256)) head next) counter next ≡ pushedMarks n block d s w u v k
+unfolding pushedMarks
+marks-by n block d s w u v k head mark counter next eh em ec en = rw (en, eh, em, ec)
 
-  pub mark-place : (k v mark : ℕ) → v < n → mark ≡ markAt n block d (k % d) v → mark < length w
-  mark-place k v mark hv is = rw is (mark-fits a (k % d) v (low-cell k d (a .deep)) hv)
+module _ (n block d s : ℕ) (w : List ℕ) (u v : ℕ) where
+  pub pushed-source : v ≡ s → w ≡ pushedCell n block d s w u v
+  unfolding pushedCell
+  pushed-source same = sym (rw (eq-eqb v s same))
 
-  pub counter-place : (v counter : ℕ) → v < n → counter ≡ markAt n block d d v → counter < length w
-  counter-place v counter hv is = rw is (mark-fits a d v (omega arith) hv)
+  pub pushed-by : (k : ℕ) (one out : List ℕ) → v ≢ s → k ≡ headOf n block d w s → one ≡ pushedEntry n block d w v k
+      → out ≡ pushedMarks n block d s one u v k → out ≡ pushedCell n block d s w u v
+  unfolding pushedCell
+  pushed-by k one out other ek eo e = rw (ne-eqb v s other) (e ∙ rw (eo, ek))
 
--- what is kept by the counter
-pub pushed-by : (n block d : ℕ) (w : List ℕ) (u v counter k i part mark size next : ℕ) (one two : List ℕ)
-    → counter ≡ markAt n block d d v → k ≡ getD w counter 0 → i ≡ k % d → part ≡ ringAt n block i → size ≡ partSize n block
-    → one ≡ emptiedCell n w part v → two ≡ takenCell n block one part v size v 0 → mark ≡ markAt n block d i v
-    → next ≡ (k + 1) % 2 ^ 64
-    → set (set two mark u) counter next ≡ pushedCell n block d w u v
-unfolding pushedCell pushedAt
-pushed-by n block d w u v counter k i part mark size next one two ec ek ei ep es eo et em en =
-    rw (en, et, eo, em, ep, es, ei, ek, ec)
-
-module _ (lay : Lanes) (n block d u : ℕ) (w : List ℕ) (v size : ℕ) (is : size ≡ partSize n block) where
+module _ (lay : Lanes) (n block d s u : ℕ) (w : List ℕ) (v size : ℕ) (is : size ≡ partSize n block) where
   -- the count is over 2^64 - 1
-  pub kept-over : getD w (size + v) 0 < 65535 → getD w (size + v + n) 0 ≡ 0 → sweepOf true w ≡ keptNext lay n block d u w v
+  pub kept-over : getD w (size + v) 0 < 65535 → getD w (size + v + n) 0 ≡ 0 → sweepOf true w ≡ keptNext lay n block d s u w v
   unfolding keptNext stopsAt
   kept-over some big =
       rw (
@@ -398,21 +415,21 @@ module _ (lay : Lanes) (n block d u : ℕ) (w : List ℕ) (v size : ℕ) (is : s
         (sym (rw is at tested))
 
     -- the total's count would not fit a lane
-    pub kept-wide : b ≡ true → sweepOf true w ≡ keptNext lay n block d u w v
+    pub kept-wide : b ≡ true → sweepOf true w ≡ keptNext lay n block d s u w v
     unfolding keptNext
     kept-wide up = rw (stops ∙ up)
 
     -- it would
     pub kept-within : (one two three : List ℕ) → b ≡ false
-        → one ≡ takenCell n block w 0 v size v 0 → two ≡ pushedCell n block d one u v → three ≡ emptiedCell n two size v
-        → sweepOf false three ≡ keptNext lay n block d u w v
+        → one ≡ takenCell n block w 0 v size v 0 → two ≡ pushedCell n block d s one u v → three ≡ emptiedCell n two size v
+        → sweepOf false three ≡ keptNext lay n block d s u w v
     unfolding keptNext keptOne
     kept-within one two three down first second third =
         rw (stops ∙ down, lt-ltb (getD w (partSize n block + v) 0) 65535 (rw is at some))
         (ap (sweepOf false) (third ∙ rw (second, first, is)))
 
   -- nothing is heard
-  pub kept-none : 65535 ≤ getD w (size + v) 0 → sweepOf false w ≡ keptNext lay n block d u w v
+  pub kept-none : 65535 ≤ getD w (size + v) 0 → sweepOf false w ≡ keptNext lay n block d s u w v
   unfolding keptNext keptOne stopsAt
   kept-none none =
       rw (
@@ -421,54 +438,54 @@ module _ (lay : Lanes) (n block d u : ℕ) (w : List ℕ) (v size : ℕ) (is : s
       )
 
 -- the hearer of the record that was read
-pub kept-by : (bs : List ℕ) (lay : Lanes) (n block d u j : ℕ) (w : List ℕ) (r : Contact) (x : Sweep) → contactOf r ≡ contactAt bs j
-    → x ≡ keptNext lay n block d u w (r .hearer) → x ≡ keptNext lay n block d u w (contactAt bs j .hearer)
-kept-by bs lay n block d u j w r x e kept = kept ∙ ap (λ (c : temporal.Contact). keptNext lay n block d u w (c .hearer)) e
+pub kept-by : (bs : List ℕ) (lay : Lanes) (n block d s u j : ℕ) (w : List ℕ) (r : Contact) (x : Sweep) → contactOf r ≡ contactAt bs j
+    → x ≡ keptNext lay n block d s u w (r .hearer) → x ≡ keptNext lay n block d s u w (contactAt bs j .hearer)
+kept-by bs lay n block d s u j w r x e kept = kept ∙ ap (λ (c : temporal.Contact). keptNext lay n block d s u w (c .hearer)) e
 
 -- the hearers of the records before i are done
-pub record Keeping (bs : List ℕ) (lay : Lanes) (n block d u j end : ℕ) (old : List ℕ) (i : ℕ) (now : List ℕ) : Type 0 where
+pub record Keeping (bs : List ℕ) (lay : Lanes) (n block d s u j end : ℕ) (old : List ℕ) (i : ℕ) (now : List ℕ) : Type 0 where
   pub position : j ≤ i
   pub same : length now ≡ length old
-  pub rest : keptRecords bs lay n block d u now i (end - i) ≡ keptRecords bs lay n block d u old j (end - j)
+  pub rest : keptRecords bs lay n block d s u now i (end - i) ≡ keptRecords bs lay n block d s u old j (end - j)
 
-module _ (bs : List ℕ) (lay : Lanes) (n block d u j end : ℕ) (old : List ℕ) where
-  pub keeping-none : Keeping bs lay n block d u j end old j old
+module _ (bs : List ℕ) (lay : Lanes) (n block d s u j end : ℕ) (old : List ℕ) where
+  pub keeping-none : Keeping bs lay n block d s u j end old j old
   keeping-none = record { position = omega arith; same = refl; rest = refl }
 
-  module _ (i : ℕ) (now now′ : List ℕ) (r : Bool) (less : i < end) (x : Keeping bs lay n block d u j end old i now)
-      (e : sweepOf r now′ ≡ keptNext lay n block d u now (contactAt bs i .hearer)) where
-    one-more : goesOn (sweepOf r now′) (λ y. keptRecords bs lay n block d u y (i + 1) (end - (i + 1)))
-        ≡ keptRecords bs lay n block d u old j (end - j)
+  module _ (i : ℕ) (now now′ : List ℕ) (r : Bool) (less : i < end) (x : Keeping bs lay n block d s u j end old i now)
+      (e : sweepOf r now′ ≡ keptNext lay n block d s u now (contactAt bs i .hearer)) where
+    one-more : goesOn (sweepOf r now′) (λ y. keptRecords bs lay n block d s u y (i + 1) (end - (i + 1)))
+        ≡ keptRecords bs lay n block d s u old j (end - j)
     unfolding keptRecords
     one-more =
         let more : end - i ≡ suc (end - (i + 1)) = omega arith in
-        rw e (sym (ap (keptRecords bs lay n block d u now i) more) ∙ x .rest)
+        rw e (sym (ap (keptRecords bs lay n block d s u now i) more) ∙ x .rest)
 
-    pub keeping-stop : r ≡ true → sweepOf true now′ ≡ keptRecords bs lay n block d u old j (end - j)
+    pub keeping-stop : r ≡ true → sweepOf true now′ ≡ keptRecords bs lay n block d s u old j (end - j)
     keeping-stop up = ap (λ b. sweepOf b now′) (sym up) ∙ sym (on-stop (sweepOf r now′) _ up) ∙ one-more
 
-    pub keeping-more : r ≡ false → length now′ ≡ length now → Keeping bs lay n block d u j end old (i + 1) now′
+    pub keeping-more : r ≡ false → length now′ ≡ length now → Keeping bs lay n block d s u j end old (i + 1) now′
     keeping-more down kept =
         let f = x .position in
         record { position = omega arith; same = kept ∙ x .same; rest = sym (on-rest (sweepOf r now′) _ down) ∙ one-more }
 
-  pub keeping-all : (i : ℕ) (now : List ℕ) → end ≤ i → Keeping bs lay n block d u j end old i now
-      → sweepOf false now ≡ keptRecords bs lay n block d u old j (end - j)
+  pub keeping-all : (i : ℕ) (now : List ℕ) → end ≤ i → Keeping bs lay n block d s u j end old i now
+      → sweepOf false now ≡ keptRecords bs lay n block d s u old j (end - j)
   unfolding keptRecords
   keeping-all i now past x =
       let none : end - i ≡ 0 = omega arith in
-      sym (ap (keptRecords bs lay n block d u now i) none) ∙ x .rest
+      sym (ap (keptRecords bs lay n block d s u now i) none) ∙ x .rest
 
 -- a record more, by the test of its hearer
-module _ (bs : List ℕ) (lay : Lanes) (n block d u : ℕ) (w : List ℕ) (j k : ℕ) where
+module _ (bs : List ℕ) (lay : Lanes) (n block d s u : ℕ) (w : List ℕ) (j k : ℕ) where
   pub records-stop : stopsAt lay n (partSize n block) w (contactAt bs j .hearer) ≡ true
-      → keptRecords bs lay n block d u w j (suc k) ≡ sweepOf true w
+      → keptRecords bs lay n block d s u w j (suc k) ≡ sweepOf true w
   unfolding keptRecords goesOn keptNext
   records-stop e = rw e
 
   pub records-on : stopsAt lay n (partSize n block) w (contactAt bs j .hearer) ≡ false
-      → keptRecords bs lay n block d u w j (suc k)
-      ≡ keptRecords bs lay n block d u (keptOne n block d u w (contactAt bs j .hearer)) (j + 1) k
+      → keptRecords bs lay n block d s u w j (suc k)
+      ≡ keptRecords bs lay n block d s u (keptOne n block d s u w (contactAt bs j .hearer)) (j + 1) k
   unfolding keptRecords goesOn keptNext
   records-on e = rw e
 
@@ -483,22 +500,22 @@ module _ (bs : List ℕ) (lay : Lanes) (n block g h d s : ℕ) (col : ℕ → �
   pub slot-by : (size base : ℕ) (two : List ℕ) (r : Sweep) → b ≡ false
       → size ≡ partSize n block → base ≡ ringAt n block d
       → two ≡ sentRecords bs n block base size one j (end - j)
-      → r ≡ keptRecords bs lay n block d u two j (end - j)
+      → r ≡ keptRecords bs lay n block d s u two j (end - j)
       → r ≡ windowSlot bs lay n block d (units g h) s col w u j end
   unfolding windowSlot
   slot-by size base two r down b c d e = rw (← gathered) (e ∙ rw (d, b, c) (sym (on-rest (sweepOf _ one) _ down)))
 
--- there is room for the counters
-pub counters-fit : {n block d : ℕ} {w : List ℕ} → WindowArea n block d w → markAt n block d d 0 + n ≤ length w
-counters-fit {n} {block} {d} {w} a =
+-- there is room for the heads
+pub heads-fit : {n block d : ℕ} {w : List ℕ} → WindowArea n block d w → markAt n block d d 0 + n ≤ length w
+heads-fit {n} {block} {d} {w} a =
     let some = a .some in
     let last = mark-fits a d (n - 1) (omega arith) (omega arith) in
     let place = mark-at n block d d (n - 1) in
     omega arith
 
--- the beginning of the pass where nothing goes stale, and counters of 0
-pub begun-by : (lay : Lanes) (n block d s counters : ℕ) (w one out : List ℕ)
-    → one ≡ begunArea n block 1 w s (ones (lay .width) (lay .lanes)) → counters ≡ markAt n block d d 0
-    → out ≡ filled one counters n 0 → out ≡ begunWindow lay n block d w s
+-- the beginning of the pass where nothing goes stale, and heads of 0
+pub begun-by : (lay : Lanes) (n block d s heads : ℕ) (w one out : List ℕ)
+    → one ≡ begunArea n block 1 w s (ones (lay .width) (lay .lanes)) → heads ≡ markAt n block d d 0
+    → out ≡ filled one heads n 0 → out ≡ begunWindow lay n block d w s
 unfolding begunWindow
-begun-by lay n block d s counters w one out a b e = e ∙ rw (a, b)
+begun-by lay n block d s heads w one out a b e = e ∙ rw (a, b)

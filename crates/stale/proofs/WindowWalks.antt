@@ -26,12 +26,11 @@ use Rattle.pass.proofs.BestLaws.{Best, best-ext}
 use Rattle.pass.proofs.MaskLaws.{Filled}
 use Rattle.pass.proofs.BeginLaws.{ones-held}
 use Rattle.pass.proofs.ColumnLaws.{mayLeave, source-free}
-use Rattle.stale.specs.Depth.{heardBefore}
+use Rattle.stale.specs.Depth.{slotLoad, spread}
 use Rattle.stale.specs.Size.{windowSize}
-use Rattle.stale.specs.Window.{ringAt, gatheredCell, keptCells, emptiedCell, windowCell, WindowArea}
-use Rattle.stale.proofs.SpreadLaws.{spread, spread-less}
+use Rattle.stale.specs.Window.{ringAt, headOf, oldestOf, gatheredCell, emptiedCell, windowCell, WindowArea}
+use Rattle.stale.proofs.SpreadLaws.{spread-less, spread-last, spread-more}
 use Rattle.stale.proofs.RingPlaces.{area-same, ring-before, ring-fits, parts-end}
-use Rattle.stale.proofs.WindowSteps.{kept-few}
 use Rattle.stale.proofs.WindowCells.{Holds, ThinAt, OnlyCell, cell-then, cell-part}
 use Rattle.stale.proofs.WindowCells.{opened-cell, opened-holds, emptied-cell, emptied-holds, masked-only, masked-holds, masked-wide}
 use Rattle.stale.proofs.RingLaws.{Ring, SameRing, part-ring, gathered-only, ring-window}
@@ -47,16 +46,23 @@ heardIn p s g v x = total p g (start s) (atAppearance v x)
 abbrev pub sendable : Plan → ℕ → (ℕ → Bool) → ℕ → ℕ → ℕ → ℕ
 sendable p s g v u k = cond (g v) (total p g (start s) (before p v u) k) 0
 
+-- how many appearances at most are kept from slot x on by slot c
+unfoldable pub keptSince : List ℕ → ℕ → ℕ → ℕ → ℕ
+keptSince bs n c x = spread (slotLoad bs n) x (c + 1 - x)
+
 -- The work area by slot c, with the first j records done: part 0 has the walks to the stations by slot c, with counts that fit their lanes;
--- the rings have those to the appearances that may be followed after it.
-pub record WindowState (bs : List ℕ) (lay : Lanes) (p : Plan) (s : ℕ) (may : ℕ → ℕ → Bool) (n block h d c j : ℕ) (old w : List ℕ)
+-- the ring has those to the appearances that may be followed after it, of all stations but the source.
+pub record WindowState (bs : List ℕ) (lay : Lanes) (p : Plan) (s : ℕ) (may : ℕ → ℕ → Bool) (n block d c j : ℕ) (old w : List ℕ)
     : Type 0 where
   pub same : length w ≡ length old
   pub beyond : (i : ℕ) → windowSize n d block ≤ i → getD w i 0 ≡ getD old i 0
   pub totals : (v : ℕ) → v < n → Holds lay n block w 0 v (heardBy p s everywhere v c) (λ i. heardBy p s (may i) v c)
   pub thin : (v : ℕ) → v < n → ThinAt lay n 0 v w
-  pub rings : (v : ℕ) → v < n
-      → Ring lay n block d h c v (heardBefore bs v j) (heardIn p s everywhere v) (λ i. heardIn p s (may i) v) w
+  pub number : ℕ
+  pub counter : headOf n block d w s ≡ number
+  pub few : number ≤ j
+  pub rings : (v : ℕ) → v < n → v ≢ s
+      → Ring lay n block d c v number (keptSince bs n c) (heardIn p s everywhere v) (λ i. heardIn p s (may i) v) w
 
 -- nothing waits to be kept
 abbrev pub NoneWaits : Lanes → ℕ → ℕ → List ℕ → Type 0
@@ -66,6 +72,27 @@ NoneWaits lay n block w = (v : ℕ) → v < n → Holds lay n block w (partSize 
 abbrev pub WindowHolds : Lanes → Plan → ℕ → (ℕ → ℕ → Bool) → ℕ → ℕ → ℕ → ℕ → List ℕ → ℕ → Type 0
 WindowHolds lay p s may n block d u w v =
     Holds lay n block w (ringAt n block d) v (sendable p s everywhere v u) (λ i. sendable p s (may i) v u)
+
+-- ---- how many are kept
+
+module _ (bs : List ℕ) (n : ℕ) where
+  -- some of slot c + 1 besides
+  pub since-next : (c x q : ℕ) → x ≤ c + 1 → q ≤ slotLoad bs n (c + 1) → keptSince bs n c x + q ≤ keptSince bs n (c + 1) x
+  unfolding keptSince
+  since-next c x q high few =
+      let more : c + 1 + 1 - x ≡ suc (c + 1 - x) = omega arith in
+      let last : x + (c + 1 - x) ≡ c + 1 = omega arith in
+      omega (
+        arith,
+        ap (spread (slotLoad bs n) x) more,
+        spread-last (slotLoad bs n) (c + 1 - x) x,
+        ap (slotLoad bs n) last,
+      )
+
+  -- in the slots that may be followed there is room for them
+  pub since-fits : (c x h d : ℕ) → c < x + h → spread (slotLoad bs n) x h ≤ n * d → keptSince bs n c x ≤ n * d
+  unfolding keptSince
+  since-fits c x h d late room = omega (arith, spread-more (slotLoad bs n) (c + 1 - x) h x (omega arith))
 
 -- ---- permissions
 
@@ -146,7 +173,7 @@ module _ (lay : Lanes) (full : Filled lay) (p : Plan) (s : ℕ) (col : ℕ → �
       )
 
   module _ (bs : List ℕ) (d j : ℕ) (old w : List ℕ) (area : WindowArea n block d w)
-      (state : WindowState bs lay p s (mayLeave s col) n block (p .terms .keeping) d c j old w) (v : ℕ) (hv : v < n) where
+      (state : WindowState bs lay p s (mayLeave s col) n block d c j old w) (v : ℕ) (hv : v < n) where
     room : ringAt n block d + partSize n block ≤ length w
     room = ring-fits area d (omega arith)
 
@@ -158,22 +185,21 @@ module _ (lay : Lanes) (full : Filled lay) (p : Plan) (s : ℕ) (col : ℕ → �
 
     gathered-list : List ℕ
     gathered-list =
-        gatheredCell n block d (emptiedCell n w (ringAt n block d) v) (ringAt n block d) v (windowFirst (p .terms .keeping) (c + 1))
-        (windowEnd (p .terms .turnaround) (c + 1)) 0 (keptCells n block d w v)
+        gatheredCell n block d (emptiedCell n w (ringAt n block d) v) (ringAt n block d) v (oldestOf n block d s w)
+        (windowFirst (p .terms .keeping) (c + 1)) (windowEnd (p .terms .turnaround) (c + 1)) (headOf n block d w v) (headOf n block d w v)
 
     gathered-cell : OnlyCell n block (ringAt n block d) v w gathered-list
     unfolding gathered-list
     gathered-cell =
         cell-then bare
         (gathered-only n block d v (windowFirst (p .terms .keeping) (c + 1)) (windowEnd (p .terms .turnaround) (c + 1)) hv
-        (heardIn p s everywhere v) (λ i. heardIn p s (mayLeave s col i) v) (λ i x k. in-less p s (mayLeave s col i) v x k)
-        (keptCells n block d w v) _ 0 (omega (arith, kept-few n block d w v (keptCells n block d w v) refl)) bare-area)
+        (oldestOf n block d s w) (headOf n block d w v) _ (headOf n block d w v) bare-area)
 
     gathered-room : ringAt n block d + partSize n block ≤ length gathered-list
     gathered-room = let e = gathered-cell .same in let f = room in omega arith
 
-    bare-ring : SameRing n block d v w (emptiedCell n w (ringAt n block d) v)
-    bare-ring = part-ring v hv (λ i h. inl (ring-before n block i d h)) (parts-end n block d d (omega arith)) (cell-part hv bare)
+    bare-ring : SameRing n block d w (emptiedCell n w (ringAt n block d) v)
+    bare-ring = part-ring (λ i h. inl (ring-before n block i d h)) (parts-end n block d d (omega arith)) (cell-part hv bare)
 
     -- only its cell changes
     pub window-cell : OnlyCell n block (ringAt n block d) v w (windowCell lay n block d (p .terms) s col w v (c + 1) .work)
@@ -184,11 +210,12 @@ module _ (lay : Lanes) (full : Filled lay) (p : Plan) (s : ℕ) (col : ℕ → �
         (λ other. rw (ne-eqb v s other)
         (cell-then gathered-cell (masked-only lay full n block s col gathered-list (ringAt n block d) v other hv gathered-room)))
 
-    -- it holds what v may send on, where the flag is not up
-    pub window-holds : windowCell lay n block d (p .terms) s col w v (c + 1) .over ≡ false
+    -- it holds what v may send on, where the flag is not up: the ring has room for the appearances of the slots that may be followed
+    pub window-holds : c < 255 → ((u : ℕ) → spread (slotLoad bs n) u (p .terms .keeping) ≤ n * d)
+        → windowCell lay n block d (p .terms) s col w v (c + 1) .over ≡ false
         → WindowHolds lay p s (mayLeave s col) n block d (c + 1) (windowCell lay n block d (p .terms) s col w v (c + 1) .work) v
     unfolding windowCell gathered-list everywhere
-    window-holds =
+    window-holds most deep =
         by-cases (ℕ-discrete v s)
         (λ same. rw (eq-eqb v s same) (λ f.
         opened-holds n block w (ringAt n block d) v hv room (ones (lay .width) (lay .lanes))
@@ -202,10 +229,10 @@ module _ (lay : Lanes) (full : Filled lay) (p : Plan) (s : ℕ) (col : ℕ → �
         (masked-holds lay full n block s col gathered-list (ringAt n block d) v other hv gathered-room
         (λ i k. spread-less (windowEnd (p .terms .turnaround) (c + 1) - windowFirst (p .terms .keeping) (c + 1))
         (windowFirst (p .terms .keeping) (c + 1)) (λ x. in-less p s (mayLeave s col i) v x k))
-        (ring-window (area .deep) (state .rings v hv) (windowFirst (p .terms .keeping) (c + 1))
-        (windowEnd (p .terms .turnaround) (c + 1)) _ hv
-        (λ i x k. in-less p s (mayLeave s col i) v x k)
-        (λ x low high. (omega arith, omega arith, omega arith))
+        (ring-window (state .rings v hv other) (windowFirst (p .terms .keeping) (c + 1))
+        (windowEnd (p .terms .turnaround) (c + 1)) s _ hv
+        (λ i x k. in-less p s (mayLeave s col i) v x k) (omega arith) (omega arith) (omega arith) (state .counter)
+        (λ x low high. since-fits bs n c x (p .terms .keeping) d (omega arith) (deep x))
         bare-area bare-ring
         (emptied-holds n block w (ringAt n block d) v hv room (λ k. refl))) f)))
 

@@ -1,9 +1,9 @@
--- The work area of the pass where readings go stale, with rings of depth d, and how many columns fit one. Definitions only.
+-- The work area of the pass where readings go stale, with a ring of d parts, and how many columns fit one. Definitions only.
 -- Assumes nothing.
 use Prim.Native.Nat.{ℕ, _+_, _-_, _*_, _/_, min}
 use Rattle.pass.specs.Row.{partSize}
 
--- how many entries of the work area the pass uses: 3 + d parts, d slots for each station and its counter
+-- how many entries of the work area the pass uses: 3 + d parts, d marks for each station and its head
 abbrev pub windowSize : ℕ → ℕ → ℕ → ℕ
 windowSize n d block = (3 + d) * partSize n block + (d + 1) * n
 

@@ -1,21 +1,27 @@
 // The forward pass where readings go stale: hops and counts from a source to every station, with columns as the pass of the crate pass has
-// them. What each station heard lately is kept in a ring of cells, one for each slot in which it heard something; what it may send on in a
-// slot is gathered from the cells of the slots that a contact may follow. Everything lives in a lent work area.
+// them. What the stations heard lately is kept in one ring of cells, a cell for each slot in which a station heard something, linked to that
+// station's cell before it; what a station may send on in a slot is gathered along these links, from the cells of the slots that a contact
+// may follow. Everything lives in a lent work area.
 ghost use mathlib.Core.Path.{_≡_};
-ghost use Prim.Native.Nat.{ℕ, _+_, _-_, _*_, _%_, _^_, _<_, _≤_};
-ghost use lib.ListN.{length, getD, set};
+ghost use Prim.Native.Nat.{_+_, _-_, _*_, _^_, _<_, _≤_, min};
+ghost use lib.ListN.{length};
 ghost use Rattle.temporal.specs.Plan.{units};
-ghost use Rattle.temporal.specs.Bytes.{contactAt, records};
+ghost use Rattle.temporal.specs.Bytes.{contactAt};
 ghost use Rattle.temporal.specs.Struck.{lackingRecord};
 ghost use Rattle.pass.specs.Row.{partSize};
 ghost use Rattle.pass.specs.Sweep.{sweepOf};
 ghost use Rattle.pass.specs.Column.{columnOf, lanesBy, splitOf};
 ghost use Rattle.pass.specs.PassedColumns.{ColumnsPassed};
-ghost use Rattle.stale.specs.Depth.{DepthReady, DepthOf, HearersCounted};
+ghost use Rattle.stale.specs.Depth.{DepthReady, Deep};
 ghost use Rattle.stale.specs.Size.{windowSize, windowColumns};
 ghost use Rattle.stale.specs.Window.{
   ringAt,
   markAt,
+  numberPart,
+  numberPlace,
+  numberMark,
+  headOf,
+  oldestOf,
   takenCell,
   openedCell,
   emptiedCell,
@@ -23,12 +29,14 @@ ghost use Rattle.stale.specs.Window.{
   wideEntry,
   maskedCell,
   keptCell,
+  lowerLink,
   gatheredCell,
-  keptCells,
   windowCell,
   windowNext,
   windowsOf,
   sentRecords,
+  pushedEntry,
+  pushedMarks,
   pushedCell,
   keptNext,
   keptRecords,
@@ -36,6 +44,7 @@ ghost use Rattle.stale.specs.Window.{
   begunWindow,
   TwoParts,
   WindowArea,
+  Followed,
   GatheredNext,
   RecordsFit,
   WindowReady,
@@ -153,7 +162,7 @@ fn part_size(n: usize, block: usize) -> usize
     2 * n + n * block
 }
 
-// Where the part of cell i of the rings begins; behind the last, where the windows do.
+// Where part i of the ring begins; behind the last, where the windows do.
 fn ring_at(n: usize, block: usize, depth: usize, i: usize) -> usize
     requires { ⌜ (i ≤ depth) × (0 < n) × (windowSize n depth block < 18446744073709551616) ⌝ }
     ensures { λ r. ⌜ r ≡ ringAt n block i ⌝ }
@@ -161,7 +170,7 @@ fn ring_at(n: usize, block: usize, depth: usize, i: usize) -> usize
     (2 + i) * part_size(n, block)
 }
 
-// Where the slot of cell i of the ring of station v stands; behind the last, where its counter does.
+// Where the mark of the cell of part i of the ring at place v stands; behind the last, where the head of station v does.
 fn mark_at(n: usize, block: usize, depth: usize, i: usize, v: usize) -> usize
     requires { ⌜ (i ≤ depth) × (v < n) × (windowSize n depth block < 18446744073709551616) ⌝ }
     ensures { λ r. ⌜ r ≡ markAt n block depth i v ⌝ }
@@ -169,43 +178,90 @@ fn mark_at(n: usize, block: usize, depth: usize, i: usize, v: usize) -> usize
     (3 + depth) * part_size(n, block) + i * n + v
 }
 
-// Takes the cell of the ring of station v in the part that begins at part, whose slot stands at a place, into its entry in the part that
-// begins at base, where that slot is from slot first to before slot end.
+// Where the part of the cell of number k begins.
+fn number_part(n: usize, block: usize, depth: usize, k: usize) -> usize
+    requires { ⌜ (0 < n) × (0 < depth) × (windowSize n depth block < 18446744073709551616) ⌝ }
+    ensures { λ r. ⌜ r ≡ numberPart n block depth k ⌝ }
+{
+    ring_at(n, block, depth, k % (n * depth) / n)
+}
+
+// Its place there.
+fn number_place(n: usize, depth: usize, k: usize) -> usize
+    requires { ⌜ (0 < n) × (0 < depth) × (n * depth < 18446744073709551616) ⌝ }
+    ensures { λ r. ⌜ r ≡ numberPlace n depth k ⌝ }
+{
+    k % (n * depth) % n
+}
+
+// Where its mark stands.
+fn number_mark(n: usize, block: usize, depth: usize, k: usize) -> usize
+    requires { ⌜ (0 < n) × (0 < depth) × (windowSize n depth block < 18446744073709551616) ⌝ }
+    ensures { λ r. ⌜ r ≡ numberMark n block depth k ⌝ }
+{
+    let cell = k % (n * depth);
+    mark_at(n, block, depth, cell / n, cell % n)
+}
+
+// The head of station v.
+fn head_of(work: &[u64], n: usize, block: usize, depth: usize, v: usize) -> usize
+    requires { ⌜ WindowArea n block depth (now work) × (v < n) ⌝ }
+    ensures { λ r. ⌜ r ≡ headOf n block depth (now (work .entry)) v ⌝ }
+{
+    let at = mark_at(n, block, depth, depth, v);
+    work[at] as usize
+}
+
+// The first number that is still there.
+fn oldest_of(work: &[u64], n: usize, block: usize, depth: usize, source: usize) -> usize
+    requires { ⌜ WindowArea n block depth (now work) × (source < n) ⌝ }
+    ensures { λ r. ⌜ r ≡ oldestOf n block depth source (now (work .entry)) ⌝ }
+{
+    let kept = head_of(work, n, block, depth, source);
+    let cells = n * depth;
+    if kept < cells {
+        return 0;
+    }
+    kept - cells
+}
+
+// Takes the cell of number k, of a slot, into the entry of station v in the part that begins at base, where that slot is before slot end.
 fn take_kept(
     work: &mut [u64],
     n: usize,
     block: usize,
+    depth: usize,
     base: usize,
     v: usize,
-    part: usize,
-    at: usize,
-    first: u64,
+    slot: u64,
     end: u64,
+    k: usize,
 )
-    requires { ⌜ TwoParts n block base part (now work) × (v < n) × (at < length (now work)) ⌝ }
-    ensures { λ _. ⌜ now (work .exit) ≡ keptCell n block (now (work .entry)) base v part at first end ⌝ }
+    requires { ⌜ WindowArea n block depth (now work) × (base + partSize n block ≤ length (now work)) × (v < n) ⌝ }
+    ensures { λ _. ⌜ now (work .exit) ≡ keptCell n block depth (now (work .entry)) base v slot end k ⌝ }
 {
-    let x = work[at];
-    if x < first {
-        return;
-    }
-    if x < end {
-        take(work, n, block, base, v, part, v, 0);
+    if slot < end {
+        let part = number_part(n, block, depth, k);
+        let place = number_place(n, depth, k);
+        take(work, n, block, base, v, part, place, 0);
     }
 }
 
-// How many cells of the ring of station v have something.
-fn kept_cells(work: &[u64], n: usize, block: usize, depth: usize, v: usize) -> usize
-    requires { ⌜ WindowArea n block depth (now work) × (v < n) ⌝ }
-    ensures { λ r. ⌜ r ≡ keptCells n block depth (now (work .entry)) v ⌝ }
+// A link, where it is lower than the head that it follows.
+fn lower_link(link: u64, head: usize) -> usize
+    requires { ⌜ 0 < head ⌝ }
+    ensures { λ r. ⌜ (r ≡ lowerLink link head) × (r < head) ⌝ }
 {
-    let counter = mark_at(n, block, depth, depth, v);
-    pass::smaller(work[counter] as usize, depth)
+    let low = link as usize;
+    if low < head {
+        return low;
+    }
+    0
 }
 
-// Takes the first k cells of the ring of station v, those of the slots from first to before end, into its entry in the part that begins at
-// base.
-fn gather(
+// The same as take_kept for the number that a head names, where its slot is not before slot first. Returns the head of what its station kept
+// before it, or 0.
+fn follow(
     work: &mut [u64],
     n: usize,
     block: usize,
@@ -214,20 +270,42 @@ fn gather(
     v: usize,
     first: u64,
     end: u64,
-    k: usize,
-)
-    requires { ⌜ WindowArea n block depth (now work) × (base + partSize n block ≤ length (now work)) × (v < n) × (k ≤ depth) ⌝ }
-    ensures { λ _. ⌜ now (work .exit) ≡ gatheredCell n block depth (now (work .entry)) base v first end 0 k ⌝ }
+    head: usize,
+) -> usize
+    requires { ⌜ WindowArea n block depth (now work) × (base + partSize n block ≤ length (now work)) × (v < n) × (0 < head) ⌝ }
+    ensures { λ r. ⌜ Followed n block depth base v first end head (now (work .entry)) (now (work .exit)) r ⌝ }
 {
-    let size = part_size(n, block);
-    let mut part = ring_at(n, block, depth, 0);
-    let mut at = mark_at(n, block, depth, 0, v);
-    let mut i = 0;
-    while i < k {
-        take_kept(work, n, block, base, v, part, at, first, end);
-        part += size;
-        at += n;
-        i += 1;
+    let k = head - 1;
+    let at = number_mark(n, block, depth, k);
+    let mark = work[at];
+    let slot = mark % 256;
+    if slot < first {
+        return 0;
+    }
+    take_kept(work, n, block, depth, base, v, slot, end, k);
+    lower_link(mark / 256, head)
+}
+
+// Takes the numbers from a head of station v on, as long as they are still there and of slots from first on, those of the slots before end,
+// into its entry in the part that begins at base.
+fn gather(
+    work: &mut [u64],
+    n: usize,
+    block: usize,
+    depth: usize,
+    base: usize,
+    v: usize,
+    oldest: usize,
+    first: u64,
+    end: u64,
+    head: usize,
+)
+    requires { ⌜ WindowArea n block depth (now work) × (base + partSize n block ≤ length (now work)) × (v < n) ⌝ }
+    ensures { λ _. ⌜ now (work .exit) ≡ gatheredCell n block depth (now (work .entry)) base v oldest first end head head ⌝ }
+{
+    let mut at = head;
+    while oldest < at {
+        at = follow(work, n, block, depth, base, v, first, end, at);
     }
 }
 
@@ -245,7 +323,7 @@ fn gather_window(
     v: usize,
     u: usize,
 ) -> bool
-    requires { ⌜ WindowArea n block depth (now work) × (v < n) × (0 < g) × (splitOf columns ≤ 3) ⌝ }
+    requires { ⌜ WindowArea n block depth (now work) × (v < n) × (0 < g) × (splitOf columns ≤ 3) × (source < n) ⌝ }
     ensures { λ r. ⌜ sweepOf r (now (work .exit)) ≡ windowCell (lanesBy (splitOf columns)) n block depth (units g h) source
         (columnOf columns (now (set .entry)) (block * 2 ^ splitOf columns)) (now (work .entry)) v u ⌝ }
 {
@@ -256,11 +334,23 @@ fn gather_window(
         open_entry(work, n, block, base, v, one);
         return false;
     }
-    let k = kept_cells(work, n, block, depth, v);
+    let head = head_of(work, n, block, depth, v);
+    let oldest = oldest_of(work, n, block, depth, source);
     empty_entry(work, n, base, v);
     let first = plan::window_first(h, u);
     let end = plan::window_end(g, u);
-    gather(work, n, block, depth, base, v, first as u64, end as u64, k);
+    gather(
+        work,
+        n,
+        block,
+        depth,
+        base,
+        v,
+        oldest,
+        first as u64,
+        end as u64,
+        head,
+    );
     mask_entry(work, n, block, columns, set, base, v)
 }
 
@@ -283,7 +373,7 @@ fn gather_next(
     j: usize,
 ) -> usize
     requires { ⌜ WindowArea n block depth (now work) × (0 < g) × (j * 6 + 5 < length (lackingRecord (now plan) out)) ×
-        (contactAt (lackingRecord (now plan) out) j .sender < n) × (splitOf columns ≤ 3) ⌝ }
+        (contactAt (lackingRecord (now plan) out) j .sender < n) × (splitOf columns ≤ 3) × (source < n) ⌝ }
     ensures { λ r. ⌜ GatheredNext n (contactAt (lackingRecord (now (plan .entry)) out) j .sender) r (now (work .exit))
         (windowNext (lanesBy (splitOf columns)) n block depth (units g h) source
         (columnOf columns (now (set .entry)) (block * 2 ^ splitOf columns)) (now (work .entry)) last
@@ -318,7 +408,7 @@ fn gather_records(
     end: usize,
 ) -> bool
     requires { ⌜ WindowArea n block depth (now work) × (0 < g) × RecordsFit (lackingRecord (now plan) out) n j end ×
-        (splitOf columns ≤ 3) ⌝ }
+        (splitOf columns ≤ 3) × (source < n) ⌝ }
     ensures { λ r. ⌜ sweepOf r (now (work .exit)) ≡
         windowsOf (lackingRecord (now (plan .entry)) out) (lanesBy (splitOf columns)) n block depth (units g h) source
         (columnOf columns (now (set .entry)) (block * 2 ^ splitOf columns)) (now (work .entry)) u n j (end - j) ⌝ }
@@ -394,21 +484,53 @@ fn send_records(
     }
 }
 
-// Keeps what v heard in slot u in the next cell of its ring.
-fn push(work: &mut [u64], n: usize, block: usize, depth: usize, u: usize, v: usize)
+// Puts what v heard into the cell of number k.
+fn push_entry(work: &mut [u64], n: usize, block: usize, depth: usize, v: usize, k: usize)
     requires { ⌜ WindowArea n block depth (now work) × (v < n) ⌝ }
-    ensures { λ _. ⌜ now (work .exit) ≡ pushedCell n block depth (now (work .entry)) u v ⌝ }
+    ensures { λ _. ⌜ now (work .exit) ≡ pushedEntry n block depth (now (work .entry)) v k ⌝ }
 {
-    let counter = mark_at(n, block, depth, depth, v);
-    let k = work[counter];
-    let i = k as usize % depth;
-    let part = ring_at(n, block, depth, i);
+    let part = number_part(n, block, depth, k);
+    let place = number_place(n, depth, k);
     let size = part_size(n, block);
-    empty_entry(work, n, part, v);
-    take(work, n, block, part, v, size, v, 0);
-    let mark = mark_at(n, block, depth, i, v);
-    work[mark] = u as u64;
-    work[counter] = std::num::wrapping_add_u64(k, 1);
+    empty_entry(work, n, part, place);
+    take(work, n, block, part, place, size, v, 0);
+}
+
+// Marks number k with slot u and the head of v, and makes it the newest of v and the last of all.
+fn push_marks(
+    work: &mut [u64],
+    n: usize,
+    block: usize,
+    depth: usize,
+    source: usize,
+    u: usize,
+    v: usize,
+    k: usize,
+)
+    requires { ⌜ WindowArea n block depth (now work) × (v < n) × (source < n) ⌝ }
+    ensures { λ _. ⌜ now (work .exit) ≡ pushedMarks n block depth source (now (work .entry)) u v k ⌝ }
+{
+    let head = mark_at(n, block, depth, depth, v);
+    let link = work[head] % 72057594037927936;
+    let mark = number_mark(n, block, depth, k);
+    work[mark] = link * 256 + u as u64 % 256;
+    let next = std::num::wrapping_add_u64(k as u64, 1);
+    work[head] = next;
+    let counter = mark_at(n, block, depth, depth, source);
+    work[counter] = next;
+}
+
+// Keeps what v heard in slot u as the next number, but nothing of the source's.
+fn push(work: &mut [u64], n: usize, block: usize, depth: usize, source: usize, u: usize, v: usize)
+    requires { ⌜ WindowArea n block depth (now work) × (v < n) × (source < n) ⌝ }
+    ensures { λ _. ⌜ now (work .exit) ≡ pushedCell n block depth source (now (work .entry)) u v ⌝ }
+{
+    if v == source {
+        return;
+    }
+    let k = head_of(work, n, block, depth, source);
+    push_entry(work, n, block, depth, v, k);
+    push_marks(work, n, block, depth, source, u, v, k);
 }
 
 // Where v heard something in slot u, takes it into its total, keeps it, and leaves nothing waiting. True, with nothing changed, where its
@@ -418,12 +540,14 @@ fn keep_one(
     n: usize,
     block: usize,
     depth: usize,
+    source: usize,
     columns: Columns,
     u: usize,
     v: usize,
 ) -> bool
-    requires { ⌜ WindowArea n block depth (now work) × (v < n) × (splitOf columns ≤ 3) ⌝ }
-    ensures { λ r. ⌜ sweepOf r (now (work .exit)) ≡ keptNext (lanesBy (splitOf columns)) n block depth u (now (work .entry)) v ⌝ }
+    requires { ⌜ WindowArea n block depth (now work) × (v < n) × (splitOf columns ≤ 3) × (source < n) ⌝ }
+    ensures { λ r. ⌜ sweepOf r (now (work .exit)) ≡
+        keptNext (lanesBy (splitOf columns)) n block depth source u (now (work .entry)) v ⌝ }
 {
     let size = part_size(n, block);
     let at = size + v;
@@ -437,7 +561,7 @@ fn keep_one(
             return true;
         }
         take(work, n, block, 0, v, size, v, 0);
-        push(work, n, block, depth, u, v);
+        push(work, n, block, depth, source, u, v);
         empty_entry(work, n, size, v);
     }
     false
@@ -451,17 +575,18 @@ fn keep_record(
     n: usize,
     block: usize,
     depth: usize,
+    source: usize,
     columns: Columns,
     u: usize,
     j: usize,
 ) -> bool
     requires { ⌜ WindowArea n block depth (now work) × (j * 6 + 5 < length (lackingRecord (now plan) out)) ×
-        (contactAt (lackingRecord (now plan) out) j .hearer < n) × (splitOf columns ≤ 3) ⌝ }
-    ensures { λ r. ⌜ sweepOf r (now (work .exit)) ≡ keptNext (lanesBy (splitOf columns)) n block depth u (now (work .entry))
+        (contactAt (lackingRecord (now plan) out) j .hearer < n) × (splitOf columns ≤ 3) × (source < n) ⌝ }
+    ensures { λ r. ⌜ sweepOf r (now (work .exit)) ≡ keptNext (lanesBy (splitOf columns)) n block depth source u (now (work .entry))
         (contactAt (lackingRecord (now (plan .entry)) out) j .hearer) ⌝ }
 {
     let c = plan::kept_contact(plan, out, j);
-    keep_one(work, n, block, depth, columns, u, c.hearer)
+    keep_one(work, n, block, depth, source, columns, u, c.hearer)
 }
 
 // The same for the records from j to before end, up to the first at whose hearer it is true.
@@ -472,18 +597,21 @@ fn keep_records(
     n: usize,
     block: usize,
     depth: usize,
+    source: usize,
     columns: Columns,
     u: usize,
     j: usize,
     end: usize,
 ) -> bool
-    requires { ⌜ WindowArea n block depth (now work) × RecordsFit (lackingRecord (now plan) out) n j end × (splitOf columns ≤ 3) ⌝ }
+    requires { ⌜ WindowArea n block depth (now work) × RecordsFit (lackingRecord (now plan) out) n j end × (splitOf columns ≤ 3) ×
+        (source < n) ⌝ }
     ensures { λ r. ⌜ sweepOf r (now (work .exit)) ≡
-        keptRecords (lackingRecord (now (plan .entry)) out) (lanesBy (splitOf columns)) n block depth u (now (work .entry)) j (end - j) ⌝ }
+        keptRecords (lackingRecord (now (plan .entry)) out) (lanesBy (splitOf columns)) n block depth source u (now (work .entry)) j
+        (end - j) ⌝ }
 {
     let mut i = j;
     while i < end {
-        if keep_record(work, plan, out, n, block, depth, columns, u, i) {
+        if keep_record(work, plan, out, n, block, depth, source, columns, u, i) {
             return true;
         }
         i += 1;
@@ -509,7 +637,7 @@ fn window_slot(
     end: usize,
 ) -> bool
     requires { ⌜ WindowArea n block depth (now work) × (0 < g) × RecordsFit (lackingRecord (now plan) out) n j end ×
-        (splitOf columns ≤ 3) ⌝ }
+        (splitOf columns ≤ 3) × (source < n) ⌝ }
     ensures { λ r. ⌜ sweepOf r (now (work .exit)) ≡
         windowSlot (lackingRecord (now (plan .entry)) out) (lanesBy (splitOf columns)) n block depth (units g h) source
         (columnOf columns (now (set .entry)) (block * 2 ^ splitOf columns)) (now (work .entry)) u j end ⌝ }
@@ -535,7 +663,7 @@ fn window_slot(
     let size = part_size(n, block);
     let base = ring_at(n, block, depth, depth);
     send_records(work, plan, out, n, block, base, size, j, end);
-    keep_records(work, plan, out, n, block, depth, columns, u, j, end)
+    keep_records(work, plan, out, n, block, depth, source, columns, u, j, end)
 }
 
 // Leaves the empty walk of the source alone, and nothing kept.
@@ -551,8 +679,8 @@ fn begin_window(
     ensures { λ _. ⌜ now (work .exit) ≡ begunWindow (lanesBy (splitOf columns)) n block depth (now (work .entry)) source ⌝ }
 {
     pass::begin_columns(work, n, block, 1, source, columns);
-    let counters = mark_at(n, block, depth, depth, 0);
-    memory::fill_part(work, counters, n, 0);
+    let heads = mark_at(n, block, depth, depth, 0);
+    memory::fill_part(work, heads, n, 0);
 }
 
 // The pass: slot by slot, what each sender may send on is gathered from what is kept. The record at position out is left out; where there
@@ -605,63 +733,60 @@ pub fn pass_window(
     pass::end_pass(work, n, t, n)
 }
 
-// Adds 1 to the number of the hearer of the record at i.
-fn count_hearer(work: &mut [u64], plan: &[u8], n: usize, i: usize)
-    requires { ⌜ (i * 6 + 5 < length (now plan)) × (contactAt (now plan) i .hearer < n) × (n ≤ length (now work)) ⌝ }
-    ensures { λ _. ⌜ now (work .exit) ≡ set (now (work .entry)) (contactAt (now (plan .entry)) i .hearer)
-        ((getD (now (work .entry)) (contactAt (now (plan .entry)) i .hearer) 0 + 1) % 2 ^ 64) ⌝ }
+// The smaller of n and how many records stand from a position to before another.
+fn load_of(n: usize, j: usize, end: usize) -> usize
+    requires { ⌜ j ≤ end ⌝ }
+    ensures { λ r. ⌜ r ≡ min n (end - j) ⌝ }
 {
-    let c = plan::contact_at(plan, i);
-    let b = c.hearer;
-    work[b] = std::num::wrapping_add_u64(work[b], 1);
+    pass::smaller(n, end - j)
 }
 
-// Writes for each station how many records have it as hearer.
-fn count_hearers(work: &mut [u64], plan: &[u8], n: usize)
-    requires { ⌜ ((i : ℕ) → i < records (now plan) → contactAt (now plan) i .hearer < n) × (n ≤ length (now work)) ⌝ }
-    ensures { λ _. ⌜ HearersCounted (now (plan .entry)) n (now (work .entry)) (records (now (plan .entry))) (now (work .exit)) ⌝ }
+// The slot h slots before slot u, or 0.
+fn slot_before(h: usize, u: usize) -> usize
+    ensures { λ r. ⌜ r ≡ u - h ⌝ }
 {
-    memory::fill_part(work, 0, n, 0);
-    let m = plan.len() / 6;
-    let mut i = 0;
-    while i < m {
-        count_hearer(work, plan, n, i);
-        i += 1;
+    if u <= h {
+        return 0;
     }
+    u - h
 }
 
-// The larger of a number and an entry.
-fn larger(a: usize, b: u64) -> usize
-    ensures { λ r. ⌜ (a ≤ r) × (b ≤ r) ⌝ }
+// The larger of a depth and the least for which n stations have room for so many appearances.
+fn deeper(depth: usize, n: usize, load: usize) -> usize
+    requires { ⌜ (0 < n) × (n ≤ 256) × (load ≤ 65536) ⌝ }
+    ensures { λ r. ⌜ (depth ≤ r) × (load ≤ n * r) ⌝ }
 {
-    let c = b as usize;
-    if a < c {
-        return c;
+    let least = (load + (n - 1)) / n;
+    if depth < least {
+        return least;
     }
-    a
+    depth
 }
 
-// A number from 1 on that is no smaller than any of the first n entries.
-fn most_of(work: &[u64], n: usize) -> usize
-    requires { ⌜ n ≤ length (now work) ⌝ }
-    ensures { λ r. ⌜ (0 < r) × ((v : ℕ) → v < n → getD (now (work .entry)) v 0 ≤ r) ⌝ }
+// A depth for a plan: as many parts of the ring as a reading is kept for slots, or as have room for the appearances of any h slots, if those
+// are fewer. One cursor stands at the records of the slot that joins the last h slots, one at those of the slot that leaves them.
+pub fn depth_of(plan: &[u8], n: usize, t: usize, h: usize) -> usize
+    requires { ⌜ DepthReady (now plan) n t h ⌝ }
+    ensures { λ r. ⌜ Deep (now (plan .entry)) n h r × (r ≤ h) ⌝ }
 {
-    let mut most = 1;
-    let mut v = 0;
-    while v < n {
-        most = larger(most, work[v]);
-        v += 1;
+    let mut depth = 1;
+    let mut load = 0;
+    let mut enter = 0;
+    let mut leave = 0;
+    let mut u = 1;
+    while u <= t {
+        let entered = plan::slot_end(plan, enter, u);
+        let old = slot_before(h, u);
+        let left = plan::slot_end(plan, leave, old);
+        let more = load_of(n, enter, entered);
+        let less = load_of(n, leave, left);
+        load = load + more - less;
+        depth = deeper(depth, n, load);
+        enter = entered;
+        leave = left;
+        u += 1;
     }
-    most
-}
-
-// A depth for a plan: as many cells as a reading is kept for slots, or as the station has that hears in most records, if those are fewer.
-pub fn depth_of(work: &mut [u64], plan: &[u8], n: usize, h: usize) -> usize
-    requires { ⌜ DepthReady (now plan) n h (now work) ⌝ }
-    ensures { λ r. ⌜ DepthOf (now (plan .entry)) n h (now (work .entry)) (now (work .exit)) r ⌝ }
-{
-    count_hearers(work, plan, n);
-    pass::smaller(h, most_of(work, n))
+    pass::smaller(h, depth)
 }
 
 // The most columns for which the pass fits e entries for each of n stations.

@@ -2,7 +2,7 @@
 -- Assumes nothing.
 use native.Mathlib.Omega.{arith}
 use Rattle.stale.proofs.RingPlaces.{first-parts}
-use Rattle.stale.proofs.WindowSteps.{begun-by, counters-fit}
+use Rattle.stale.proofs.WindowSteps.{begun-by, heads-fit}
 use borrow.Author.Needs.{needs}
 use Rattle.stale.proofs.begin_window.Statement.{statement}
 use Rattle.stale.proofs.begin_window.Tie as tie
@@ -20,7 +20,7 @@ fill-part-requires c κs =
     let mark = c .before in
     let begun = mark .before .before .before in
     let start = begun .before .before .before in
-    omega (arith, counters-fit (start .pre .0), mark .mark-at .ensures, begun .begin-columns .kept .0)
+    omega (arith, heads-fit (start .pre .0), mark .mark-at .ensures, begun .begin-columns .kept .0)
 
 same-length : tie.Need-same-length
 same-length c = search needs

@@ -24,6 +24,7 @@ gather-window-requires c κs =
       omega (arith, ap (λ d. d .sender) (found .kept-contact .ensures), start .pre .3),
       start .pre .1,
       start .pre .4,
+      start .pre .5,
     )
 
 same-length : tie.Need-same-length

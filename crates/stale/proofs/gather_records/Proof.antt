@@ -33,6 +33,7 @@ gather-next-requires c κs =
       start .pre .2 .inside _ (loop .loop .inv .from) (test .loop-test .taken),
       start .pre .2 .sender-station _ (loop .loop .inv .from) (test .loop-test .taken),
       start .pre .3,
+      start .pre .4,
     )
 
 same-length : tie.Need-same-length Inv-loop μ-loop

@@ -2,7 +2,7 @@
 -- Assumes nothing.
 use native.Mathlib.Omega.{arith}
 use Rattle.stale.proofs.RingPlaces.{area-same, ring-fits}
-use Rattle.stale.proofs.WindowSteps.{window-source, window-other, kept-few}
+use Rattle.stale.proofs.WindowSteps.{window-source, window-other}
 use borrow.Author.Needs.{needs}
 use Rattle.stale.proofs.gather_window.Statement.{statement}
 use Rattle.stale.proofs.gather_window.Tie as tie
@@ -34,12 +34,15 @@ returns c =
     window-source _ _ _ _ _ _ _ _ _ _ _ _ (ring .ring-at .ensures) _ _ _ (omega arith)
     (split .split-of .ensures) (ones .ones-of .ensures) (opened .open-entry .ensures)
 
-kept-cells-requires : tie.Need-kept-cells-requires
-kept-cells-requires c κs = search needs
+head-of-requires : tie.Need-head-of-requires
+head-of-requires c κs = search needs
+
+oldest-of-requires : tie.Need-oldest-of-requires
+oldest-of-requires c κs = search needs
 
 empty-entry-requires : tie.Need-empty-entry-requires
 empty-entry-requires c κs =
-    let ring = c .before .before .before .before in
+    let ring = c .before .before .before .before .before .before in
     let start = ring .before .before .before in
     (start .pre .1, omega (arith, ring-fits (start .pre .0) (start .args .depth) (omega arith), ring .ring-at .ensures))
 
@@ -52,20 +55,18 @@ window-end-requires c κs = search needs
 gather-requires : tie.Need-gather-requires
 gather-requires c κs =
     let bare = c .before .before .before .before .before in
-    let cells = bare .before .before in
-    let ring = cells .before .before .before in
+    let ring = bare .before .before .before .before .before .before .before in
     let start = ring .before .before .before in (
       area-same (start .pre .0) (bare .empty-entry .kept .0),
       omega (arith, ring-fits (start .pre .0) (start .args .depth) (omega arith), ring .ring-at .ensures, bare .empty-entry .kept .0),
       start .pre .1,
-      kept-few _ _ _ _ _ _ (cells .kept-cells .ensures),
     )
 
 mask-entry-requires : tie.Need-mask-entry-requires
 mask-entry-requires c κs =
     let full = c .before .before .before in
     let bare = full .before .before .before .before .before .before in
-    let ring = bare .before .before .before .before .before in
+    let ring = bare .before .before .before .before .before .before .before in
     let start = ring .before .before .before in (
       start .pre .1,
       omega (
@@ -88,11 +89,12 @@ returns-2 c =
     let end = full .before .before in
     let first = end .before in
     let bare = first .before .before .before in
-    let cells = bare .before .before in
-    let ring = cells .before .before .before in
-    window-other _ _ _ _ _ _ _ _ _ _ _ _ (ring .ring-at .ensures) _ _ _ _ _ _ (omega arith)
-    (cells .kept-cells .ensures) (bare .empty-entry .ensures) (first .window-first .ensures) (end .window-end .ensures)
-    (full .gather .ensures) (masked .mask-entry .ensures)
+    let oldest = bare .before .before in
+    let head = oldest .before .before in
+    let ring = head .before .before .before in
+    window-other _ _ _ _ _ _ _ _ _ _ _ _ (ring .ring-at .ensures) _ _ _ _ _ _ _ (omega arith)
+    (head .head-of .ensures) (oldest .oldest-of .ensures) (bare .empty-entry .ensures) (first .window-first .ensures)
+    (end .window-end .ensures) (full .gather .ensures) (masked .mask-entry .ensures)
 
 pub gather-window-spec : {M : Type 1} → statement M
 gather-window-spec =
@@ -104,7 +106,8 @@ gather-window-spec =
     open-entry-requires
     same-length
     returns
-    kept-cells-requires
+    head-of-requires
+    oldest-of-requires
     empty-entry-requires
     window-first-requires
     window-end-requires

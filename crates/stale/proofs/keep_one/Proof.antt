@@ -31,7 +31,7 @@ slice-read-d c = search needs
 returns : tie.Need-returns
 returns c =
     let size = c .before .before .before .before in
-    kept-over _ _ _ _ _ _ _ _ (size .part-size .ensures) (omega arith) (omega arith)
+    kept-over _ _ _ _ _ _ _ _ _ (size .part-size .ensures) (omega arith) (omega arith)
 
 wide-at-requires : tie.Need-wide-at-requires
 wide-at-requires c κs = search needs
@@ -43,7 +43,7 @@ returns-2 : tie.Need-returns-2
 returns-2 c =
     let wide = c .before in
     let size = wide .before .before .before .before .before .before in
-    kept-wide _ _ _ _ _ _ _ _ (size .part-size .ensures) _ (omega arith) (omega arith) (wide .wide-at .ensures) (c .if3 .taken)
+    kept-wide _ _ _ _ _ _ _ _ _ (size .part-size .ensures) _ (omega arith) (omega arith) (wide .wide-at .ensures) (c .if3 .taken)
 
 take-requires : tie.Need-take-requires
 take-requires c κs = search needs
@@ -65,13 +65,13 @@ returns-3 c =
     let narrow = taken .before .before in
     let wide = narrow .before in
     let size = wide .before .before .before .before .before .before in
-    kept-within _ _ _ _ _ _ _ _ (size .part-size .ensures) _ (omega arith) (omega arith) (wide .wide-at .ensures) _ _ _
+    kept-within _ _ _ _ _ _ _ _ _ (size .part-size .ensures) _ (omega arith) (omega arith) (wide .wide-at .ensures) _ _ _
     (narrow .if3 .left) (taken .take .ensures) (pushed .push .ensures) (gone .empty-entry .ensures)
 
 returns-4 : tie.Need-returns-4
 returns-4 c =
     let size = c .before .before in
-    kept-none _ _ _ _ _ _ _ _ (size .part-size .ensures) (omega arith)
+    kept-none _ _ _ _ _ _ _ _ _ (size .part-size .ensures) (omega arith)
 
 pub keep-one-spec : {M : Type 1} → statement M
 keep-one-spec =

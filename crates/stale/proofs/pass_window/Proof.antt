@@ -54,6 +54,7 @@ window-slot-requires c κs =
       start .pre .0 .units .turns,
       windowing-records _ _ _ _ _ _ _ _ _ _ ready _ _ _ (loop .loop .inv) _ (found .kept-slot-end .ensures),
       start .pre .1,
+      start .pre .0 .source,
     )
 
 stopped-requires : tie.Need-stopped-requires Inv-loop μ-loop

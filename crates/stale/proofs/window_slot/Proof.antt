@@ -1,5 +1,6 @@
 -- `stale::window_slot` meets its contract: the windows stop, or the three steps of a slot.
 -- Assumes nothing.
+use mathlib.Core.Path.{_∙_}
 use Rattle.stale.proofs.RingPlaces.{area-same, heard-windows}
 use Rattle.stale.proofs.WindowSteps.{slot-stop, slot-by}
 use borrow.Author.Needs.{needs}
@@ -34,7 +35,15 @@ send-records-requires c κs =
     )
 
 keep-records-requires : tie.Need-keep-records-requires
-keep-records-requires c κs = search needs
+keep-records-requires c κs =
+    let sent = c .before .before .before in
+    let gathered = sent .before .before .before .before .before .before .before in
+    let start = gathered .before .before .before .before .before in (
+      area-same (start .pre .0) (sent .send-records .kept .0 ∙ gathered .gather-records .kept .0),
+      start .pre .2,
+      start .pre .3,
+      start .pre .4,
+    )
 
 same-length-2 : tie.Need-same-length-2
 same-length-2 c = search needs
