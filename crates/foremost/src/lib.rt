@@ -59,6 +59,7 @@ fn appearance_too_many(
         work,
         plan,
         plan.len(),
+        false,
         n,
         t,
         g,

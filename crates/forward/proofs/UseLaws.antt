@@ -34,7 +34,8 @@ use Rattle.pass.specs.Column.{blockColumn, columnOf, Lanes, whole, lanesBy, spl
 use Rattle.forward.specs.declared.Packed.{Packed}
 use Rattle.forward.specs.Passed.{packedAs, PackedReady, PackedCounted, PackedAs, PackedPassed}
 use Rattle.forward.specs.Passed.{passSize, DepthReady, UntilReady, PassReady, Counted, Passed, SetReady, SetPassed}
-use Rattle.pass.specs.PassedColumns.{waiting, areaSize, ColumnsReady, CountedBy, SettledAt, EndedAs, ColumnsPassed}
+use Rattle.pass.proofs.SettleLaws.{or-none}
+use Rattle.pass.specs.PassedColumns.{waiting, areaSize, ColumnsReady, Spared, CountedBy, SettledAt, EndedAs, ColumnsPassed}
 use Rattle.stale.specs.Window.{WindowReady}
 use Rattle.stale.specs.Size.{windowSize}
 use Rattle.stale.specs.Depth.{DepthOf}
@@ -404,6 +405,19 @@ columns-less split block j = go (eqb (2 ^ split) 1) refl
     go : (b : Bool) → eqb (2 ^ split) 1 ≡ b → j < cond b block (block * 2 ^ split) → j < block * 2 ^ split
     go true e h = rw (eqb-true (2 ^ split) 1 e) (omega arith)
     go false e h = h
+
+-- where no count is over 2^64 - 1, no appearance's is
+pub few-spared : (bs : List ℕ) (n t : ℕ) (terms : Terms) (s : ℕ) (known : Bool)
+    → (known ≡ true → tooMany (planOf bs n t terms) s ≡ false) → Spared known bs n t terms s
+unfolding tooMany
+few-spared bs n t terms s known few e =
+    or-none (appearanceTooMany (planOf bs n t terms) s) (stationTooMany (planOf bs n t terms) s) (few e) .0
+
+-- the same of the whole plan, as the plan that lacks no record
+pub whole-spared : (bs : List ℕ) (n t : ℕ) (terms : Terms) (s : ℕ) (known : Bool)
+    → (known ≡ true → tooMany (planOf bs n t terms) s ≡ false) → Spared known (lackingRecord bs (length bs)) n t terms s
+whole-spared bs n t terms s known few =
+    subst (λ l. Spared known l n t terms s) (sym (lacking-nothing bs)) (few-spared bs n t terms s known few)
 
 -- an area that is ready for packed rows is ready for their columns
 pub packed-ready : (bs : List ℕ) (n t : ℕ) (terms : Terms) (d s block split : ℕ) (old : List ℕ) → PackedReady bs n t terms d s block split old

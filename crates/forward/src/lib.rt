@@ -1,11 +1,14 @@
 // The forward pass, as the operations call it: where nothing goes stale in the slots of the plan, the pass that carries what may be sent
 // on; else the pass that gathers a sender's window. What either leaves in the work area is read in one way.
 ghost use mathlib.Core.Path.{_≡_};
+ghost use mathlib.Core.Bool.{true, false};
 ghost use Prim.Native.Nat.{_+_, _*_, _^_, _<_, _≤_};
 ghost use Rattle.temporal.specs.Plan.{units};
+ghost use Rattle.temporal.specs.Bytes.{planOf};
+ghost use Rattle.temporal.specs.Cause.{tooMany};
 ghost use Rattle.temporal.specs.Struck.{lackingRecord};
 ghost use Rattle.pass.specs.Column.{blockColumn, columnOf, whole, lanesBy, splitOf};
-ghost use Rattle.pass.specs.PassedColumns.{areaSize, ColumnsPassed, overOf, slotOf};
+ghost use Rattle.pass.specs.PassedColumns.{areaSize, Spared, ColumnsPassed, overOf, slotOf};
 ghost use Rattle.stale.specs.Depth.{DepthOf};
 ghost use Rattle.stale.specs.Size.{windowSize};
 ghost use Rattle.forward.specs.Passed.{
@@ -93,11 +96,12 @@ pub fn pass_size(n: usize, t: usize, g: usize, h: usize, depth: usize, block: us
 }
 
 // The pass for any columns, to the slot in which the station until is reached. The record at position out is left out; where there is
-// none, the plan is whole.
+// none, the plan is whole. Where cause 9 is known not to hold, the pass may leave out what it would only need to settle it.
 fn pass_slots(
     work: &mut [u64],
     plan: &[u8],
     out: usize,
+    known: bool,
     n: usize,
     t: usize,
     g: usize,
@@ -109,7 +113,8 @@ fn pass_slots(
     block: usize,
     until: usize,
 ) -> Ended
-    requires { ⌜ UntilReady (lackingRecord (now plan) out) n t (units g h) depth source until block (now work) × (splitOf columns ≤ 3) ⌝ }
+    requires { ⌜ UntilReady (lackingRecord (now plan) out) n t (units g h) depth source until block (now work) × (splitOf columns ≤ 3) ×
+        Spared known (lackingRecord (now plan) out) n t (units g h) source ⌝ }
     ensures { λ r. ⌜ ColumnsPassed (lackingRecord (now (plan .entry)) out) n t (units g h) source until (lanesBy (splitOf columns))
         (columnOf columns (now (set .entry)) (block * 2 ^ splitOf columns)) block
         (passSize n t (units g h) depth block) (now (work .entry)) (now (work .exit)) r ⌝ }
@@ -119,6 +124,7 @@ fn pass_slots(
             work,
             plan,
             out,
+            known,
             n,
             t,
             g,
@@ -147,10 +153,12 @@ fn pass_slots(
 }
 
 // The pass for a block of stations, to the slot in which the station until is reached: column j of a row is about station
-// low + j. With n for until it waits for no station and goes through every slot; for another it waits only where nothing goes stale.
+// low + j. With n for until it waits for no station and goes through every slot; for another it waits only where nothing goes stale. Where no
+// count is known to be over 2^64 - 1, what would only settle that is left out.
 pub fn pass_until(
     work: &mut [u64],
     plan: &[u8],
+    known: bool,
     n: usize,
     t: usize,
     g: usize,
@@ -161,7 +169,8 @@ pub fn pass_until(
     block: usize,
     until: usize,
 ) -> Ended
-    requires { ⌜ UntilReady (now plan) n t (units g h) depth source until block (now work) ⌝ }
+    requires { ⌜ UntilReady (now plan) n t (units g h) depth source until block (now work) ×
+        (known ≡ true → tooMany (planOf (now plan) n t (units g h)) source ≡ false) ⌝ }
     ensures { λ r. ⌜ ColumnsPassed (now (plan .entry)) n t (units g h) source until whole (blockColumn low block) block
         (passSize n t (units g h) depth block) (now (work .entry)) (now (work .exit)) r ⌝ }
 {
@@ -169,6 +178,7 @@ pub fn pass_until(
         work,
         plan,
         plan.len(),
+        known,
         n,
         t,
         g,
@@ -243,11 +253,13 @@ fn packed_of(ended: Ended) -> Packed
 }
 
 // The pass for a block of stations through every slot, with 2^split stations to an entry of a row of so many entries, without the record
-// at position out; where there is none, the plan is whole. Where a count does not fit its lane, a smaller split is asked for.
+// at position out; where there is none, the plan is whole. Where a count does not fit its lane, a smaller split is asked for. Where no count
+// is known to be over 2^64 - 1, what would only settle that is left out.
 pub fn pass_packed(
     work: &mut [u64],
     plan: &[u8],
     out: usize,
+    known: bool,
     n: usize,
     t: usize,
     g: usize,
@@ -258,7 +270,8 @@ pub fn pass_packed(
     block: usize,
     split: usize,
 ) -> Packed
-    requires { ⌜ PackedReady (lackingRecord (now plan) out) n t (units g h) depth source block split (now work) ⌝ }
+    requires { ⌜ PackedReady (lackingRecord (now plan) out) n t (units g h) depth source block split (now work) ×
+        (known ≡ true → tooMany (planOf (lackingRecord (now plan) out) n t (units g h)) source ≡ false) ⌝ }
     ensures { λ r. ⌜ PackedPassed (lackingRecord (now (plan .entry)) out) n t (units g h) depth source low block split
         (now (work .entry)) (now (work .exit)) r ⌝ }
 {
@@ -266,6 +279,7 @@ pub fn pass_packed(
         work,
         plan,
         out,
+        known,
         n,
         t,
         g,
@@ -303,6 +317,7 @@ pub fn pass_without(
         work,
         plan,
         out,
+        false,
         n,
         t,
         g,
@@ -368,6 +383,7 @@ pub fn set_pass(
         work,
         plan,
         plan.len(),
+        false,
         n,
         t,
         g,

@@ -6,11 +6,11 @@ use native.Mathlib.Numerals.{add-one}
 use native.Mathlib.Decide.{decLt, ℕ-discrete}
 use native.Mathlib.Nat.{mul-le-mul-left}
 use mathlib.Core.Path.{_≡_, refl, sym, ap, subst, _∙_}
-use mathlib.Core.Bool.{Bool, true, false, not, _&&_, and-false}
+use mathlib.Core.Bool.{Bool, true, false, not, _&&_, and-false, and-eq-true-iff}
 use mathlib.Core.Logic.{_≢_, _⊎_, inl, inr, ⊎-elim, by-cases}
 use mathlib.Core.List.{List, []}
-use borrow.Author.Tests.{eq-eqb}
-use lib.Dec.{eqb}
+use borrow.Author.Tests.{ltb-true, eq-eqb, eqb-true}
+use lib.Dec.{ltb, eqb}
 use lib.ListN.{length, getD, drop}
 use Rattle.temporal.specs.Lists.{select}
 use Rattle.temporal.specs.Plan.{Plan, Terms, units}
@@ -18,7 +18,7 @@ use Rattle.temporal.specs.Walk.{isInterior}
 use Rattle.temporal.specs.Shortest.{hops, count, throughIn}
 use Rattle.temporal.specs.Foremost.{arrival, arrivesBy, walksBy}
 use Rattle.temporal.specs.Bytes.{planOf}
-use Rattle.temporal.specs.Cause.{planFault}
+use Rattle.temporal.specs.Cause.{tooMany, planFault}
 use Rattle.temporal.specs.Outcome.{workSize}
 use Rattle.temporal.proofs.Accepted.{accepted}
 use Rattle.temporal.proofs.Adequacy.{bounded-ends}
@@ -69,6 +69,12 @@ module _ (bs : List ℕ) (n t : ℕ) (terms : Terms) (depth s z until low block 
 
   other : s ≢ until
   other = waits-for-another n s z until (ready .source) (ready .different) (ready .asks .which)
+
+  -- where the blocks before settled cause 9, it does not hold
+  pub settled-few : (known : Bool) → known ≡ (ltb 0 low && eqb until n) → known ≡ true → tooMany p s ≡ false
+  settled-few known is e =
+      let (later, none) = and-eq-true-iff (ltb 0 low) (eqb until n) .0 (sym is ∙ e) in
+      ready .few (ltb-true 0 low later) (eqb-true until n none)
 
   -- the pass can be made
   pub block-pass : UntilReady bs n t terms depth s until block area
@@ -273,6 +279,7 @@ module _ (bs : List ℕ) (n t : ℕ) (terms : Terms) (depth most s z until : ℕ
         stations = block-within;
         table = omega arith;
         fits = omega arith;
+        few = λ h e. b .settled h .few e;
       }
 
   module _ (table″ area″ : List ℕ) (r : ℕ) (done : BlockDone bs n t terms depth s z until low block table′ area′ table″ area″ r) where

@@ -69,7 +69,8 @@ pub record Asks (n t : ℕ) (terms : Terms) (z until : ℕ) : Type 0 where
 abbrev pub lastSlot : List ℕ → ℕ → ℕ → Terms → ℕ → ℕ → ℕ
 lastSlot bs n t terms s until = min t (arrival (planOf bs n t terms) s until)
 
--- what storing the through counts of one block asks, from its pass on
+-- what storing the through counts of one block asks, from its pass on; where the pass of a block before went through every slot, no count is
+-- over 2^64 - 1
 pub record BlockReady (bs : List ℕ) (n t : ℕ) (terms : Terms) (d s z until low block : ℕ) (through work : List ℕ) : Type 0 where
   pub accepted : planFault bs n t ≡ 0
   pub source : s < n
@@ -81,6 +82,7 @@ pub record BlockReady (bs : List ℕ) (n t : ℕ) (terms : Terms) (d s z until l
   pub stations : low + block ≤ n
   pub table : n ≤ length through
   pub fits : passSize n t terms d block ≤ length work
+  pub few : 0 < low → until ≡ n → tooMany (planOf bs n t terms) s ≡ false
 
 -- what the work area holds of the pair where no count is over 2^64 - 1: hops and count of its shortest walks by slot e
 pub record PairBy (bs : List ℕ) (n t : ℕ) (terms : Terms) (s z until : ℕ) (work : List ℕ) (e : ℕ) : Type 0 where

@@ -1,5 +1,7 @@
 // Operation 4, pair, over the pass.
 ghost use mathlib.Core.Path.{_≡_};
+ghost use mathlib.Core.Bool.{_&&_};
+ghost use lib.Dec.{ltb, eqb};
 ghost use Rattle.temporal.specs.Plan.{units};
 ghost use Rattle.temporal.specs.Bytes.{planOf};
 ghost use Rattle.temporal.specs.Cause.{planFault};
@@ -56,6 +58,16 @@ fn store(through: &mut [u64], work: &[u64], n: usize, z: usize, low: usize, bloc
     }
 }
 
+// Whether cause 9 is settled by the blocks below low: there are some, and their passes went through every slot.
+fn settled_before(n: usize, low: usize, until: usize) -> bool
+    ensures { λ r. ⌜ r ≡ (ltb 0 low && eqb until n) ⌝ }
+{
+    if low == 0 {
+        return false;
+    }
+    until == n
+}
+
 // The through counts of a block of stations, from a pass that ends where the station until is reached. The slot in which it ends;
 // 0 where a count is over 2^64 - 1.
 fn block_throughs(
@@ -77,7 +89,8 @@ fn block_throughs(
     ensures { λ r. ⌜ BlockDone (now (plan .entry)) n t (units g h) depth s z until low block
         (now (through .entry)) (now (work .entry)) (now (through .exit)) (now (work .exit)) r ⌝ }
 {
-    let ended = forward::pass_until(work, plan, n, t, g, h, depth, s, low, block, until);
+    let known = settled_before(n, low, until);
+    let ended = forward::pass_until(work, plan, known, n, t, g, h, depth, s, low, block, until);
     let slot = forward::settled_slot(ended);
     if slot == 0 {
         return 0;

@@ -28,6 +28,7 @@ use Rattle.pass.specs.Sweep.{emptied, emptiedFrom, begunArea, Area}
 use Rattle.pass.proofs.PlaceLaws.{row-inside, emptied-length, set-twice-length}
 use Rattle.pass.proofs.BestLaws.{Best, best-same, best-none}
 use Rattle.pass.proofs.MaskLaws.{Filled}
+use Rattle.pass.proofs.NearLaws.{held-all, held-same}
 use Rattle.pass.proofs.StateLaws.{AreaState}
 use Rattle.pass.proofs.PlanWalks.{kept, walksAt}
 
@@ -247,11 +248,11 @@ module _ (p : Plan) (s : ℕ) (g : ℕ → Bool) where
 
 -- At the beginning the work area holds the walks by slot 0, with no contact folded in; a walk of any column may go on from the
 -- source, so every lane of its row holds 1.
-pub begun-state : (lay : Lanes) → Filled lay → (p : Plan) (s : ℕ) (may : ℕ → ℕ → Bool) (n block q : ℕ) (w : List ℕ)
+pub begun-state : (known : Bool) (lay : Lanes) → Filled lay → (p : Plan) (s : ℕ) (may : ℕ → ℕ → Bool) (n block q : ℕ) (w : List ℕ)
     → ((c : ℕ) → may c s ≡ true) → Area n block q w → s < n
-    → AreaState lay n block q 0 w (walksAt p s may 0 0) (begunArea n block q w s (ones (lay .width) (lay .lanes)))
+    → AreaState known lay n block q 0 w (walksAt p s may 0 0) (begunArea n block q w s (ones (lay .width) (lay .lanes)))
 unfolding walksAt everywhere ones
-begun-state lay full p s may n block q w free area inside =
+begun-state known lay full p s may n block q w free area inside =
     record {
       same = begun-length n block q w s one area inside;
       beyond = begun-beyond n block q w s one area inside;
@@ -262,9 +263,10 @@ begun-state lay full p s may n block q w free area inside =
           (λ d. best-same (none-hops n block q w s one area inside v h d) (none-counts n block q w s one area inside v h d)
           (λ j i g. refl)
           (best-none (omega arith) (λ k. kept-none p s everywhere v k d)));
-      waits = λ e v low high h. best-same (waits-hops n block q w s one area inside e v h) (waits-counts n block q w s one area inside e v h)
+      waits = λ e v low high h. held-same (waits-hops n block q w s one area inside e v h) (waits-counts n block q w s one area inside e v h)
           (λ j i g. refl)
-          (best-none (omega arith) (λ k. arrivals-zero p s everywhere v e k));
+          (held-all (λ j k. omega (arith, arrivals-zero p s (may j) v e k))
+          (best-none (omega arith) (λ k. arrivals-zero p s everywhere v e k)));
       thin = λ v h g. by-cases (ℕ-discrete v s)
           (λ e. rw e (rw (begun-count n block q w s one area inside) (inr (omega arith, one-fits (lay .width) (width-some _ _ (full .fill))))))
           (λ d. absurd (omega (arith, none-hops n block q w s one area inside v h d)));

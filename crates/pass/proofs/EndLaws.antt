@@ -8,7 +8,7 @@ use mathlib.Core.Path.{_≡_, refl, sym, ap, subst, _∙_}
 use mathlib.Core.Bool.{Bool, true, false, cond}
 use mathlib.Core.List.{List}
 use mathlib.Core.Logic.{inl, inr, ⊎-elim, _≢_}
-use borrow.Author.Tests.{lt-ltb, le-ltb, eqb-true, eqb-false}
+use borrow.Author.Tests.{ltb-false, lt-ltb, le-ltb, eqb-true, eqb-false}
 use lib.Dec.{ltb, eqb}
 use lib.ListN.{getD}
 use Rattle.temporal.specs.Lists.{below}
@@ -114,6 +114,14 @@ module _ (bs : List ℕ) (n t : ℕ) (terms : Terms) (ok : planFault bs n t ≡ 
   few-appearances small =
       any-false _ (below n) .1 (λ v m. any-false _ (below (t + 1)) .1 (λ u l. le-ltb 18446744073709551615 _
       (small v u (mem-below n .0 m) (let h = mem-below (t + 1) .0 l in omega arith))))
+
+  -- and where there is none, no appearance has too many
+  pub appearances-few : appearanceTooMany (planOf bs n t terms) s ≡ false → (v u : ℕ) → v < n → u ≤ t
+      → count (shortestWalks (planOf bs n t terms) s v u) ≤ 18446744073709551615
+  unfolding planOf
+  appearances-few none v u hv hu =
+      ltb-false 18446744073709551615 (count (shortestWalks (planOf bs n t terms) s v u))
+      (any-false _ (below (t + 1)) .0 (any-false _ (below n) .0 none v (mem-below n .1 hv)) u (mem-below (t + 1) .1 (omega arith)))
 
   -- ---- stations
 
@@ -267,8 +275,8 @@ module _ (bs : List ℕ) (n t : ℕ) (terms : Terms) (ok : planFault bs n t ≡ 
 
   -- ---- the state of the pass in which nothing goes stale
 
-  module _ (lay : Lanes) (full : Filled lay) (col : ℕ → ℕ) (block q : ℕ) (old w : List ℕ) (e j : ℕ)
-      (state : AreaState lay n block q e old (walksAt (planOf bs n t terms) s (mayLeave s col) e j) w) where
+  module _ (known : Bool) (lay : Lanes) (full : Filled lay) (col : ℕ → ℕ) (block q : ℕ) (old w : List ℕ) (e j : ℕ)
+      (state : AreaState known lay n block q e old (walksAt (planOf bs n t terms) s (mayLeave s col) e j) w) where
     entry : (z : ℕ) → z < n → Best lay block 65535 (kept (planOf bs n t terms) s everywhere z e)
         (λ c. kept (planOf bs n t terms) s (mayLeave s col c) z e) (getD w z 0) (getD w (z + n) 0)
         (λ c. getD w (rowAt n block z + c) 0)

@@ -4,6 +4,7 @@ mod EntryLaws
 pub mod PlaceLaws
 -- an entry against sequences of numbers of walks, columns, every place after a change, and the state of the work area
 pub mod BestLaws
+pub mod NearLaws
 pub mod ColumnLaws
 pub mod TookLaws
 pub mod MaskLaws

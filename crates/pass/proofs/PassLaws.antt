@@ -8,7 +8,7 @@ use mathlib.Core.Bool.{Bool, true, false, cond}
 use mathlib.Core.List.{List}
 use mathlib.Core.Logic.{by-cases, _≢_}
 use mathlib.Core.Option.{some as present}
-use borrow.Author.Tests.{ltb-true, ltb-false, eqb-true, eqb-false}
+use borrow.Author.Tests.{ltb-true, ltb-false, lt-ltb, eq-eqb, eqb-true, eqb-false}
 use lib.Dec.{ltb, eqb}
 use lib.Pow.{pow-lt}
 use lib.ListN.{length, getD, drop, getElem?, length-drop}
@@ -37,7 +37,7 @@ use Rattle.pass.specs.Row.{partAt}
 use Rattle.pass.specs.Column.{Lanes}
 use Rattle.pass.specs.Sweep.{foldedArea, sweepOf, settledBy, hearerAt, begunArea, PartFits, Area, FoldableArea, HearersFit}
 use Rattle.pass.specs.Sweep.{SlotSettled}
-use Rattle.pass.specs.PassedColumns.{waiting, areaSize, ColumnsReady, SettledAt, EndedAs, ColumnsPassed, lastEnded, stoppedEnd}
+use Rattle.pass.specs.PassedColumns.{waiting, areaSize, ColumnsReady, Spared, SettledAt, EndedAs, ColumnsPassed, lastEnded, stoppedEnd}
 use Rattle.pass.proofs.PlaceLaws.{area-kept, part-fits, part-again}
 use Rattle.pass.proofs.ColumnLaws.{mayLeave, source-free}
 use Rattle.pass.proofs.MaskLaws.{Filled}
@@ -46,7 +46,7 @@ use Rattle.pass.proofs.SettleLaws.{Settles, between, Swept, settled-sta
 use Rattle.pass.proofs.PlanWalks.{walksAt, walksTaken, folded-state, none-heard, settles-slot, state-taken, arrived}
 use Rattle.pass.proofs.BeginLaws.{begun-length, begun-state}
 use Rattle.pass.proofs.EndLaws.{appearance-small, appearance-large, start-small}
-use Rattle.pass.proofs.EndLaws.{too-many-appearance, few-appearances, station-overflows, counted}
+use Rattle.pass.proofs.EndLaws.{too-many-appearance, few-appearances, appearances-few, station-overflows, counted}
 use Rattle.pass.proofs.ReachLaws.{reached-station, not-yet, now-reached, stations-over}
 
 -- lists that agree from k on
@@ -99,17 +99,18 @@ module _ (bs : List ℕ) (n t : ℕ) (terms : Terms) (ok : planFault bs n t ≡ 
 -- The pass of a call that was ready is in slot u, at position j, and the part of slot u begins at base: the work area holds the walks by
 -- the slot q before it, no appearance by that slot has too many, and the station until is not reached by it. The records from i on are
 -- past that slot. Past the last slot there are no records.
-pub record Passing (bs : List ℕ) (n t : ℕ) (terms : Terms) (s until : ℕ) (lay : Lanes) (col : ℕ → ℕ) (block q : ℕ) (old : List ℕ)
+pub record Passing (bs : List ℕ) (n t : ℕ) (terms : Terms) (s until : ℕ) (known : Bool) (lay : Lanes) (col : ℕ → ℕ) (block q : ℕ) (old : List ℕ)
     (base u j i : ℕ) (w : List ℕ) : Type 0 where
   pub full : Filled lay
   pub ready : ColumnsReady bs n t terms s until block old
+  pub spared : Spared known bs n t terms s
   pub parts : q ≡ waiting t terms
   from-one : 0 < u
   pub last : u ≤ t + q
   pub part : base ≡ partAt n block q u
   position : Position bs u j
   trail : Trail bs (u - q) i
-  pub state : AreaState lay n block q (u - q) old (walksAt (planOf bs n t terms) s (mayLeave s col) (u - q) j) w
+  pub state : AreaState known lay n block q (u - q) old (walksAt (planOf bs n t terms) s (mayLeave s col) (u - q) j) w
   small : (v x : ℕ) → v < n → x ≤ u - q → count (shortestWalks (planOf bs n t terms) s v x) ≤ 18446744073709551615
   waits : u - q < arrival (planOf bs n t terms) s until
 
@@ -131,9 +132,9 @@ ready-area bs n t terms s until block w r =
       fits = r .fits;
     }
 
-module _ {bs : List ℕ} {n t : ℕ} {terms : Terms} {s until : ℕ} {lay : Lanes} {col : ℕ → ℕ} {block q : ℕ} {old : List ℕ}
+module _ {bs : List ℕ} {n t : ℕ} {terms : Terms} {s until : ℕ} {known : Bool} {lay : Lanes} {col : ℕ → ℕ} {block q : ℕ} {old : List ℕ}
     {base u j i : ℕ} {w : List ℕ}
-    (x : Passing bs n t terms s until lay col block q old base u j i w) where
+    (x : Passing bs n t terms s until known lay col block q old base u j i w) where
   ok : planFault bs n t ≡ 0
   ok = x .ready .accepted
 
@@ -169,7 +170,7 @@ module _ {bs : List ℕ} {n t : ℕ} {terms : Terms} {s until : ℕ} {lay : Lane
 
   -- and then the pass is one position further
   pub passing-fold : inSlot bs j u ≡ true
-      → Passing bs n t terms s until lay col block q old base u (j + 1) i (foldedArea n block base w (contactAt bs j))
+      → Passing bs n t terms s until known lay col block q old base u (j + 1) i (foldedArea known n block base w (contactAt bs j))
   unfolding planOf
   passing-fold e =
       let (there, slot) = in-slot-inv bs j u e in
@@ -179,6 +180,7 @@ module _ {bs : List ℕ} {n t : ℕ} {terms : Terms} {s until : ℕ} {lay : Lane
       record {
         full = x .full;
         ready = x .ready;
+        spared = x .spared;
         parts = x .parts;
         from-one = x .from-one;
         last = x .last;
@@ -190,7 +192,7 @@ module _ {bs : List ℕ} {n t : ℕ} {terms : Terms} {s until : ℕ} {lay : Lane
           ahead = λ m from h. x .position .ahead m (omega arith) h;
         };
         trail = x .trail;
-        state = rw (x .part) (folded-state (planOf bs n t terms) q turns (slots-within bs n t terms ok) most s (mayLeave s col) lay n
+        state = rw (x .part) (folded-state (planOf bs n t terms) q turns (slots-within bs n t terms ok) most s (mayLeave s col) known lay n
             block old area u j (contactAt bs j) w (contact-there bs n t terms j there) slot (x .from-one) (omega arith)
             (c .sender-station) (c .hearer-station) (x .state));
         small = x .small;
@@ -220,6 +222,22 @@ module _ {bs : List ℕ} {n t : ℕ} {terms : Terms} {s until : ℕ} {lay : Lane
     within : j ≤ length (planOf bs n t terms .contacts)
     within = let h = x .position .within in let same = contacts-length bs n t terms in omega arith
 
+    -- where what waits is settled in the next slot, the records that are not settled end where those that are not folded in begin
+    pub passing-end : q < u + 1 → q ≡ 1 → SlotRecords bs (u + 1 - q) i j
+    unfolding inSlot
+    passing-end late next =
+        let here : u + 1 - q ≡ u = omega arith in
+        rw here (record {
+          from = by-cases (decLe i j) (λ h. h)
+              (λ more. absurd (let k = x .trail .within in omega (arith, x .trail .done j (omega arith), x .position .ahead j (omega arith) (omega arith))));
+          here = λ m from to.
+              let inside = x .position .within in
+              let slot : contactAt bs m .slot ≡ u =
+              omega (arith, x .trail .ahead m from (omega arith), x .position .done m to, x .from-one) in
+              rw (lt-ltb m (records bs) (omega arith), eq-eqb (contactAt bs m .slot) u slot);
+          past = e;
+        })
+
     position-next : Position bs (u + 1) j
     position-next =
         record {
@@ -230,12 +248,13 @@ module _ {bs : List ℕ} {n t : ℕ} {terms : Terms} {s until : ℕ} {lay : Lane
 
     -- a slot whose fellow of q slots before is the start: nothing is settled
     pub passing-on : (base′ : ℕ) → base′ ≡ partAt n block q (u + 1) → u + 1 ≤ q → u < t + q
-        → Passing bs n t terms s until lay col block q old base′ (u + 1) j i w
+        → Passing bs n t terms s until known lay col block q old base′ (u + 1) j i w
     passing-on base′ part early more =
         let same : u + 1 - q ≡ u - q = omega arith in
         record {
           full = x .full;
           ready = x .ready;
+          spared = x .spared;
           parts = x .parts;
           from-one = omega arith;
           last = omega arith;
@@ -308,24 +327,24 @@ module _ {bs : List ℕ} {n t : ℕ} {terms : Terms} {s until : ℕ} {lay : Lane
             (λ to. other m from (omega arith) (same ∙ sym (ap (λ y. y .hearer) here))))
             (λ before. let k = x .trail .done m (omega arith) in omega arith))
 
-        module _ (w′ : List ℕ) (r : Bool) (done-with : SlotSettled bs lay n block base′ s col i end w r w′) where
-          out : sweepOf r w′ ≡ settledBy (done-with .stations) lay n block base′ s col w (done-with .from) (done-with .many)
+        module _ (w′ : List ℕ) (r : Bool) (done-with : SlotSettled bs known lay n block base′ s col i end w r w′) where
+          out : sweepOf r w′ ≡ settledBy (done-with .stations) known lay n block base′ s col w (done-with .from) (done-with .many)
           out = done-with .out
 
-          swept : Swept lay n block q (u - q) old (suc (u - q)) (walksAt (planOf bs n t terms) s (mayLeave s col) (u - q) j)
+          swept : Swept known lay n block q (u - q) old (suc (u - q)) (walksAt (planOf bs n t terms) s (mayLeave s col) (u - q) j)
               (walksTaken (planOf bs n t terms) s (mayLeave s col) (u - q) j)
-              (settledBy (done-with .stations) lay n block base′ s col w (done-with .from) (done-with .many))
+              (settledBy (done-with .stations) known lay n block base′ s col w (done-with .from) (done-with .many))
           swept =
-              rw same-part (settled-stations (done-with .stations) lay (x .full) n block q (u - q) old area s col (suc (u - q)) low high
+              rw same-part (settled-stations (done-with .stations) known lay (x .full) n block q (u - q) old area s col (suc (u - q)) low high
               (walksAt (planOf bs n t terms) s (mayLeave s col) (u - q) j)
               (walksTaken (planOf bs n t terms) s (mayLeave s col) (u - q) j) all-settles (done-with .many) (done-with .from) w
               (done-with .chosen .inside) (λ v h other. unheard v (done-with .chosen .covers v h other)) (x .state))
 
           -- the work area holds walks, also where settling stopped
-          held : AreaState lay n block q (u - q) old (between (swept .test) (walksAt (planOf bs n t terms) s (mayLeave s col) (u - q) j)
+          held : AreaState known lay n block q (u - q) old (between (swept .test) (walksAt (planOf bs n t terms) s (mayLeave s col) (u - q) j)
               (walksTaken (planOf bs n t terms) s (mayLeave s col) (u - q) j)) w′
           held =
-              subst (AreaState lay n block q (u - q) old (between (swept .test) (walksAt (planOf bs n t terms) s (mayLeave s col) (u - q) j)
+              subst (AreaState known lay n block q (u - q) old (between (swept .test) (walksAt (planOf bs n t terms) s (mayLeave s col) (u - q) j)
               (walksTaken (planOf bs n t terms) s (mayLeave s col) (u - q) j))) (sym (ap (λ z. z .work) out)) (swept .state)
 
           pub next-area : Area n block q w′
@@ -366,14 +385,14 @@ module _ {bs : List ℕ} {n t : ℕ} {terms : Terms} {s until : ℕ} {lay : Lane
                     stopped-with ended.TooWide (λ one. omega (arith, is, several, one))
 
           module _ (few : r ≡ false) where
-            none-over : settledBy (done-with .stations) lay n block base′ s col w (done-with .from) (done-with .many) .over ≡ false
+            none-over : settledBy (done-with .stations) known lay n block base′ s col w (done-with .from) (done-with .many) .over ≡ false
             none-over = sym (ap (λ z. z .over) out) ∙ few
 
             -- the work area holds the walks by the next slot
-            state-next : AreaState lay n block q (u + 1 - q) old (walksAt (planOf bs n t terms) s (mayLeave s col) (u + 1 - q) j) w′
+            state-next : AreaState known lay n block q (u + 1 - q) old (walksAt (planOf bs n t terms) s (mayLeave s col) (u + 1 - q) j) w′
             state-next =
                 rw (slot-before, slot-next, ap (λ z. z .work) out)
-                (state-taken lay (planOf bs n t terms) s (mayLeave s col) (u - q) j n block q old _ some-part
+                (state-taken known lay (planOf bs n t terms) s (mayLeave s col) (u - q) j n block q old _ some-part (all-settles .sound-after)
                 (done (u - q + 1 + q) (omega arith)) (swept .all none-over))
 
             small-next : (v y : ℕ) → v < n → y ≤ u + 1 - q
@@ -381,16 +400,22 @@ module _ {bs : List ℕ} {n t : ℕ} {terms : Terms} {s until : ℕ} {lay : Lane
             unfolding walksAt
             small-next v y h below =
                 by-cases (ℕ-discrete y (suc (u - q)))
-                (λ same. rw same (appearance-small (planOf bs n t terms) (slots-within bs n t terms ok) (few-slots bs n t terms ok) s v
-                (suc (u - q)) (here-arrived v) (swept .small none-over v h)))
+                (λ same. rw same (go known refl))
                 (λ d. x .small v y h (omega arith))
+              where
+                go : (o : Bool) → known ≡ o → count (shortestWalks (planOf bs n t terms) s v (suc (u - q))) ≤ 18446744073709551615
+                go true o = appearances-few bs n t terms ok s (x .spared o) v (suc (u - q)) h (omega arith)
+                go false o =
+                    appearance-small (planOf bs n t terms) (slots-within bs n t terms ok) (few-slots bs n t terms ok) s v
+                    (suc (u - q)) (here-arrived v) (swept .small o none-over v h)
 
             -- the station until has no settled walk, and the pass is one slot further
-            pub passing-settle : reachedEntry n w′ until ≡ false → Passing bs n t terms s until lay col block q old base′ (u + 1) j end w′
+            pub passing-settle : reachedEntry n w′ until ≡ false → Passing bs n t terms s until known lay col block q old base′ (u + 1) j end w′
             passing-settle out-of-reach =
                 record {
                   full = x .full;
                   ready = x .ready;
+                  spared = x .spared;
                   parts = x .parts;
                   from-one = omega arith;
                   last = omega arith;
@@ -399,7 +424,7 @@ module _ {bs : List ℕ} {n t : ℕ} {terms : Terms} {s until : ℕ} {lay : Lane
                   trail = rw slot-before trail-end;
                   state = state-next;
                   small = small-next;
-                  waits = not-yet bs n t terms ok s until lay (x .full) col block q old w′ (u + 1 - q) j (omega arith) (x .ready .source) state-next
+                  waits = not-yet bs n t terms ok s until known lay (x .full) col block q old w′ (u + 1 - q) j (omega arith) (x .ready .source) state-next
                       out-of-reach;
                 }
 
@@ -411,11 +436,11 @@ module _ {bs : List ℕ} {n t : ℕ} {terms : Terms} {s until : ℕ} {lay : Lane
                 record {
                   ends = record {
                     slot = let first = x .waits in
-                        let here = now-reached bs n t terms ok s until lay (x .full) col block q old w′ (u + 1 - q) j state-next in-reach in
+                        let here = now-reached bs n t terms ok s until known lay (x .full) col block q old w′ (u + 1 - q) j state-next in-reach in
                         omega arith;
                     appearances = small-next;
                     stations = λ none. absurd (let there = reached-station n w′ until in-reach in omega arith);
-                    entries = counted bs n t terms ok s lay (x .full) col block q old w′ (u + 1 - q) j state-next;
+                    entries = counted bs n t terms ok s known lay (x .full) col block q old w′ (u + 1 - q) j state-next;
                   };
                   beyond = rw (← x .parts) next-beyond;
                   same-length = next-length;
@@ -436,14 +461,14 @@ module _ {bs : List ℕ} {n t : ℕ} {terms : Terms} {s until : ℕ} {lay : Lane
       end : u - q ≡ t
       end = let l = x .last in omega arith
 
-      state : AreaState lay n block q t old (walksAt (planOf bs n t terms) s (mayLeave s col) t j) w
-      state = subst (λ y. AreaState lay n block q y old (walksAt (planOf bs n t terms) s (mayLeave s col) y j) w) end (x .state)
+      state : AreaState known lay n block q t old (walksAt (planOf bs n t terms) s (mayLeave s col) t j) w
+      state = subst (λ y. AreaState known lay n block q y old (walksAt (planOf bs n t terms) s (mayLeave s col) y j) w) end (x .state)
 
       small : (v y : ℕ) → v < n → y ≤ t → count (shortestWalks (planOf bs n t terms) s v y) ≤ 18446744073709551615
       small v y h below = x .small v y h (let k = end in omega arith)
 
       exact : (z : ℕ) → z < n → areaOverflows n w z ≡ ltb 18446744073709551615 (count (walksBy (planOf bs n t terms) s z t))
-      exact = station-overflows bs n t terms ok s lay (x .full) col block q old w t j state
+      exact = station-overflows bs n t terms ok s known lay (x .full) col block q old w t j state
 
       settled-last : (n ≤ until → (z : ℕ) → z < n → count (walksBy (planOf bs n t terms) s z t) ≤ 18446744073709551615)
           → SettledAt bs n t terms s until lay col block w t
@@ -452,7 +477,7 @@ module _ {bs : List ℕ} {n t : ℕ} {terms : Terms} {s until : ℕ} {lay : Lane
             slot = let first = x .waits in let k = end in omega arith;
             appearances = small;
             stations = stations;
-            entries = counted bs n t terms ok s lay (x .full) col block q old w t j state;
+            entries = counted bs n t terms ok s known lay (x .full) col block q old w t j state;
           }
 
       go : (b : Bool) → ltb until n ≡ b → (c : Bool) → any (areaOverflows n w) (below n) ≡ c
@@ -487,23 +512,24 @@ ready-begun bs n t terms s until block q one old begins is ready e =
       fits = rw e (omega arith);
     }
 
-module _ (bs : List ℕ) (n t : ℕ) (terms : Terms) (s until : ℕ) (lay : Lanes) (full : Filled lay) (col : ℕ → ℕ) (block q : ℕ)
+module _ (bs : List ℕ) (n t : ℕ) (terms : Terms) (s until : ℕ) (known : Bool) (lay : Lanes) (full : Filled lay) (col : ℕ → ℕ) (block q : ℕ)
     (old begins : List ℕ) (is : q ≡ waiting t terms) (ready : ColumnsReady bs n t terms s until block old)
     (e : begins ≡ begunArea n block q old s (ones (lay .width) (lay .lanes))) where
-  state-begun : AreaState lay n block q 0 old (walksAt (planOf bs n t terms) s (mayLeave s col) 0 0) begins
+  state-begun : AreaState known lay n block q 0 old (walksAt (planOf bs n t terms) s (mayLeave s col) 0 0) begins
   state-begun =
       rw e
-      (begun-state lay full (planOf bs n t terms) s (mayLeave s col) n block q old (source-free s col)
+      (begun-state known lay full (planOf bs n t terms) s (mayLeave s col) n block q old (source-free s col)
       (rw is (ready-area bs n t terms s until block old ready)) (ready .source))
 
   -- at the beginning the pass is in slot 1, at position 0
-  pub passing-begun : (base : ℕ) → base ≡ partAt n block q 1 → Passing bs n t terms s until lay col block q begins base 1 0 0 begins
-  passing-begun base part =
+  pub passing-begun : Spared known bs n t terms s → (base : ℕ) → base ≡ partAt n block q 1 → Passing bs n t terms s until known lay col block q begins base 1 0 0 begins
+  passing-begun spared base part =
       let some = ready-waits bs n t terms s until block old ready .some in
       let first : 1 - q ≡ 0 = omega arith in
       record {
         full = full;
         ready = ready-begun bs n t terms s until block q (ones (lay .width) (lay .lanes)) old begins is ready e;
+        spared = spared;
         parts = is;
         from-one = omega arith;
         last = omega arith;

@@ -1,14 +1,15 @@
 -- Places of the work area: rows lie within it and apart from each other. What the functions over it leave, from what
 -- the functions that they call leave. Assumes nothing.
-use Prim.Native.Nat.{ℕ, suc, _+_, _-_, _*_, _/_, _%_, _<_, _≤_}
+use Prim.Native.Nat.{ℕ, suc, _+_, _-_, _*_, _/_, _%_, _<_, _≤_, min}
 use native.Mathlib.Omega.{arith}
 use native.Mathlib.Nat.{le-refl, mul-le-mul, mul-le-mul-right, suc-mul, mod-lt, div-add-mod', mul-add-mod-self-right}
 use native.Mathlib.Decide.{decLe}
 use mathlib.Core.Path.{_≡_, refl, sym, ap, subst, _∙_}
-use mathlib.Core.Bool.{Bool, true, false, cond}
+use mathlib.Core.Bool.{Bool, true, false, cond, not, _&&_}
 use mathlib.Core.List.{List}
 use mathlib.Core.Logic.{_⊎_, inl, inr, by-cases, _≢_}
-use borrow.Author.Tests.{lt-ltb, le-ltb, eq-eqb, ne-eqb}
+use borrow.Author.Tests.{ltb-true, ltb-false, lt-ltb, le-ltb, eq-eqb, ne-eqb}
+use lib.Dec.{ltb, eqb}
 use lib.ListN.{length, getD, set, length-set}
 use Rattle.temporal.specs.Bytes.{contactAt}
 use Rattle.plan.specs.declared.Contact.{Contact}
@@ -18,10 +19,11 @@ use Rattle.memory.proofs.FillLaws.{filled-length}
 use Rattle.pass.specs.Row.{partSize, rowAt, partAt}
 use Rattle.pass.specs.Entry.{mergedArea, absorbed, Absorbable}
 use Rattle.pass.specs.Column.{Lanes}
-use Rattle.pass.specs.Sweep.{sentArea, foldedArea, clearedColumn, masked, settledOne, tooWide, Sweep, sweepOf, stopsAt}
-use Rattle.pass.specs.Sweep.{settledNext, settledBy, hearerAt, HearersFit, SlotSettled}
-use Rattle.pass.specs.Sweep.{emptied, emptiedFrom, begunArea, PartFits, Area, FoldableArea, HearerFits}
-use Rattle.entries.proofs.CountLaws.{overflows-some, overflows-none}
+use Rattle.pass.specs.Sweep.{sentArea, foldedArea, clearedColumn, masked, settledOne, tooWide, Sweep, sweepOf, haltsAt, takenIn}
+use Rattle.pass.specs.Sweep.{widensAt, takenNext}
+use Rattle.temporal.proofs.ListLaws.{not-both}
+use Rattle.pass.specs.Sweep.{settledNext, settledBy, hearerAt, stationAt, HearersFit, Chosen, SlotSettled}
+use Rattle.pass.specs.Sweep.{emptied, emptiedFrom, begunArea, PartFits, Area, FoldableArea}
 
 -- ---- parts and rows
 
@@ -151,26 +153,31 @@ module _ (n block q : ℕ) where
 
 -- ---- a send
 
-module _ (n block base : ℕ) (w : List ℕ) (v x : ℕ) where
+module _ (known : Bool) (n block base : ℕ) (w : List ℕ) (v x : ℕ) where
   -- where the row is looked at
   pub sent-row : (row from : ℕ) (out : List ℕ) → row ≡ rowAt n block x → from ≡ rowAt n block v
       → getD w v 0 < 65535 → getD w v 0 < getD w x 0
       → out ≡ absorbed n block w (base + x) (base + row) from (getD w v 0 + 1) (getD w (v + n) 0)
-      → out ≡ sentArea n block base w v x
+      → out ≡ sentArea known n block base w v x
   unfolding sentArea
   sent-row row from out a b some fewer e =
       rw (lt-ltb (getD w v 0) 65535 some, lt-ltb (getD w v 0) (getD w x 0) fewer) (e ∙ rw (a, b))
 
   -- where it is not
-  pub sent-pruned : (out : List ℕ) → getD w v 0 < 65535 → getD w x 0 ≤ getD w v 0
+  pub sent-pruned : (out : List ℕ) → getD w v 0 < 65535 → getD w x 0 ≤ getD w v 0 → known ≡ false
       → out ≡ mergedArea n w (base + x) (getD w v 0 + 1) (getD w (v + n) 0)
-      → out ≡ sentArea n block base w v x
+      → out ≡ sentArea known n block base w v x
   unfolding sentArea
-  sent-pruned out some more e =
-      rw (lt-ltb (getD w v 0) 65535 some, le-ltb (getD w v 0) (getD w x 0) more) e
+  sent-pruned out some more o e =
+      rw (lt-ltb (getD w v 0) 65535 some, le-ltb (getD w v 0) (getD w x 0) more, o) e
+
+  -- nor are hops and count, where cause 9 is known not to hold
+  pub sent-skipped : getD w v 0 < 65535 → getD w x 0 ≤ getD w v 0 → known ≡ true → sentArea known n block base w v x ≡ w
+  unfolding sentArea
+  sent-skipped some more o = rw (lt-ltb (getD w v 0) 65535 some, le-ltb (getD w v 0) (getD w x 0) more, o)
 
   -- a station without walks sends nothing
-  pub sent-none : 65535 ≤ getD w v 0 → sentArea n block base w v x ≡ w
+  pub sent-none : 65535 ≤ getD w v 0 → sentArea known n block base w v x ≡ w
   unfolding sentArea
   sent-none none = rw (le-ltb (getD w v 0) 65535 none)
 
@@ -189,10 +196,10 @@ read-within bs n block base j w r f e =
     }
 
 -- a send over the record that was read folds it in
-pub folded-by : (bs : List ℕ) (n block base j : ℕ) (w out : List ℕ) (r : Contact) → contactOf r ≡ contactAt bs j
-    → out ≡ sentArea n block base w (r .sender) (r .hearer) → out ≡ foldedArea n block base w (contactAt bs j)
+pub folded-by : (known : Bool) (bs : List ℕ) (n block base j : ℕ) (w out : List ℕ) (r : Contact) → contactOf r ≡ contactAt bs j
+    → out ≡ sentArea known n block base w (r .sender) (r .hearer) → out ≡ foldedArea known n block base w (contactAt bs j)
 unfolding foldedArea
-folded-by bs n block base j w out r e sent = sent ∙ ap (foldedArea n block base w) e
+folded-by known bs n block base j w out r e sent = sent ∙ ap (foldedArea known n block base w) e
 
 -- ---- a mask
 
@@ -216,154 +223,155 @@ module _ (lay : Lanes) (n block s : ℕ) (col : ℕ → ℕ) (w : List ℕ) (v :
 -- ---- settling
 
 module _ (lay : Lanes) (n block base s : ℕ) (col : ℕ → ℕ) (w : List ℕ) (v : ℕ) where
-  -- something waits
-  settled-some : (row : ℕ) (one two : List ℕ) → row ≡ rowAt n block v
-      → getD w (base + v) 0 < 65535
-      → one ≡ absorbed n block w v row (base + row) (getD w (base + v) 0) (getD w (base + v + n) 0)
-      → two ≡ masked lay n block s col one v
-      → set (set two (base + v) 65535) (base + v + n) 0 ≡ settledOne lay n block base s col w v
-  unfolding settledOne
-  settled-some row one two a some first second =
-      rw (lt-ltb (getD w (base + v) 0) 65535 some, second, first, a)
+  -- what waits has more hops than what is settled
+  pub taken-more : getD w v 0 < getD w (base + v) 0 → sweepOf false w ≡ takenNext lay n block base s col w v
+  unfolding takenNext takenIn widensAt
+  taken-more more = rw (lt-ltb (getD w v 0) (getD w (base + v) 0) more)
 
-  -- its count is over 2^64 - 1: nothing is changed
-  pub settled-over : getD w (base + v) 0 < 65535 → getD w (base + v + n) 0 ≡ 0
-      → sweepOf true w ≡ settledNext lay n block base s col w v
-  unfolding settledNext stopsAt
-  settled-over some big =
-      rw (overflows-some (getD w (base + v) 0) (getD w (base + v + n) 0) some, eq-eqb (getD w (base + v + n) 0) 0 big)
-
-  -- the count that it would have does not fit a lane
-  pub settled-wide : getD w (base + v) 0 < 65535 → getD w (base + v + n) 0 ≢ 0
+  -- the count that the settled entry would have does not fit a lane
+  pub taken-wide : getD w (base + v) 0 ≤ getD w v 0
       → true ≡ tooWide lay (getD w v 0) (getD w (v + n) 0) (getD w (base + v) 0) (getD w (base + v + n) 0)
-      → sweepOf true w ≡ settledNext lay n block base s col w v
-  unfolding settledNext stopsAt
-  settled-wide some small wide =
-      rw (
-        overflows-some (getD w (base + v) 0) (getD w (base + v + n) 0) some,
-        ne-eqb (getD w (base + v + n) 0) 0 small,
-        lt-ltb (getD w (base + v) 0) 65535 some,
-        ← wide,
-      )
+      → sweepOf true w ≡ takenNext lay n block base s col w v
+  unfolding takenNext widensAt
+  taken-wide less wide = rw (le-ltb (getD w v 0) (getD w (base + v) 0) less, ← wide)
 
-  -- it is not
-  pub settled-within : (row : ℕ) (one two : List ℕ) → row ≡ rowAt n block v
-      → getD w (base + v) 0 < 65535
+  -- it does
+  pub taken-within : (row : ℕ) (one two : List ℕ) → row ≡ rowAt n block v
+      → getD w (base + v) 0 ≤ getD w v 0
       → one ≡ absorbed n block w v row (base + row) (getD w (base + v) 0) (getD w (base + v + n) 0)
       → two ≡ masked lay n block s col one v
-      → getD w (base + v + n) 0 ≢ 0
       → false ≡ tooWide lay (getD w v 0) (getD w (v + n) 0) (getD w (base + v) 0) (getD w (base + v + n) 0)
-      → sweepOf false (set (set two (base + v) 65535) (base + v + n) 0) ≡ settledNext lay n block base s col w v
-  unfolding settledNext stopsAt
-  settled-within row one two a some first second small narrow =
-      rw (
-        overflows-some (getD w (base + v) 0) (getD w (base + v + n) 0) some,
-        ne-eqb (getD w (base + v + n) 0) 0 small,
-        lt-ltb (getD w (base + v) 0) 65535 some,
-        ← narrow,
-      )
-      (ap (sweepOf false) (settled-some row one two a some first second))
+      → sweepOf false two ≡ takenNext lay n block base s col w v
+  unfolding takenNext takenIn widensAt
+  taken-within row one two a less first second narrow =
+      rw (le-ltb (getD w v 0) (getD w (base + v) 0) less, ← narrow, second, first, a)
 
-  -- nothing waits
-  pub settled-none : 65535 ≤ getD w (base + v) 0 → sweepOf false w ≡ settledNext lay n block base s col w v
-  unfolding settledNext settledOne stopsAt
-  settled-none none =
-      rw (overflows-none (getD w (base + v) 0) (getD w (base + v + n) 0) none, le-ltb (getD w (base + v) 0) 65535 none)
+  module _ (known : Bool) where
+    -- its count is over 2^64 - 1: nothing is changed
+    pub settled-over : getD w (base + v) 0 < 65535 → true ≡ (not known && eqb (getD w (base + v + n) 0) 0)
+        → sweepOf true w ≡ settledNext known lay n block base s col w v
+    unfolding settledNext haltsAt
+    settled-over some big = rw (lt-ltb (getD w (base + v) 0) 65535 some, ← big)
 
--- the hearer of the record that was read lies within the plan
-pub hearer-within : (bs : List ℕ) (n i : ℕ) (r : Contact) → HearerFits bs n i → contactOf r ≡ contactAt bs i → r .hearer < n
-hearer-within bs n i r f e = subst (λ c. c .hearer < n) (sym e) (f .hearer-station)
+    module _ (x : List ℕ) (some : getD w (base + v) 0 < 65535) (small : false ≡ (not known && eqb (getD w (base + v + n) 0) 0)) where
+      -- it is not taken in
+      pub settled-stop : sweepOf true x ≡ takenNext lay n block base s col w v → sweepOf true x ≡ settledNext known lay n block base s col w v
+      unfolding settledNext haltsAt takenNext
+      settled-stop e = rw (lt-ltb (getD w (base + v) 0) 65535 some, ← small) (go (widensAt lay n base w v) e)
+        where
+          go : (b : Bool) → sweepOf true x ≡ cond b (sweepOf true w) (sweepOf false (takenIn lay n block base s col w v))
+              → sweepOf true x ≡ cond b (sweepOf true w) (sweepOf false (settledOne lay n block base s col w v))
+          go true q = q
+          go false q = absurd (not-both refl (ap (λ z. z .over) q))
 
--- settling for it is settling for the record's
-pub settled-by : (bs : List ℕ) (lay : Lanes) (n block base s : ℕ) (col : ℕ → ℕ) (w : List ℕ) (i : ℕ) (r : Contact) (z : Sweep)
-    → contactOf r ≡ contactAt bs i → z ≡ settledNext lay n block base s col w (r .hearer)
-    → z ≡ settledNext lay n block base s col w (contactAt bs i .hearer)
-settled-by bs lay n block base s col w i r z e out = out ∙ ap (λ c. settledNext lay n block base s col w (c .hearer)) e
+      -- it is
+      pub settled-go : sweepOf false x ≡ takenNext lay n block base s col w v
+          → sweepOf false (set (set x (base + v) 65535) (base + v + n) 0) ≡ settledNext known lay n block base s col w v
+      unfolding settledNext haltsAt takenNext settledOne
+      settled-go e = rw (lt-ltb (getD w (base + v) 0) 65535 some, ← small) (go (widensAt lay n base w v) e)
+        where
+          go : (b : Bool) → sweepOf false x ≡ cond b (sweepOf true w) (sweepOf false (takenIn lay n block base s col w v))
+              → sweepOf false (set (set x (base + v) 65535) (base + v + n) 0)
+              ≡ cond b (sweepOf true w) (sweepOf false (set (set (takenIn lay n block base s col w v) (base + v) 65535) (base + v + n) 0))
+          go true q = absurd (not-both refl (sym (ap (λ z. z .over) q)))
+          go false q = ap (λ z. sweepOf false (set (set (z .work) (base + v) 65535) (base + v + n) 0)) q
+
+    -- nothing waits
+    pub settled-none : 65535 ≤ getD w (base + v) 0 → sweepOf false w ≡ settledNext known lay n block base s col w v
+    unfolding settledNext settledOne haltsAt
+    settled-none none = rw (le-ltb (getD w (base + v) 0) 65535 none)
 
 -- settling the stations from f i to before f e gives what settling those from f j on gives
-pub record SettlingArea (f : ℕ → ℕ) (lay : Lanes) (n block base s : ℕ) (col : ℕ → ℕ) (old : List ℕ) (j e i : ℕ) (now : List ℕ) : Type 0 where
+pub record SettlingArea (f : ℕ → ℕ) (known : Bool) (lay : Lanes) (n block base s : ℕ) (col : ℕ → ℕ) (old : List ℕ) (j e i : ℕ) (now : List ℕ) : Type 0 where
   pub from : j ≤ i
   pub same : length now ≡ length old
-  pub rest : settledBy f lay n block base s col now i (e - i) ≡ settledBy f lay n block base s col old j (e - j)
+  pub rest : settledBy f known lay n block base s col now i (e - i) ≡ settledBy f known lay n block base s col old j (e - j)
 
-module _ (f : ℕ → ℕ) (lay : Lanes) (n block base s : ℕ) (col : ℕ → ℕ) (old : List ℕ) (j e : ℕ) where
+module _ (f : ℕ → ℕ) (known : Bool) (lay : Lanes) (n block base s : ℕ) (col : ℕ → ℕ) (old : List ℕ) (j e : ℕ) where
   -- at first no station is settled
-  pub settling-none : SettlingArea f lay n block base s col old j e j old
+  pub settling-none : SettlingArea f known lay n block base s col old j e j old
   settling-none = record { from = omega arith; same = refl; rest = refl }
 
-  module _ (i : ℕ) (now : List ℕ) (x : SettlingArea f lay n block base s col old j e i now) where
+  module _ (i : ℕ) (now : List ℕ) (x : SettlingArea f known lay n block base s col old j e i now) where
     -- at last all are
-    pub settling-all : e ≤ i → sweepOf false now ≡ settledBy f lay n block base s col old j (e - j)
+    pub settling-all : e ≤ i → sweepOf false now ≡ settledBy f known lay n block base s col old j (e - j)
     unfolding settledBy
     settling-all h =
         let none : e - i ≡ 0 = omega arith in
-        sym (ap (settledBy f lay n block base s col now i) none) ∙ x .rest
+        sym (ap (settledBy f known lay n block base s col now i) none) ∙ x .rest
 
     module _ (now′ : List ℕ) (r : Bool) (h : i < e)
-        (out : sweepOf r now′ ≡ settledNext lay n block base s col now (f i)) where
+        (out : sweepOf r now′ ≡ settledNext known lay n block base s col now (f i)) where
       -- it goes on from the next record, or stops here
-      next : cond r (sweepOf true now′) (settledBy f lay n block base s col now′ (i + 1) (e - (i + 1)))
-          ≡ settledBy f lay n block base s col old j (e - j)
+      next : cond r (sweepOf true now′) (settledBy f known lay n block base s col now′ (i + 1) (e - (i + 1)))
+          ≡ settledBy f known lay n block base s col old j (e - j)
       unfolding settledNext settledBy
       next =
           let more : e - i ≡ suc (e - (i + 1)) = omega arith in
-          go (stopsAt lay n base now (f i)) out ∙ sym (ap (settledBy f lay n block base s col now i) more) ∙ x .rest
+          go (haltsAt known lay n base now (f i)) out ∙ sym (ap (settledBy f known lay n block base s col now i) more) ∙ x .rest
         where
           on : Sweep → Sweep
-          on z = cond (z .over) (sweepOf true (z .work)) (settledBy f lay n block base s col (z .work) (i + 1) (e - (i + 1)))
+          on z = cond (z .over) (sweepOf true (z .work)) (settledBy f known lay n block base s col (z .work) (i + 1) (e - (i + 1)))
 
           go : (t : Bool)
               → sweepOf r now′
               ≡ cond t (sweepOf true now) (sweepOf false (settledOne lay n block base s col now (f i)))
               → on (sweepOf r now′)
-              ≡ cond t (sweepOf true now) (settledBy f lay n block base s col
+              ≡ cond t (sweepOf true now) (settledBy f known lay n block base s col
               (settledOne lay n block base s col now (f i)) (i + 1) (e - (i + 1)))
           go true q = ap on q
           go false q = ap on q
 
       -- one record more
-      pub settling-more : r ≡ false → length now′ ≡ length now → SettlingArea f lay n block base s col old j e (i + 1) now′
+      pub settling-more : r ≡ false → length now′ ≡ length now → SettlingArea f known lay n block base s col old j e (i + 1) now′
       settling-more goes kept =
           let low = x .from in
           record { from = omega arith; same = kept ∙ x .same; rest = rw goes at next }
 
       -- settling stops
-      pub settling-stops : r ≡ true → sweepOf true now′ ≡ settledBy f lay n block base s col old j (e - j)
+      pub settling-stops : r ≡ true → sweepOf true now′ ≡ settledBy f known lay n block base s col old j (e - j)
       settling-stops stops = rw stops at next
 
--- all stations from the first on
-pub settled-first : (f : ℕ → ℕ) (lay : Lanes) (n block base s : ℕ) (col : ℕ → ℕ) (old : List ℕ) (k : ℕ) (z : Sweep)
-    → z ≡ settledBy f lay n block base s col old 0 (k - 0) → z ≡ settledBy f lay n block base s col old 0 k
-settled-first f lay n block base s col old k z e = let all : k - 0 ≡ k = omega arith in e ∙ ap (settledBy f lay n block base s col old 0) all
+-- a slot settled for the hearers of its records, or for every station where they are more
+module _ (bs : List ℕ) (n j e : ℕ) (fits : HearersFit bs n j e) (up : j ≤ e) where
+  -- the number of the station is that of a record, where not all are settled
+  pub station-record : (all : Bool) → all ≡ ltb n (e - j) → (i : ℕ) → i < min n (e - j) → all ≡ false → (j + i) * 6 + 5 < length bs
+  station-record all is i inside none = fits (j + i) (omega arith) (omega arith) .inside
 
--- a slot settled for every station, and for the hearers of its records
-module _ (bs : List ℕ) (lay : Lanes) (n block base s : ℕ) (col : ℕ → ℕ) (j e : ℕ) (old : List ℕ) (r : Bool) (new : List ℕ) where
-  pub slot-stations : HearersFit bs n j e → sweepOf r new ≡ settledBy (λ v. v) lay n block base s col old 0 n
-      → SlotSettled bs lay n block base s col j e old r new
-  slot-stations fits out =
+  pub station-inside : (all : Bool) → all ≡ ltb n (e - j) → (i : ℕ) → i < min n (e - j) → stationAt bs all j i < n
+  unfolding stationAt
+  station-inside true is i inside = omega arith
+  station-inside false is i inside = fits (j + i) (omega arith) (omega arith) .hearer-station
+
+  slot-chosen : (all : Bool) → all ≡ ltb n (e - j) → Chosen bs n j e (stationAt bs all j) 0 (min n (e - j))
+  unfolding stationAt
+  slot-chosen true is =
+      let more = ltb-true n (e - j) (sym is) in
       record {
-        stations = λ v. v;
-        from = 0;
-        many = n;
-        chosen = record {
-          inside = λ m low high. omega arith;
-          covers = λ v h other. absurd (other v (omega arith) (omega arith) refl);
-        };
-        out = out;
+        inside = λ m low high. omega arith;
+        covers = λ v h other. absurd (other v (omega arith) (omega arith) refl);
+      }
+  slot-chosen false is =
+      let less = ltb-false n (e - j) (sym is) in
+      record {
+        inside = λ m low high. fits (j + m) (omega arith) (omega arith) .hearer-station;
+        covers = λ v h other m low high same.
+            let at : j + (m - j) ≡ m = omega arith in
+            other (m - j) (omega arith) (omega arith) (same ∙ ap (hearerAt bs) (sym at));
       }
 
-  pub slot-records : HearersFit bs n j e → j ≤ e → sweepOf r new ≡ settledBy (hearerAt bs) lay n block base s col old j (e - j)
-      → SlotSettled bs lay n block base s col j e old r new
-  slot-records fits up out =
+  pub slot-settled : (known : Bool) (lay : Lanes) (block base s : ℕ) (col : ℕ → ℕ) (old : List ℕ) (r : Bool) (new : List ℕ)
+      → (all : Bool) → all ≡ ltb n (e - j)
+      → sweepOf r new ≡ settledBy (stationAt bs all j) known lay n block base s col old 0 (min n (e - j) - 0)
+      → SlotSettled bs known lay n block base s col j e old r new
+  slot-settled known lay block base s col old r new all is out =
+      let whole : min n (e - j) - 0 ≡ min n (e - j) = omega arith in
       record {
-        stations = hearerAt bs;
-        from = j;
-        many = e - j;
-        chosen = record {
-          inside = λ m low high. fits m low (omega arith) .hearer-station;
-          covers = λ v h other m low high. other m low (omega arith);
-        };
-        out = out;
+        stations = stationAt bs all j;
+        from = 0;
+        many = min n (e - j);
+        chosen = slot-chosen all is;
+        out = out ∙ ap (settledBy (stationAt bs all j) known lay n block base s col old 0) whole;
       }
 
 -- ---- the beginning

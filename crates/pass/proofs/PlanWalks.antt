@@ -26,7 +26,7 @@ use Rattle.entries.proofs.HopLaws.{walks-few}
 use Rattle.pass.specs.Row.{partAt}
 use Rattle.pass.specs.Column.{Lanes}
 use Rattle.pass.specs.Sweep.{foldedArea, Area}
-use Rattle.pass.proofs.BestLaws.{best-ext}
+use Rattle.pass.proofs.NearLaws.{held-ext}
 use Rattle.pass.proofs.StateLaws.{Walks, Sound, AreaState, state-on, sent-state}
 use Rattle.pass.proofs.SettleLaws.{Settles}
 
@@ -176,27 +176,28 @@ module _ (p : Plan) (s : ℕ) (may : ℕ → ℕ → Bool) (u j : ℕ)
 
 -- The q slots past u + 1, after slot u + 1 is settled: the state is that by slot u + 1, where no record of the slot that is new is
 -- folded in.
-pub state-taken : (lay : Lanes) (p : Plan) (s : ℕ) (may : ℕ → ℕ → Bool) (u j n block q : ℕ) (old w : List ℕ) → 0 < q
+pub state-taken : (known : Bool) (lay : Lanes) (p : Plan) (s : ℕ) (may : ℕ → ℕ → Bool) (u j n block q : ℕ) (old w : List ℕ) → 0 < q
+    → Sound (walksTaken p s may u j)
     → ((i : ℕ) (c : Contact) → i < j → getElem? (p .contacts) i ≡ some c → c .slot ≢ u + 1 + q)
-    → AreaState lay n block q u old (walksTaken p s may u j) w
-    → AreaState lay n block q (u + 1) old (walksAt p s may (u + 1) j) w
+    → AreaState known lay n block q u old (walksTaken p s may u j) w
+    → AreaState known lay n block q (u + 1) old (walksAt p s may (u + 1) j) w
 unfolding walksTaken walksAt
-state-taken lay p s may u j n block q old w parts none state =
-    rw add-one (on (state-on parts
+state-taken known lay p s may u j n block q old w parts sound none state =
+    rw add-one (on (state-on parts sound
     (λ v k. ap (λ b. cond b 0 (arrivals p s everywhere j v (u + 1) k)) (eq-eqb (u + 1) (suc u) (omega arith)))
     (λ v k. ap (λ b. cond b 0 (arrivals p s everywhere j v (u + 1 + q) k)) (ne-eqb (u + 1 + q) (suc u) (omega arith))
     ∙ none-arrived p s everywhere j (u + 1 + q) none v k)
     state))
   where
     -- of a slot past u + 1 all that arrived waits
-    on : AreaState lay n block q (u + 1) old (walksTaken p s may u j) w → AreaState lay n block q (suc u) old (walksAt p s may (suc u) j) w
+    on : AreaState known lay n block q (u + 1) old (walksTaken p s may u j) w → AreaState known lay n block q (suc u) old (walksAt p s may (suc u) j) w
     on x =
         record {
           same = x .same;
           beyond = x .beyond;
           settled = x .settled;
           waits = λ e v low high h.
-              best-ext (λ k. ap (λ b. cond b 0 (arrivals p s everywhere j v e k)) (ne-eqb e (suc u) (omega arith)))
+              held-ext (λ k. ap (λ b. cond b 0 (arrivals p s everywhere j v e k)) (ne-eqb e (suc u) (omega arith)))
               (λ i k. ap (λ b. cond b 0 (arrivals p s (may i) j v e k)) (ne-eqb e (suc u) (omega arith)))
               (x .waits e v (omega arith) (omega arith) h);
           thin = x .thin;
@@ -213,7 +214,7 @@ few-hops p fits s v c h f q = walks-few p fits s h (arrivesBy v c) (f .some q)
 -- ---- a record is folded in
 
 module _ (p : Plan) (q : ℕ) (waits : Waits p q) (fits : SlotsWithin p) (few : p .slots ≤ 255) (s : ℕ) (may : ℕ → ℕ → Bool)
-    (lay : Lanes) (n block : ℕ) (old : List ℕ) (area : Area n block q old) where
+    (known : Bool) (lay : Lanes) (n block : ℕ) (old : List ℕ) (area : Area n block q old) where
   -- settled walks can take one hop more
   one-more : {h : ℕ} (v c : ℕ) → Fewest (kept p s everywhere v c) h → h < 65535 → h + 1 < 65535
   one-more {h} v c f g = let most = few-hops p fits s v c h f g in omega arith
@@ -221,12 +222,12 @@ module _ (p : Plan) (q : ℕ) (waits : Waits p q) (fits : SlotsWithin p) (few : 
   -- (kept) Folding the contact at position j, in slot u: its walks have arrived too.
   pub folded-state : (u j : ℕ) (c : Contact) (w : List ℕ) → getElem? (p .contacts) j ≡ some c → c .slot ≡ u
       → 0 < u → u ≤ p .slots → c .sender < n → c .hearer < n
-      → AreaState lay n block q (u - q) old (walksAt p s may (u - q) j) w
-      → AreaState lay n block q (u - q) old (walksAt p s may (u - q) (j + 1)) (foldedArea n block (partAt n block q u) w c)
+      → AreaState known lay n block q (u - q) old (walksAt p s may (u - q) j) w
+      → AreaState known lay n block q (u - q) old (walksAt p s may (u - q) (j + 1)) (foldedArea known n block (partAt n block q u) w c)
   unfolding foldedArea walksAt
   folded-state u j c w there slot low high sender hearer state =
       let parts = waits .some in
-      sent-state lay n block q (u - q) old area (walksAt p s may (u - q) j) (walksAt p s may (u - q) (j + 1)) w u (c .sender)
+      sent-state known lay n block q (u - q) old area (walksAt p s may (u - q) j) (walksAt p s may (u - q) (j + 1)) w u (c .sender)
       (c .hearer) (omega arith) (omega arith) sender hearer
       (sound-at p s may (u - q) j) state (one-more (c .sender) (u - q) (state .settled (c .sender) sender .entry .fewest))
       (λ v k. refl) (λ v i k. refl)

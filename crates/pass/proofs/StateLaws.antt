@@ -5,9 +5,11 @@ use native.Mathlib.Omega.{arith}
 use native.Mathlib.Decide.{decLe, ℕ-discrete}
 use native.Mathlib.Nat.{mul-le-mul-right, suc-mul, mod-lt}
 use mathlib.Core.Path.{_≡_, refl, sym, _∙_}
+use mathlib.Core.Bool.{Bool, true, false}
 use mathlib.Core.List.{List}
 use mathlib.Core.Logic.{_⊎_, inl, inr, ⊎-elim, by-cases, _≢_}
 use lib.ListN.{length, getD}
+use Rattle.temporal.proofs.ListLaws.{not-both}
 use Rattle.counting.proofs.Fewest.{plus, delayed}
 use Rattle.pass.specs.Row.{mergedRow, partSize, rowAt, partAt}
 use Rattle.pass.specs.Column.{Lanes}
@@ -15,14 +17,19 @@ use Rattle.entries.specs.Entry.{mergedCount}
 use Rattle.entries.proofs.EntryLaws.{delayed-zero, plus-none}
 use Rattle.pass.specs.Sweep.{sentArea, PartFits, Area}
 use Rattle.pass.proofs.PlaceLaws.{row-before, row-inside, row-settled, row-waiting, area-kept, part-fits}
-use Rattle.pass.proofs.PlaceLaws.{place-apart, parts-apart, part-again, sent-row, sent-pruned, sent-none}
-use Rattle.pass.proofs.BestLaws.{Best, best-ext, best-same, best-empty, best-merge, best-delayed, row-more}
+use Rattle.pass.proofs.PlaceLaws.{place-apart, parts-apart, part-again, sent-row, sent-pruned, sent-skipped, sent-none}
+use Rattle.pass.proofs.BestLaws.{Best, best-ext, best-same, best-merge, best-delayed, row-more}
+use Rattle.pass.proofs.NearLaws.{near-add, near-more, HeldBy, held-ext, held-same, held-empty}
 use Rattle.pass.proofs.MaskLaws.{Thin}
 use Rattle.pass.proofs.TookLaws.{Took, merged-took, absorbed-took, took-outside}
 
 -- the entry at a place, with the row at another, is the best of N and M
 abbrev pub BestAt : Lanes → ℕ → ℕ → (ℕ → ℕ) → (ℕ → ℕ → ℕ) → ℕ → ℕ → ℕ → List ℕ → Type 0
 BestAt lay block limit N M n at row w = Best lay block limit N M (getD w at 0) (getD w (at + n) 0) (λ j. getD w (row + j) 0)
+
+-- what waits there stands for N and M up to b hops
+abbrev pub HeldAt : Bool → Lanes → ℕ → ℕ → (ℕ → ℕ) → (ℕ → ℕ → ℕ) → ℕ → ℕ → ℕ → List ℕ → Type 0
+HeldAt known lay block b N M n at row w = HeldBy known lay block b N M (getD w at 0) (getD w (at + n) 0) (λ j. getD w (row + j) 0)
 
 -- the sequences of the stations, settled and waiting by slot, and those of them, by column, that avoid the column's stations
 pub record Walks : Type 0 where
@@ -37,14 +44,14 @@ pub record Sound (x : Walks) : Type 0 where
   pub waits : (e v j k : ℕ) → x .waits-avoiding e v j k ≤ x .waits e v k
 
 -- The work area holds them, with what waits of the q slots past c. The row of a waiting entry with more hops than the settled one is
--- not looked at. Settled counts fit their lanes.
-pub record AreaState (lay : Lanes) (n block q c : ℕ) (old : List ℕ) (x : Walks) (w : List ℕ) : Type 0 where
+-- not looked at; where cause 9 is known not to hold, nor are walks with more hops. Settled counts fit their lanes.
+pub record AreaState (known : Bool) (lay : Lanes) (n block q c : ℕ) (old : List ℕ) (x : Walks) (w : List ℕ) : Type 0 where
   pub same : length w ≡ length old
   pub beyond : (i : ℕ) → (1 + q) * partSize n block ≤ i → getD w i 0 ≡ getD old i 0
   pub settled : (v : ℕ) → v < n
       → BestAt lay block 65535 (x .settled v) (x .settled-avoiding v) n v (rowAt n block v) w
   pub waits : (e v : ℕ) → c < e → e ≤ c + q → v < n
-      → BestAt lay block (min 65535 (getD w v 0 + 1)) (x .waits e v) (x .waits-avoiding e v) n (partAt n block q e + v)
+      → HeldAt known lay block (getD w v 0) (x .waits e v) (x .waits-avoiding e v) n (partAt n block q e + v)
       (partAt n block q e + rowAt n block v) w
   pub thin : (v : ℕ) → v < n → getD w v 0 < 65535 → Thin lay (getD w (v + n) 0)
 
@@ -62,30 +69,30 @@ pub record Agree (n : ℕ) (x y : Walks) : Type 0 where
   pub waits-avoiding : (e v : ℕ) → v < n → (j k : ℕ) → x .waits-avoiding e v j k ≡ y .waits-avoiding e v j k
 
 -- the state is one of sequences that agree
-pub state-ext : {lay : Lanes} {n block q c : ℕ} {old : List ℕ} {x y : Walks} {w : List ℕ} → Agree n x y → AreaState lay n block q c old x w
-    → AreaState lay n block q c old y w
+pub state-ext : {known : Bool} {lay : Lanes} {n block q c : ℕ} {old : List ℕ} {x y : Walks} {w : List ℕ} → Agree n x y → AreaState known lay n block q c old x w
+    → AreaState known lay n block q c old y w
 state-ext a s =
     record {
       same = s .same;
       beyond = s .beyond;
       settled = λ v h. best-ext (a .settled v h) (a .settled-avoiding v h) (s .settled v h);
-      waits = λ e v low high h. best-ext (a .waits e v h) (a .waits-avoiding e v h) (s .waits e v low high h);
+      waits = λ e v low high h. held-ext (a .waits e v h) (a .waits-avoiding e v h) (s .waits e v low high h);
       thin = s .thin;
     }
 
 -- the q slots past c are the q slots past c + 1, where nothing waits of the first and of the new one
-pub state-on : {lay : Lanes} {n block q c : ℕ} {old : List ℕ} {x : Walks} {w : List ℕ} → 0 < q
+pub state-on : {known : Bool} {lay : Lanes} {n block q c : ℕ} {old : List ℕ} {x : Walks} {w : List ℕ} → 0 < q → Sound x
     → ((v k : ℕ) → x .waits (c + 1) v k ≡ 0) → ((v k : ℕ) → x .waits (c + 1 + q) v k ≡ 0)
-    → AreaState lay n block q c old x w
-    → AreaState lay n block q (c + 1) old x w
-state-on {lay} {n} {block} {q} {c} {old} {x} {w} some first last s =
+    → AreaState known lay n block q c old x w
+    → AreaState known lay n block q (c + 1) old x w
+state-on {known} {lay} {n} {block} {q} {c} {old} {x} {w} some sound first last s =
     record {
       same = s .same;
       beyond = s .beyond;
       settled = s .settled;
       waits = λ e v low high h. by-cases (ℕ-discrete e (c + 1 + q))
           (λ new. rw new (rw (part-again n block q (c + 1))
-          (best-empty (omega arith) (first v) (last v) (s .waits (c + 1) v (omega arith) (omega arith) h))))
+          (held-empty (first v) (last v) (sound .waits (c + 1 + q) v) (s .waits (c + 1) v (omega arith) (omega arith) h))))
           (λ old. s .waits e v (omega arith) (omega arith) h);
       thin = s .thin;
     }
@@ -113,18 +120,18 @@ row-outside n block e f j d q =
     (λ h. inl (let a = row-before block e f h in omega arith))
     (λ h. inr (let a = row-before block f e (omega arith) in omega arith))
 
-module _ (lay : Lanes) (n block q c : ℕ) (old : List ℕ) (area : Area n block q old) where
+module _ (known : Bool) (lay : Lanes) (n block q c : ℕ) (old : List ℕ) (area : Area n block q old) where
   -- ---- one waiting entry took walks in
 
-  took-state : (x y : Walks) (w w′ : List ℕ) (u b : ℕ) → c < u → u ≤ c + q → b < n → AreaState lay n block q c old x w
+  took-state : (x y : Walks) (w w′ : List ℕ) (u b : ℕ) → c < u → u ≤ c + q → b < n → AreaState known lay n block q c old x w
       → (h d : ℕ) (r : ℕ → ℕ)
       → Took n block (partAt n block q u + b) (partAt n block q u + rowAt n block b) w w′ h d r
-      → Best lay block (min 65535 (getD w b 0 + 1)) (y .waits u b) (y .waits-avoiding u b) h d r
+      → HeldBy known lay block (getD w b 0) (y .waits u b) (y .waits-avoiding u b) h d r
       → ((v k : ℕ) → x .settled v k ≡ y .settled v k)
       → ((v j k : ℕ) → x .settled-avoiding v j k ≡ y .settled-avoiding v j k)
       → ((e v k : ℕ) → (e ≢ u) ⊎ (v ≢ b) → x .waits e v k ≡ y .waits e v k)
       → ((e v j k : ℕ) → (e ≢ u) ⊎ (v ≢ b) → x .waits-avoiding e v j k ≡ y .waits-avoiding e v j k)
-      → AreaState lay n block q c old y w′
+      → AreaState known lay n block q c old y w′
   took-state x y w w′ u b low high hb s h d r took best es esa ep epa =
       record {
         same = took .same ∙ s .same;
@@ -155,13 +162,13 @@ module _ (lay : Lanes) (n block q c : ℕ) (old : List ℕ) (area : Area n block
 
       -- in the same part
       here : (v : ℕ) → v < n
-          → BestAt lay block (min 65535 (getD w′ v 0 + 1)) (y .waits u v) (y .waits-avoiding u v) n (partAt n block q u + v)
+          → HeldAt known lay block (getD w′ v 0) (y .waits u v) (y .waits-avoiding u v) n (partAt n block q u + v)
           (partAt n block q u + rowAt n block v) w′
       here v hv =
           by-cases (ℕ-discrete v b)
-          (λ e. rw e (rw (settled-hops b hb) (best-same (took .hops) (took .count) (λ j i g. took .entries j i) best)))
-          (λ o. rw (settled-hops v hv) (best-ext (λ k. ep u v k (inr o)) (λ j k. epa u v j k (inr o))
-          (best-same
+          (λ e. rw e (rw (settled-hops b hb) (held-same (took .hops) (took .count) (λ j i g. took .entries j i) best)))
+          (λ o. rw (settled-hops v hv) (held-ext (λ k. ep u v k (inr o)) (λ j k. epa u v j k (inr o))
+          (held-same
           (took .other (partAt n block q u + v) (omega arith) (omega arith) (inl (omega arith)))
           (took .other (partAt n block q u + v + n) (omega arith) (omega arith) (inl (omega arith)))
           (λ j i g. took .other (partAt n block q u + rowAt n block v + j) (omega arith) (omega arith)
@@ -171,12 +178,12 @@ module _ (lay : Lanes) (n block q c : ℕ) (old : List ℕ) (area : Area n block
 
       -- in another part
       there : (e v : ℕ) → c < e → e ≤ c + q → v < n → e ≢ u
-          → BestAt lay block (min 65535 (getD w′ v 0 + 1)) (y .waits e v) (y .waits-avoiding e v) n (partAt n block q e + v)
+          → HeldAt known lay block (getD w′ v 0) (y .waits e v) (y .waits-avoiding e v) n (partAt n block q e + v)
           (partAt n block q e + rowAt n block v) w′
       there e v from to hv other =
           let row = row-inside n block v hv in
-          rw (settled-hops v hv) (best-ext (λ k. ep e v k (inl other)) (λ j k. epa e v j k (inl other))
-          (best-same
+          rw (settled-hops v hv) (held-ext (λ k. ep e v k (inl other)) (λ j k. epa e v j k (inl other))
+          (held-same
           (apart (partAt n block q e + v) v refl (omega arith))
           (apart (partAt n block q e + v + n) (v + n) (omega arith) (omega arith))
           (λ j i g. apart (partAt n block q e + rowAt n block v + j) (rowAt n block v + j) (omega arith) (omega arith))
@@ -193,7 +200,7 @@ module _ (lay : Lanes) (n block q c : ℕ) (old : List ℕ) (area : Area n block
 
   -- what is settled for a, one hop later, waits for b too, of slot u
   pub sent-state : (x y : Walks) (w : List ℕ) (u a b : ℕ) → c < u → u ≤ c + q → a < n → b < n → Sound x
-      → AreaState lay n block q c old x w
+      → AreaState known lay n block q c old x w
       → (getD w a 0 < 65535 → getD w a 0 + 1 < 65535)
       → ((v k : ℕ) → x .settled v k ≡ y .settled v k)
       → ((v j k : ℕ) → x .settled-avoiding v j k ≡ y .settled-avoiding v j k)
@@ -201,7 +208,8 @@ module _ (lay : Lanes) (n block q c : ℕ) (old : List ℕ) (area : Area n block
       → ((j k : ℕ) → plus (x .waits-avoiding u b j) (delayed (x .settled-avoiding a j)) k ≡ y .waits-avoiding u b j k)
       → ((e v k : ℕ) → (e ≢ u) ⊎ (v ≢ b) → x .waits e v k ≡ y .waits e v k)
       → ((e v j k : ℕ) → (e ≢ u) ⊎ (v ≢ b) → x .waits-avoiding e v j k ≡ y .waits-avoiding e v j k)
-      → AreaState lay n block q c old y (sentArea n block (partAt n block q u) w a b)
+      → AreaState known lay n block q c old y (sentArea known n block (partAt n block q u) w a b)
+  unfolding plus delayed
   sent-state x y w u a b low high ha hb sound s few es esa here herea ep epa =
       by-cases (decLe 65535 (getD w a 0)) nothing (λ g. something (omega arith))
     where
@@ -214,11 +222,11 @@ module _ (lay : Lanes) (n block q c : ℕ) (old : List ℕ) (area : Area n block
       less : (j k : ℕ) → delayed (x .settled-avoiding a j) k ≤ delayed (x .settled a) k
       less j = delayed-less (sound .settled a j)
 
-      nothing : 65535 ≤ getD w a 0 → AreaState lay n block q c old y (sentArea n block (partAt n block q u) w a b)
+      nothing : 65535 ≤ getD w a 0 → AreaState known lay n block q c old y (sentArea known n block (partAt n block q u) w a b)
       nothing none-there =
           let f = s .settled a ha .entry .fewest in
           let none : (k : ℕ) → x .settled a k ≡ 0 = f .never (let g = f .bound in omega arith) in
-          rw (sent-none n block (partAt n block q u) w a b none-there) (state-ext (record {
+          rw (sent-none known n block (partAt n block q u) w a b none-there) (state-ext (record {
             settled = λ v i. es v;
             settled-avoiding = λ v i. esa v;
             waits = λ e v i k. by-cases (ℕ-discrete e u)
@@ -236,7 +244,7 @@ module _ (lay : Lanes) (n block q c : ℕ) (old : List ℕ) (area : Area n block
                 (λ d. epa e v j k (inl d));
           }) s)
 
-      something : getD w a 0 < 65535 → AreaState lay n block q c old y (sentArea n block (partAt n block q u) w a b)
+      something : getD w a 0 < 65535 → AreaState known lay n block q c old y (sentArea known n block (partAt n block q u) w a b)
       something some =
           let behind = part .behind in
           let fits = part .fits in
@@ -244,12 +252,8 @@ module _ (lay : Lanes) (n block q c : ℕ) (old : List ℕ) (area : Area n block
           let row-a = row-inside n block a ha in
           let row-b = row-inside n block b hb in
           by-cases (decLe (getD w b 0) (getD w a 0))
-          (λ more. rw (sym (sent-pruned n block (partAt n block q u) w a b _ some more refl))
-          (took-state x y w _ u b low high hb s _ _ _
-          (merged-took n block w (partAt n block q u + b) (partAt n block q u + rowAt n block b) (getD w a 0 + 1)
-          (getD w (a + n) 0) positive (omega arith) (omega arith))
-          (best-same refl refl (λ j i g. sym (row-more _ _ _ _ (omega arith))) best) es esa ep epa))
-          (λ fewer. rw (sym (sent-row n block (partAt n block q u) w a b _ _ _ refl refl some (omega arith) refl))
+          (λ more. pruned known refl more)
+          (λ fewer. rw (sym (sent-row known n block (partAt n block q u) w a b _ _ _ refl refl some (omega arith) refl))
           (took-state x y w _ u b low high hb s _ _ _
           (absorbed-took n block w (partAt n block q u + b) (partAt n block q u + rowAt n block b) (rowAt n block a)
           (getD w a 0 + 1) (getD w (a + n) 0)
@@ -262,17 +266,75 @@ module _ (lay : Lanes) (n block q c : ℕ) (old : List ℕ) (area : Area n block
           (inr (omega arith)))
           best es esa ep epa))
         where
-          best : Best lay block (min 65535 (getD w b 0 + 1)) (y .waits u b) (y .waits-avoiding u b)
+          waiting : HeldAt known lay block (getD w b 0) (x .waits u b) (x .waits-avoiding u b) n (partAt n block q u + b)
+              (partAt n block q u + rowAt n block b) w
+          waiting = s .waits u b low high hb
+
+          best : HeldBy known lay block (getD w b 0) (y .waits u b) (y .waits-avoiding u b)
               (min (getD w (partAt n block q u + b) 0) (getD w a 0 + 1))
               (mergedCount (getD w (partAt n block q u + b) 0) (getD w (partAt n block q u + b + n) 0) (getD w a 0 + 1)
               (getD w (a + n) 0))
               (λ j. mergedRow (getD w (partAt n block q u + b) 0) (getD w a 0 + 1)
               (getD w (partAt n block q u + rowAt n block b + j) 0) (getD w (rowAt n block a + j) 0))
           best =
-              best-ext here herea
-              (best-merge lay (x .waits u b) (delayed (x .settled a)) (x .waits-avoiding u b)
-              (λ j. delayed (x .settled-avoiding a j)) (sound .waits u b) less
-              (getD w (partAt n block q u + b) 0) (getD w (partAt n block q u + b + n) 0) (getD w a 0 + 1) (getD w (a + n) 0)
-              (min 65535 (getD w b 0 + 1)) 65535 (min 65535 (getD w b 0 + 1))
-              (s .waits u b low high hb) (best-delayed (s .settled a ha) (few some))
-              (λ g o. omega arith) (λ g o. let f = few some in omega arith))
+              held-ext here herea
+              (record {
+                held = plus (waiting .held) (delayed (x .settled a));
+                held-avoiding = λ j. plus (waiting .held-avoiding j) (delayed (x .settled-avoiding a j));
+                less = λ j k. omega (arith, waiting .less j k, less j k);
+                fewer = λ k. omega (arith, waiting .fewer k);
+                near = near-add (delayed (x .settled a)) (λ j. delayed (x .settled-avoiding a j)) (waiting .near);
+                exact = λ e k. omega (arith, waiting .exact e k);
+                best = best-merge lay (waiting .held) (delayed (x .settled a)) (waiting .held-avoiding)
+                    (λ j. delayed (x .settled-avoiding a j)) (waiting .less) less
+                    (getD w (partAt n block q u + b) 0) (getD w (partAt n block q u + b + n) 0) (getD w a 0 + 1) (getD w (a + n) 0)
+                    (min 65535 (getD w b 0 + 1)) 65535 (min 65535 (getD w b 0 + 1))
+                    (waiting .best) (best-delayed (s .settled a ha) (few some))
+                    (λ g o. omega arith) (λ g o. let f = few some in omega arith);
+              })
+
+          -- where b has fewer hops already
+          pruned : (t : Bool) → known ≡ t → getD w b 0 ≤ getD w a 0
+              → AreaState known lay n block q c old y (sentArea known n block (partAt n block q u) w a b)
+          pruned false e more =
+              let behind = part .behind in
+              let fits = part .fits in
+              let positive = part .some in
+              let row-b = row-inside n block b hb in
+              rw (sym (sent-pruned known n block (partAt n block q u) w a b _ some more e refl))
+              (took-state x y w _ u b low high hb s _ _ _
+              (merged-took n block w (partAt n block q u + b) (partAt n block q u + rowAt n block b) (getD w a 0 + 1)
+              (getD w (a + n) 0) positive (omega arith) (omega arith))
+              (held-same refl refl (λ j i g. sym (row-more _ _ _ _ (omega arith))) best) es esa ep epa)
+          pruned true e more =
+              rw (sent-skipped known n block (partAt n block q u) w a b some more e)
+              (record {
+                same = s .same;
+                beyond = s .beyond;
+                settled = λ v hv. best-ext (es v) (esa v) (s .settled v hv);
+                waits = λ e v from to hv. by-cases (ℕ-discrete e u)
+                    (λ se. by-cases (ℕ-discrete v b)
+                    (λ sv. rw (se, sv) skipped)
+                    (λ d. held-ext (λ k. ep e v k (inr d)) (λ j k. epa e v j k (inr d)) (s .waits e v from to hv)))
+                    (λ d. held-ext (λ k. ep e v k (inl d)) (λ j k. epa e v j k (inl d)) (s .waits e v from to hv));
+                thin = s .thin;
+              })
+            where
+              -- one hop more than a has is more than b has
+              far : (k : ℕ) → k ≤ getD w b 0 → delayed (x .settled a) k ≡ 0
+              far zero h = refl
+              far (suc k) h = s .settled a ha .entry .fewest .sooner k (omega arith)
+
+              skipped : HeldAt known lay block (getD w b 0) (y .waits u b) (y .waits-avoiding u b) n (partAt n block q u + b)
+                  (partAt n block q u + rowAt n block b) w
+              skipped =
+                  held-ext here herea
+                  (record {
+                    held = waiting .held;
+                    held-avoiding = waiting .held-avoiding;
+                    less = waiting .less;
+                    fewer = λ k. omega (arith, waiting .fewer k);
+                    near = near-more (delayed (x .settled a)) (λ j. delayed (x .settled-avoiding a j)) (omega arith) far less (waiting .near);
+                    exact = λ o. absurd (not-both e o);
+                    best = waiting .best;
+                  })

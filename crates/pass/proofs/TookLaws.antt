@@ -7,7 +7,7 @@ use mathlib.Core.Path.{_≡_, refl, sym, ap, _∙_}
 use mathlib.Core.Bool.{Bool, true, false, cond, not, _&&_}
 use mathlib.Core.List.{List}
 use mathlib.Core.Logic.{_⊎_, inl, inr, ⊎-elim, _≢_}
-use borrow.Author.Tests.{ltb-true, lt-ltb, eqb-true, eqb-false}
+use borrow.Author.Tests.{ltb-true, lt-ltb, le-ltb, eqb-true, eqb-false}
 use lib.Dec.{ltb, eqb}
 use lib.ListN.{length, getD, set, length-set}
 use lib.Seq.{getD-set-same, getD-set-other, lt-length-set}
@@ -16,7 +16,7 @@ use Rattle.entries.specs.Entry.{mergedCount}
 use Rattle.pass.specs.Entry.{mergedArea, absorbed, Absorbable}
 use Rattle.lanes.specs.Lane.{withoutLane}
 use Rattle.pass.specs.Column.{Lanes}
-use Rattle.pass.specs.Sweep.{clearedColumn, masked, settledOne, PartFits}
+use Rattle.pass.specs.Sweep.{clearedColumn, masked, takenIn, settledOne, PartFits}
 use Rattle.pass.proofs.RowLaws.{combined-length, combined-other, combined-at}
 use Rattle.pass.proofs.EntryLaws.{merged-length}
 use Rattle.pass.proofs.PlaceLaws.{row-inside, row-settled, row-waiting, set-twice-length}
@@ -182,13 +182,13 @@ pub record Settled (lay : Lanes) (n block base s : ℕ) (col : ℕ → ℕ) (v :
       → getD new i 0 ≡ getD old i 0
   pub same : length new ≡ length old
 
--- settling a station for which something waits leaves that
+-- settling a station for which walks with no more hops wait leaves that
 pub settled-took : (lay : Lanes) → 0 < lay .lanes → (n block base s : ℕ) (col : ℕ → ℕ) (w : List ℕ) (v : ℕ) → PartFits n block base w → v < n
-    → getD w (base + v) 0 < 65535
+    → getD w (base + v) 0 < 65535 → getD w (base + v) 0 ≤ getD w v 0
     → Settled lay n block base s col v w (settledOne lay n block base s col w v)
-unfolding settledOne
-settled-took lay lane n block base s col w v part inside some =
-    rw (lt-ltb (getD w (base + v) 0) 65535 some)
+unfolding settledOne takenIn
+settled-took lay lane n block base s col w v part inside some less =
+    rw (lt-ltb (getD w (base + v) 0) 65535 some, le-ltb (getD w v 0) (getD w (base + v) 0) less)
     record {
       hops = outer v (omega arith) (omega arith)
           ∙ masked-other lay lane n block s col one v v (inl (omega arith)) ∙ took .hops;
@@ -248,3 +248,48 @@ settled-took lay lane n block base s col w v part inside some =
     outer i c d =
         getD-set-other (set two (base + v) 65535) (base + v + n) i 0 0 d
         ∙ getD-set-other two (base + v) i 65535 0 c
+
+-- what any settling changes: nothing waits there any more, and outside of the station's entry and row every other place is as it was
+pub record Changed (n block base v : ℕ) (old new : List ℕ) : Type 0 where
+  pub fewer : getD new v 0 ≤ getD old v 0
+  pub no-hops : getD new (base + v) 0 ≡ 65535
+  pub no-count : getD new (base + v + n) 0 ≡ 0
+  pub other : (i : ℕ) → i ≢ v → i ≢ v + n → i ≢ base + v → i ≢ base + v + n
+      → (i < rowAt n block v) ⊎ (rowAt n block v + block ≤ i)
+      → getD new i 0 ≡ getD old i 0
+  pub same : length new ≡ length old
+
+pub settled-changed : {lay : Lanes} {n block base s : ℕ} {col : ℕ → ℕ} {v : ℕ} {old new : List ℕ} → Settled lay n block base s col v old new
+    → Changed n block base v old new
+settled-changed x =
+    let hops = x .hops in
+    record { fewer = omega arith; no-hops = x .no-hops; no-count = x .no-count; other = x .other; same = x .same }
+
+-- where more hops wait, nothing but what waits is changed
+module _ (lay : Lanes) (n block base s : ℕ) (col : ℕ → ℕ) (w : List ℕ) (v : ℕ) (part : PartFits n block base w) (inside : v < n)
+    (some : getD w (base + v) 0 < 65535) (more : getD w v 0 < getD w (base + v) 0) where
+  pub dropped-other : (i : ℕ) → i ≢ base + v → i ≢ base + v + n → getD (settledOne lay n block base s col w v) i 0 ≡ getD w i 0
+  unfolding settledOne takenIn
+  dropped-other i a b =
+      rw (lt-ltb (getD w (base + v) 0) 65535 some, lt-ltb (getD w v 0) (getD w (base + v) 0) more)
+      (getD-set-other (set w (base + v) 65535) (base + v + n) i 0 0 b ∙ getD-set-other w (base + v) i 65535 0 a)
+
+  pub dropped-changed : Changed n block base v w (settledOne lay n block base s col w v)
+  unfolding settledOne takenIn
+  dropped-changed =
+      let positive = part .some in
+      let behind = part .behind in
+      let fits = part .fits in
+      let row = row-inside n block v inside in
+      let here = dropped-other v (omega arith) (omega arith) in
+      record {
+        fewer = omega arith;
+        no-hops = rw (lt-ltb (getD w (base + v) 0) 65535 some, lt-ltb (getD w v 0) (getD w (base + v) 0) more)
+            (getD-set-other (set w (base + v) 65535) (base + v + n) (base + v) 0 0 (omega arith)
+            ∙ getD-set-same w (base + v) 65535 0 (omega arith));
+        no-count = rw (lt-ltb (getD w (base + v) 0) 65535 some, lt-ltb (getD w v 0) (getD w (base + v) 0) more)
+            (getD-set-same (set w (base + v) 65535) (base + v + n) 0 0 (lt-length-set w (base + v) 65535 (omega arith)));
+        other = λ i a b c d out. dropped-other i c d;
+        same = rw (lt-ltb (getD w (base + v) 0) 65535 some, lt-ltb (getD w v 0) (getD w (base + v) 0) more)
+            (set-twice-length w (base + v) (base + v + n) 65535 0);
+      }

@@ -35,6 +35,10 @@ pub record ColumnsReady (bs : List ℕ) (n t : ℕ) (terms : Terms) (s until blo
   pub other : s ≢ until
   pub fits : areaSize n (waiting t terms) block ≤ length work
 
+-- where cause 9 is said to be known not to hold, no appearance has over 2^64 - 1
+abbrev pub Spared : Bool → List ℕ → ℕ → ℕ → Terms → ℕ → Type 0
+Spared known bs n t terms s = known ≡ true → appearanceTooMany (planOf bs n t terms) s ≡ false
+
 -- The entries by slot e: station z has its hops at z and its count at n + z, and column j of the row at 2 n + z block holds how many
 -- of its shortest walks by slot e have no station of that column inside. Nothing is said of a count over 2^64 - 1 and beside it, nor of a
 -- row's entry where j stands for z or where there is no walk. A count fits its lane, where an entry has several.

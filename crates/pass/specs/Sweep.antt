@@ -4,7 +4,7 @@
 -- Definitions only.
 -- Assumes nothing.
 use Prim.Native.Nat.{ℕ, zero, suc, _+_, _*_, _/_, _%_, _^_, _<_, _≤_}
-use mathlib.Core.Bool.{Bool, true, false, cond, _||_, _&&_}
+use mathlib.Core.Bool.{Bool, true, false, cond, not, _||_, _&&_}
 use mathlib.Core.Path.{_≡_}
 use mathlib.Core.List.{List}
 use mathlib.Core.Logic.{_≢_}
@@ -19,19 +19,19 @@ use Rattle.pass.specs.Row.{partSize, rowAt}
 use Rattle.pass.specs.Entry.{mergedArea, absorbed, areaOverflows}
 use Rattle.pass.specs.Column.{Lanes}
 
--- What is settled for v goes on over one hop more, to what waits for x. The row stays where the settled entry of x has fewer
--- hops: it is not looked at.
-unfoldable pub sentArea : ℕ → ℕ → ℕ → List ℕ → ℕ → ℕ → List ℕ
-sentArea n block base w v x =
+-- What is settled for v goes on over one hop more, to what waits for x. Where the settled entry of x has fewer hops the row stays: it is
+-- not looked at; and where cause 9 is known not to hold, hops and count stay too.
+unfoldable pub sentArea : Bool → ℕ → ℕ → ℕ → List ℕ → ℕ → ℕ → List ℕ
+sentArea known n block base w v x =
     cond (ltb (getD w v 0) 65535)
     (cond (ltb (getD w v 0) (getD w x 0))
     (absorbed n block w (base + x) (base + rowAt n block x) (rowAt n block v) (getD w v 0 + 1) (getD w (v + n) 0))
-    (mergedArea n w (base + x) (getD w v 0 + 1) (getD w (v + n) 0)))
+    (cond known w (mergedArea n w (base + x) (getD w v 0 + 1) (getD w (v + n) 0))))
     w
 
 -- over a contact, from its sender to its hearer
-unfoldable pub foldedArea : ℕ → ℕ → ℕ → List ℕ → Contact → List ℕ
-foldedArea n block base w c = sentArea n block base w (c .sender) (c .hearer)
+unfoldable pub foldedArea : Bool → ℕ → ℕ → ℕ → List ℕ → Contact → List ℕ
+foldedArea known n block base w c = sentArea known n block base w (c .sender) (c .hearer)
 
 -- column j of the row that begins at a place becomes 0
 unfoldable pub clearedColumn : Lanes → List ℕ → ℕ → ℕ → List ℕ
@@ -44,17 +44,19 @@ masked lay n block s col w v =
     cond (eqb v s) w
     (cond (ltb (col v) (block * lay .lanes)) (clearedColumn lay w (rowAt n block v) (col v)) w)
 
--- what waits for v in a part is taken into its settled entry, and nothing waits there any more
-unfoldable pub settledOne : Lanes → ℕ → ℕ → ℕ → ℕ → (ℕ → ℕ) → List ℕ → ℕ → List ℕ
-settledOne lay n block base s col w v =
-    cond (ltb (getD w (base + v) 0) 65535)
-    (set
-    (set
+-- what waits for v in a part is taken into its settled entry, but where that has fewer hops
+unfoldable pub takenIn : Lanes → ℕ → ℕ → ℕ → ℕ → (ℕ → ℕ) → List ℕ → ℕ → List ℕ
+takenIn lay n block base s col w v =
+    cond (ltb (getD w v 0) (getD w (base + v) 0)) w
     (masked lay n block s col
     (absorbed n block w v (rowAt n block v) (base + rowAt n block v) (getD w (base + v) 0) (getD w (base + v + n) 0))
     v)
-    (base + v) 65535)
-    (base + v + n) 0)
+
+-- and nothing waits there any more
+unfoldable pub settledOne : Lanes → ℕ → ℕ → ℕ → ℕ → (ℕ → ℕ) → List ℕ → ℕ → List ℕ
+settledOne lay n block base s col w v =
+    cond (ltb (getD w (base + v) 0) 65535)
+    (set (set (takenIn lay n block base s col w v) (base + v) 65535) (base + v + n) 0)
     w
 
 -- a work area, and whether settling stopped
@@ -73,6 +75,16 @@ tooLarge b c = eqb c 0 || leb (2 ^ b) c
 unfoldable pub tooWide : Lanes → ℕ → ℕ → ℕ → ℕ → Bool
 tooWide lay h c l d = cond (eqb (lay .lanes) 1) false (tooLarge (lay .width) (mergedCount h c l d))
 
+-- the second reason to stop at station v: what is taken in has a count that would not fit a lane
+unfoldable pub widensAt : Lanes → ℕ → ℕ → List ℕ → ℕ → Bool
+widensAt lay n base w v =
+    not (ltb (getD w v 0) (getD w (base + v) 0)) &&
+    tooWide lay (getD w v 0) (getD w (v + n) 0) (getD w (base + v) 0) (getD w (base + v + n) 0)
+
+-- what waits is taken in, or nothing is changed
+unfoldable pub takenNext : Lanes → ℕ → ℕ → ℕ → ℕ → (ℕ → ℕ) → List ℕ → ℕ → Sweep
+takenNext lay n block base s col w v = cond (widensAt lay n base w v) (sweepOf true w) (sweepOf false (takenIn lay n block base s col w v))
+
 -- whether settling stops at station v: what waits for it has a count over 2^64 - 1, or its settled count would not fit a lane
 unfoldable pub stopsAt : Lanes → ℕ → ℕ → List ℕ → ℕ → Bool
 stopsAt lay n base w v =
@@ -80,21 +92,32 @@ stopsAt lay n base w v =
     (ltb (getD w (base + v) 0) 65535 &&
     tooWide lay (getD w v 0) (getD w (v + n) 0) (getD w (base + v) 0) (getD w (base + v + n) 0))
 
+-- the same; where cause 9 is known not to hold, it stops at a lane alone
+unfoldable pub haltsAt : Bool → Lanes → ℕ → ℕ → List ℕ → ℕ → Bool
+haltsAt known lay n base w v =
+    ltb (getD w (base + v) 0) 65535 &&
+    ((not known && eqb (getD w (base + v + n) 0) 0) ||
+    widensAt lay n base w v)
+
 -- station v is settled, or nothing is changed where settling stops there
-unfoldable pub settledNext : Lanes → ℕ → ℕ → ℕ → ℕ → (ℕ → ℕ) → List ℕ → ℕ → Sweep
-settledNext lay n block base s col w v =
-    cond (stopsAt lay n base w v) (sweepOf true w) (sweepOf false (settledOne lay n block base s col w v))
+unfoldable pub settledNext : Bool → Lanes → ℕ → ℕ → ℕ → ℕ → (ℕ → ℕ) → List ℕ → ℕ → Sweep
+settledNext known lay n block base s col w v =
+    cond (haltsAt known lay n base w v) (sweepOf true w) (sweepOf false (settledOne lay n block base s col w v))
 
 -- the stations f i, f (i + 1) and so on are settled, k of them, up to the first at which settling stops
-unfoldable pub settledBy : (ℕ → ℕ) → Lanes → ℕ → ℕ → ℕ → ℕ → (ℕ → ℕ) → List ℕ → ℕ → ℕ → Sweep
-settledBy f lay n block base s col w i zero = sweepOf false w
-settledBy f lay n block base s col w i (suc k) =
-    cond (stopsAt lay n base w (f i)) (sweepOf true w)
-    (settledBy f lay n block base s col (settledOne lay n block base s col w (f i)) (i + 1) k)
+unfoldable pub settledBy : (ℕ → ℕ) → Bool → Lanes → ℕ → ℕ → ℕ → ℕ → (ℕ → ℕ) → List ℕ → ℕ → ℕ → Sweep
+settledBy f known lay n block base s col w i zero = sweepOf false w
+settledBy f known lay n block base s col w i (suc k) =
+    cond (haltsAt known lay n base w (f i)) (sweepOf true w)
+    (settledBy f known lay n block base s col (settledOne lay n block base s col w (f i)) (i + 1) k)
 
 -- the hearer of the record at i
 abbrev pub hearerAt : List ℕ → ℕ → ℕ
 hearerAt bs i = contactAt bs i .hearer
+
+-- the station that is settled as number i of a slot whose records stand from j on
+unfoldable pub stationAt : List ℕ → Bool → ℕ → ℕ → ℕ
+stationAt bs all j i = cond all i (hearerAt bs (j + i))
 
 -- no walks in the part that begins at a place
 unfoldable pub emptied : ℕ → List ℕ → ℕ → List ℕ
@@ -146,10 +169,10 @@ pub record Chosen (bs : List ℕ) (n j e : ℕ) (f : ℕ → ℕ) (i k : ℕ) : 
   pub covers : (v : ℕ) → v < n → ((m : ℕ) → i ≤ m → m < i + k → v ≢ f m) → (m : ℕ) → j ≤ m → m < e → v ≢ hearerAt bs m
 
 -- what settling a slot leaves, whose records are those from j to before e
-pub record SlotSettled (bs : List ℕ) (lay : Lanes) (n block base s : ℕ) (col : ℕ → ℕ) (j e : ℕ) (old : List ℕ) (r : Bool) (new : List ℕ)
-    : Type 0 where
+pub record SlotSettled (bs : List ℕ) (known : Bool) (lay : Lanes) (n block base s : ℕ) (col : ℕ → ℕ) (j e : ℕ) (old : List ℕ) (r : Bool)
+    (new : List ℕ) : Type 0 where
   pub stations : ℕ → ℕ
   pub from : ℕ
   pub many : ℕ
   pub chosen : Chosen bs n j e stations from many
-  pub out : sweepOf r new ≡ settledBy stations lay n block base s col old from many
+  pub out : sweepOf r new ≡ settledBy stations known lay n block base s col old from many

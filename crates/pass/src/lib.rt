@@ -2,12 +2,15 @@
 // shortest walks do not have it inside; or how many shortest walks of a pair have no member of a set of stations inside. Everything
 // lives in a lent work area: what may be sent on, and behind it what is heard and waits, in a part for each slot of the turnaround.
 ghost use mathlib.Core.Path.{_≡_};
+ghost use mathlib.Core.Bool.{false, not, _&&_};
+ghost use lib.Dec.{eqb};
 ghost use Prim.Native.Nat.{_+_, _-_, _*_, _/_, _^_, _<_, _≤_, min};
 ghost use lib.ListN.{length, getD};
 ghost use Rattle.temporal.specs.Lists.{any, below};
 ghost use Rattle.temporal.specs.Plan.{units};
 ghost use Rattle.temporal.specs.Bytes.{contactAt};
 ghost use Rattle.temporal.specs.Struck.{lackingRecord};
+ghost use Rattle.plan.specs.Record.{SlotRecords};
 ghost use Rattle.entries.specs.Entry.{mergedCount};
 ghost use Rattle.lanes.specs.Lane.{ones};
 ghost use Rattle.pass.specs.Row.{combined, second, wrapped, mergedRow, partSize, rowAt, partAt, RowsFit};
@@ -18,22 +21,21 @@ ghost use Rattle.pass.specs.Sweep.{
   clearedColumn,
   masked,
   tooWide,
+  takenNext,
   sweepOf,
   settledNext,
-  settledBy,
-  hearerAt,
+  stationAt,
   emptied,
   emptiedFrom,
   begunArea,
   PartFits,
   Area,
   FoldableArea,
-  HearerFits,
   HearersFit,
   SlotSettled,
 };
 ghost use Rattle.pass.specs.Column.{columnOf, lanesBy, splitOf};
-ghost use Rattle.pass.specs.PassedColumns.{waiting, areaSize, ColumnsReady, ColumnsPassed, lastEnded, stoppedEnd};
+ghost use Rattle.pass.specs.PassedColumns.{waiting, areaSize, ColumnsReady, Spared, ColumnsPassed, lastEnded, stoppedEnd};
 
 // Which column of a row stands for a station. From(low, split): column j for station low + j; an entry of a row holds 2^split columns,
 // split up to 3. Members(z): column 0 for each member of a lent set of bytes but z, a byte for each station, 1 for a member.
@@ -143,10 +145,11 @@ pub fn row_at(n: usize, block: usize, v: usize) -> usize
     2 * n + v * block
 }
 
-// Sends what is settled for v on over one hop more, to what waits for x in the part that begins at base.
-fn send(work: &mut [u64], n: usize, block: usize, base: usize, v: usize, x: usize)
+// Sends what is settled for v on over one hop more, to what waits for x in the part that begins at base. Where x has fewer hops already, its
+// row is left out, and hops and count too where cause 9 is known not to hold.
+fn send(work: &mut [u64], known: bool, n: usize, block: usize, base: usize, v: usize, x: usize)
     requires { ⌜ PartFits n block base (now work) × (v < n) × (x < n) ⌝ }
-    ensures { λ _. ⌜ now (work .exit) ≡ sentArea n block base (now (work .entry)) v x ⌝ }
+    ensures { λ _. ⌜ now (work .exit) ≡ sentArea known n block base (now (work .entry)) v x ⌝ }
 {
     let h = work[v];
     if h < 65535 {
@@ -158,6 +161,9 @@ fn send(work: &mut [u64], n: usize, block: usize, base: usize, v: usize, x: usiz
             absorb(work, n, block, at, row, from, h + 1, d);
             return;
         }
+        if known {
+            return;
+        }
         merge(work, n, at, h + 1, d);
     }
 }
@@ -167,6 +173,7 @@ fn fold_record(
     work: &mut [u64],
     plan: &[u8],
     out: usize,
+    known: bool,
     n: usize,
     block: usize,
     base: usize,
@@ -174,10 +181,10 @@ fn fold_record(
 )
     requires { ⌜ FoldableArea (lackingRecord (now plan) out) n block base j (now work) ⌝ }
     ensures { λ _. ⌜ now (work .exit) ≡
-        foldedArea n block base (now (work .entry)) (contactAt (lackingRecord (now (plan .entry)) out) j) ⌝ }
+        foldedArea known n block base (now (work .entry)) (contactAt (lackingRecord (now (plan .entry)) out) j) ⌝ }
 {
     let c = plan::kept_contact(plan, out, j);
-    send(work, n, block, base, c.sender, c.hearer);
+    send(work, known, n, block, base, c.sender, c.hearer);
 }
 
 // The column that stands for station v, or none.
@@ -294,9 +301,19 @@ pub fn wide_at(work: &[u64], n: usize, v: usize, l: u64, d: u64, columns: Column
     too_wide(split, work[v], work[counted], l, d)
 }
 
-// Settles what waits for v in the part that begins at base. Where its count is over 2^64 - 1, or the settled count would not fit a lane:
-// true, and nothing is changed.
-fn settle_one(
+// Whether a count is over 2^64 - 1, where that is not known not to occur.
+fn over(known: bool, d: u64) -> bool
+    ensures { λ r. ⌜ r ≡ (not known && eqb d 0) ⌝ }
+{
+    if known {
+        return false;
+    }
+    d == 0
+}
+
+// Takes what waits for v in the part that begins at base into its settled entry, but where that has fewer hops. Where the count would not
+// fit a lane: true, and nothing is changed.
+fn take_in(
     work: &mut [u64],
     n: usize,
     block: usize,
@@ -308,111 +325,99 @@ fn settle_one(
 ) -> bool
     requires { ⌜ PartFits n block base (now work) × (v < n) × (splitOf columns ≤ 3) ⌝ }
     ensures { λ r. ⌜ sweepOf r (now (work .exit)) ≡
-        settledNext (lanesBy (splitOf columns)) n block base source (columnOf columns (now (set .entry)) (block * 2 ^ splitOf columns))
+        takenNext (lanesBy (splitOf columns)) n block base source (columnOf columns (now (set .entry)) (block * 2 ^ splitOf columns))
         (now (work .entry)) v ⌝ }
 {
     let at = base + v;
     let h = work[at];
-    if h < 65535 {
-        let counted = at + n;
-        let d = work[counted];
-        if d == 0 {
-            return true;
-        }
-        if wide_at(work, n, v, h, d, columns) {
-            return true;
-        }
-        let row = row_at(n, block, v);
-        absorb(work, n, block, v, row, base + row, h, d);
-        mask(work, n, block, source, columns, set, v);
-        work[at] = 65535;
-        work[counted] = 0;
+    if work[v] < h {
+        return false;
     }
+    let counted = at + n;
+    let d = work[counted];
+    if wide_at(work, n, v, h, d, columns) {
+        return true;
+    }
+    let row = row_at(n, block, v);
+    absorb(work, n, block, v, row, base + row, h, d);
+    mask(work, n, block, source, columns, set, v);
     false
 }
 
-// The same for the hearer of the record at i, of the plan without the record at position out.
-fn settle_record(
+// Settles what waits for v in the part that begins at base. Where its count is over 2^64 - 1 and cause 9 is not known, or the settled
+// count would not fit a lane: true, and nothing is changed.
+fn settle_waiting(
     work: &mut [u64],
-    plan: &[u8],
-    out: usize,
+    known: bool,
     n: usize,
     block: usize,
     base: usize,
     source: usize,
     columns: Columns,
     set: &[u8],
-    i: usize,
+    v: usize,
 ) -> bool
-    requires { ⌜ PartFits n block base (now work) × HearerFits (lackingRecord (now plan) out) n i × (splitOf columns ≤ 3) ⌝ }
+    requires { ⌜ PartFits n block base (now work) × (v < n) × (splitOf columns ≤ 3) × (getD (now work) (base + v) 0 < 65535) ⌝ }
     ensures { λ r. ⌜ sweepOf r (now (work .exit)) ≡
-        settledNext (lanesBy (splitOf columns)) n block base source (columnOf columns (now (set .entry)) (block * 2 ^ splitOf columns))
-        (now (work .entry)) (contactAt (lackingRecord (now (plan .entry)) out) i .hearer) ⌝ }
+        settledNext known (lanesBy (splitOf columns)) n block base source (columnOf columns (now (set .entry)) (block * 2 ^ splitOf columns))
+        (now (work .entry)) v ⌝ }
 {
-    let c = plan::kept_contact(plan, out, i);
-    settle_one(work, n, block, base, source, columns, set, c.hearer)
+    let at = base + v;
+    let counted = at + n;
+    if over(known, work[counted]) {
+        return true;
+    }
+    if take_in(work, n, block, base, source, columns, set, v) {
+        return true;
+    }
+    work[at] = 65535;
+    work[counted] = 0;
+    false
 }
 
-// Settles a part for the hearers of the records from j to before end. True where a count is over 2^64 - 1 or does not fit a lane, at the
-// first that is or does not.
-fn settle(
+// The same where something waits for v; else nothing is changed.
+fn settle_one(
     work: &mut [u64],
-    plan: &[u8],
-    out: usize,
+    known: bool,
     n: usize,
     block: usize,
     base: usize,
     source: usize,
     columns: Columns,
     set: &[u8],
-    j: usize,
-    end: usize,
+    v: usize,
 ) -> bool
-    requires { ⌜ PartFits n block base (now work) × HearersFit (lackingRecord (now plan) out) n j end × (splitOf columns ≤ 3) ⌝ }
+    requires { ⌜ PartFits n block base (now work) × (v < n) × (splitOf columns ≤ 3) ⌝ }
     ensures { λ r. ⌜ sweepOf r (now (work .exit)) ≡
-        settledBy (hearerAt (lackingRecord (now (plan .entry)) out)) (lanesBy (splitOf columns)) n block base source
-        (columnOf columns (now (set .entry)) (block * 2 ^ splitOf columns)) (now (work .entry)) j (end - j) ⌝ }
+        settledNext known (lanesBy (splitOf columns)) n block base source (columnOf columns (now (set .entry)) (block * 2 ^ splitOf columns))
+        (now (work .entry)) v ⌝ }
 {
-    let mut i = j;
-    while i < end {
-        if settle_record(work, plan, out, n, block, base, source, columns, set, i) {
-            return true;
-        }
-        i += 1;
+    if work[base + v] < 65535 {
+        return settle_waiting(work, known, n, block, base, source, columns, set, v);
     }
     false
 }
 
-// The same for every station.
-fn settle_all(
-    work: &mut [u64],
-    n: usize,
-    block: usize,
-    base: usize,
-    source: usize,
-    columns: Columns,
-    set: &[u8],
-) -> bool
-    requires { ⌜ PartFits n block base (now work) × (splitOf columns ≤ 3) ⌝ }
-    ensures { λ r. ⌜ sweepOf r (now (work .exit)) ≡
-        settledBy (λ v. v) (lanesBy (splitOf columns)) n block base source
-        (columnOf columns (now (set .entry)) (block * 2 ^ splitOf columns)) (now (work .entry)) 0 n ⌝ }
+// The station that is settled as number i of a slot whose records stand from j on: the hearer of its record, or where all stations are
+// settled, station i.
+fn station_at(plan: &[u8], out: usize, all: bool, j: usize, i: usize) -> usize
+    requires { ⌜ (all ≡ false → (j + i) * 6 + 5 < length (lackingRecord (now plan) out)) × (j + i < 18446744073709551616) ⌝ }
+    ensures { λ r. ⌜ r ≡ stationAt (lackingRecord (now (plan .entry)) out) all j i ⌝ }
 {
-    let mut v = 0;
-    while v < n {
-        if settle_one(work, n, block, base, source, columns, set, v) {
-            return true;
-        }
-        v += 1;
+    if all {
+        return i;
     }
-    false
+    let c = plan::kept_contact(plan, out, j + i);
+    c.hearer
 }
 
-// Settles a slot whose records are those from j to before end: for their hearers, or where they are more than the stations, for every station.
+// Settles a slot whose records are those from j to before end: for their hearers, or where they are more than the stations, for every
+// station. True where a count is over 2^64 - 1 or does not fit a lane, at the first that is or does not.
 fn settle_slot(
     work: &mut [u64],
     plan: &[u8],
     out: usize,
+    known: bool,
     n: usize,
     block: usize,
     base: usize,
@@ -423,25 +428,20 @@ fn settle_slot(
     end: usize,
 ) -> bool
     requires { ⌜ PartFits n block base (now work) × HearersFit (lackingRecord (now plan) out) n j end × (splitOf columns ≤ 3) × (j ≤ end) ⌝ }
-    ensures { λ r. ⌜ SlotSettled (lackingRecord (now (plan .entry)) out) (lanesBy (splitOf columns)) n block base source
+    ensures { λ r. ⌜ SlotSettled (lackingRecord (now (plan .entry)) out) known (lanesBy (splitOf columns)) n block base source
         (columnOf columns (now (set .entry)) (block * 2 ^ splitOf columns)) j end (now (work .entry)) r (now (work .exit)) ⌝ }
 {
-    if n < end - j {
-        return settle_all(work, n, block, base, source, columns, set);
+    let all = n < end - j;
+    let many = smaller(n, end - j);
+    let mut i = 0;
+    while i < many {
+        let v = station_at(plan, out, all, j, i);
+        if settle_one(work, known, n, block, base, source, columns, set, v) {
+            return true;
+        }
+        i += 1;
     }
-    settle(
-        work,
-        plan,
-        out,
-        n,
-        block,
-        base,
-        source,
-        columns,
-        set,
-        j,
-        end,
-    )
+    false
 }
 
 // Empties the part that begins at a place.
@@ -555,14 +555,27 @@ pub fn stopped(columns: Columns) -> Ended
     Ended::TooWide
 }
 
+// The position past the records of slot u, which stand from i on; j is that position where what waits is settled in the next slot.
+fn settled_end(plan: &[u8], out: usize, q: usize, u: usize, i: usize, j: usize) -> usize
+    requires { ⌜ (i * 6 ≤ length (lackingRecord (now plan) out)) × (q ≡ 1 → SlotRecords (lackingRecord (now plan) out) u i j) ⌝ }
+    ensures { λ r. ⌜ SlotRecords (lackingRecord (now (plan .entry)) out) u i r ⌝ }
+{
+    if q == 1 {
+        return j;
+    }
+    plan::kept_slot_end(plan, out, i, u)
+}
+
 // The pass: the records slot by slot, until the station until is reached or the last slot is settled. What is heard in a slot
 // waits in its part and is settled, q slots later, before that part is used again, for the hearers of that slot's records; past the last
 // slot the parts are settled one by one. The records from j on are not folded in yet, those from i on not settled. The record at position
-// out is left out; where there is none, the plan is whole.
+// out is left out; where there is none, the plan is whole. Where cause 9 is known not to hold, a record whose hearer has fewer hops
+// already is passed over.
 pub fn pass_columns(
     work: &mut [u64],
     plan: &[u8],
     out: usize,
+    known: bool,
     n: usize,
     t: usize,
     g: usize,
@@ -573,7 +586,8 @@ pub fn pass_columns(
     block: usize,
     until: usize,
 ) -> Ended
-    requires { ⌜ ColumnsReady (lackingRecord (now plan) out) n t (units g h) source until block (now work) × (splitOf columns ≤ 3) ⌝ }
+    requires { ⌜ ColumnsReady (lackingRecord (now plan) out) n t (units g h) source until block (now work) × (splitOf columns ≤ 3) ×
+        Spared known (lackingRecord (now plan) out) n t (units g h) source ⌝ }
     ensures { λ r. ⌜ ColumnsPassed (lackingRecord (now (plan .entry)) out) n t (units g h) source until (lanesBy (splitOf columns))
         (columnOf columns (now (set .entry)) (block * 2 ^ splitOf columns)) block (areaSize n (waiting t (units g h)) block)
         (now (work .entry)) (now (work .exit)) r ⌝ }
@@ -586,18 +600,19 @@ pub fn pass_columns(
     let mut i = 0;
     while u < t + q {
         if plan::kept_in_slot(plan, out, j, u) {
-            fold_record(work, plan, out, n, block, base, j);
+            fold_record(work, plan, out, known, n, block, base, j);
             j += 1;
             continue;
         }
         u += 1;
         base = part_at(n, block, q, u);
         if q < u {
-            let end = plan::kept_slot_end(plan, out, i, u - q);
+            let end = settled_end(plan, out, q, u - q, i, j);
             if settle_slot(
                 work,
                 plan,
                 out,
+                known,
                 n,
                 block,
                 base,

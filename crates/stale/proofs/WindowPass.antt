@@ -505,10 +505,10 @@ module _ (bs : List ℕ) (n t : ℕ) (terms : Terms) (d s : ℕ) (lay : Lanes) (
   bare : List ℕ
   bare = begunArea n block 1 old s (ones (lay .width) (lay .lanes))
 
-  begun : AreaState lay n block 1 0 old (walksAt (planOf bs n t terms) s (mayLeave s col) 0 0) bare
+  begun : AreaState false lay n block 1 0 old (walksAt (planOf bs n t terms) s (mayLeave s col) 0 0) bare
   unfolding bare
   begun =
-      begun-state lay full (planOf bs n t terms) s (mayLeave s col) n block 1 old (source-free s col) (first-parts entry-area)
+      begun-state false lay full (planOf bs n t terms) s (mayLeave s col) n block 1 old (source-free s col) (first-parts entry-area)
       (ready .source)
 
   heads-room : markAt n block d d 0 + n ≤ length bare

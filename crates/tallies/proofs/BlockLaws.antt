@@ -210,6 +210,7 @@ module _ (bs : List ℕ) (n t : ℕ) (terms : Terms) (d base block s : ℕ) (old
                   fits = let l = f .kept .same-length in omega (arith, r .fits);
                 };
             state = f .state;
+            few-walks = f .few;
           }
 
       module _ (x : List ℕ) where

@@ -169,8 +169,9 @@ fn add_rows(
     }
 }
 
-// Works on one source with one block of stations, 2^split of them to an entry of a row: the pass, then every destination. The record at
-// position out is left out; where there is none, the plan is whole.
+// Works on one source with one block of stations, 2^split of them to an entry of a row: the pass, then every destination. The pass of the
+// first block settles cause 9, so that later ones know it not to hold. The record at position out is left out; where there is none, the
+// plan is whole.
 fn tally_block(
     work: &mut [u64],
     plan: &[u8],
@@ -195,6 +196,7 @@ fn tally_block(
         work,
         plan,
         out,
+        0 < low,
         n,
         t,
         g,

@@ -1,6 +1,8 @@
 -- `foremost::appearance_too_many` meets its contract.
 -- Assumes nothing.
 use native.Mathlib.Omega.{arith}
+use mathlib.Core.Path.{refl}
+use Rattle.temporal.proofs.ListLaws.{not-both}
 use Rattle.pass.specs.Column.{columnOf, splitOf}
 use Rattle.forward.proofs.UseLaws.{columns-whole}
 use Rattle.foremost.proofs.WorkLaws.{appearances-pass, appearances-met}
@@ -19,7 +21,7 @@ part-pass-columns-end c = search needs
 
 pass-columns-requires : tie.Need-pass-columns-requires
 unfolding splitOf
-pass-columns-requires c κs = (appearances-pass _ _ _ _ _ _ (c .before .before .before .before .pre), omega arith)
+pass-columns-requires c κs = (appearances-pass _ _ _ _ _ _ (c .before .before .before .before .pre), omega arith, λ e. absurd (not-both e refl))
 
 met-appearance-requires : tie.Need-met-appearance-requires
 met-appearance-requires c κs = search needs

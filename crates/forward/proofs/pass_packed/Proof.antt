@@ -1,7 +1,7 @@
 -- `forward::pass_packed` meets its contract: the pass with the columns of the block.
 -- Assumes nothing.
 use Rattle.pass.specs.Column.{columnOf, splitOf}
-use Rattle.forward.proofs.UseLaws.{packed-ready, packed-passed}
+use Rattle.forward.proofs.UseLaws.{few-spared, packed-ready, packed-passed}
 use borrow.Author.Needs.{needs}
 use Rattle.forward.proofs.pass_packed.Statement.{statement}
 use Rattle.forward.proofs.pass_packed.Tie as tie
@@ -17,7 +17,10 @@ part-pass-slots-end c = search needs
 
 pass-slots-requires : tie.Need-pass-slots-requires
 unfolding columnOf splitOf
-pass-slots-requires c κs = packed-ready _ _ _ _ _ _ _ _ _ (c .before .before .before .before .pre)
+pass-slots-requires c κs =
+    let start = c .before .before .before .before in
+    let (ready, few) = packed-ready _ _ _ _ _ _ _ _ _ (start .pre .0) in
+    (ready, few, few-spared _ _ _ _ _ _ (start .pre .1))
 
 packed-of-requires : tie.Need-packed-of-requires
 packed-of-requires c κs = search needs
@@ -28,7 +31,7 @@ same-length c = search needs
 returns : tie.Need-returns
 unfolding columnOf splitOf
 returns c =
-    packed-passed _ _ _ _ _ _ _ _ _ _ _ (c .before .before .before .before .before .before .before .before .pre) _ _
+    packed-passed _ _ _ _ _ _ _ _ _ _ _ (c .before .before .before .before .before .before .before .before .pre .0) _ _
     (c .before .before .before .pass-slots .ensures) (c .packed-of .ensures)
 
 pub pass-packed-spec : {M : Type 1} → statement M

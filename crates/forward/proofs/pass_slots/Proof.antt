@@ -10,7 +10,7 @@ add-if1 : tie.Need-add-if1
 add-if1 c = search needs
 
 pass-columns-requires : tie.Need-pass-columns-requires
-pass-columns-requires c κs = (kept-ready _ _ _ _ _ _ _ _ _ (c .before .before .before .before .before .pre .0) (omega arith), c .before .before .before .before .before .pre .1)
+pass-columns-requires c κs = (kept-ready _ _ _ _ _ _ _ _ _ (c .before .before .before .before .before .pre .0) (omega arith), c .before .before .before .before .before .pre .1, c .before .before .before .before .before .pre .2)
 
 same-length : tie.Need-same-length
 same-length c = search needs

@@ -2,7 +2,7 @@
 -- Assumes nothing.
 use native.Mathlib.Omega.{arith}
 use Rattle.pass.specs.Column.{columnOf, splitOf}
-use Rattle.forward.proofs.UseLaws.{until-whole, columns-whole}
+use Rattle.forward.proofs.UseLaws.{until-whole, whole-spared, columns-whole}
 use borrow.Author.Needs.{needs}
 use Rattle.forward.proofs.pass_until.Statement.{statement}
 use Rattle.forward.proofs.pass_until.Tie as tie
@@ -19,7 +19,8 @@ part-pass-slots-end c = search needs
 pass-slots-requires : tie.Need-pass-slots-requires
 unfolding splitOf
 pass-slots-requires c κs =
-    (until-whole _ _ _ _ _ _ _ _ _ (c .before .before .before .before .pre), omega arith)
+    let start = c .before .before .before .before in
+    (until-whole _ _ _ _ _ _ _ _ _ (start .pre .0), omega arith, whole-spared _ _ _ _ _ _ (start .pre .1))
 
 same-length : tie.Need-same-length
 same-length c = search needs

@@ -1,6 +1,8 @@
 -- `forward::pass_without` meets its contract: the pass for a block that waits for no station.
 -- Assumes nothing.
 use native.Mathlib.Omega.{arith}
+use mathlib.Core.Path.{refl}
+use Rattle.temporal.proofs.ListLaws.{not-both}
 use Rattle.pass.specs.Column.{columnOf, splitOf}
 use Rattle.forward.proofs.UseLaws.{block-passed, block-ready, columns-one}
 use borrow.Author.Needs.{needs}
@@ -19,7 +21,7 @@ part-pass-slots-end c = search needs
 pass-slots-requires : tie.Need-pass-slots-requires
 unfolding splitOf
 pass-slots-requires c κs =
-    (block-ready _ _ _ _ _ _ _ _ _ (c .before .before .before .before .pre), omega arith)
+    (block-ready _ _ _ _ _ _ _ _ _ (c .before .before .before .before .pre), omega arith, λ e. absurd (not-both e refl))
 
 over-requires : tie.Need-over-requires
 over-requires c κs = search needs

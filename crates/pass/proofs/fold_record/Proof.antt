@@ -15,7 +15,7 @@ same-length : tie.Need-same-length
 same-length c = search needs
 
 returns : tie.Need-returns
-returns c = folded-by _ _ _ _ _ _ _ _ (c .before .before .before .before .kept-contact .ensures) (c .before .before .send .ensures)
+returns c = folded-by _ _ _ _ _ _ _ _ _ (c .before .before .before .before .kept-contact .ensures) (c .before .before .send .ensures)
 
 pub fold-record-spec : {M : Type 1} → statement M
 fold-record-spec = tie.close (tie.spec kept-contact-requires send-requires same-length returns)

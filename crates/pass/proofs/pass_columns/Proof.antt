@@ -5,6 +5,7 @@
 use Prim.Native.Nat.{_+_, _-_, _*_, _^_}
 use native.Mathlib.Omega.{arith}
 use mathlib.Core.Path.{refl, sym, _∙_}
+use mathlib.Core.Bool.{false}
 use Rattle.temporal.specs.Plan.{units}
 use Rattle.temporal.specs.Bytes.{records}
 use Rattle.temporal.specs.Struck.{lackingRecord}
@@ -13,7 +14,8 @@ use Rattle.plan.proofs.SlotLaws.{in-slot-inv}
 use Rattle.pass.specs.Column.{columnOf, lanesBy, splitOf}
 use Rattle.pass.proofs.PlaceLaws.{first-part}
 use Rattle.pass.proofs.WidthLaws.{filled-by}
-use Rattle.pass.proofs.PassLaws.{Passing, ready-area, passing-begun, passing-area, passing-trail, passing-foldable, passing-fold}
+use Rattle.pass.proofs.PassLaws.{Passing, ready-area, passing-begun, passing-area, passing-trail, passing-end, passing-foldable}
+use Rattle.pass.proofs.PassLaws.{passing-fold}
 use Rattle.pass.proofs.PassLaws.{passing-on, settle-part, settle-hearers, next-area, next-length, passed-over, passing-settle}
 use Rattle.pass.proofs.PassLaws.{passed-reached, passed-end, passed-entry}
 use borrow.Author.Needs.{needs}
@@ -21,12 +23,12 @@ use Rattle.pass.proofs.pass_columns.Statement.{statement}
 use Rattle.pass.proofs.pass_columns.Tie as tie
 
 abbrev Inv-loop : tie.InvT-loop
-Inv-loop work₀ plan out n t g h source columns set block until q base₀ u₀ j₀ i₀ work base u j i =
-    Passing (lackingRecord plan out) n t (units g h) source until (lanesBy (splitOf columns))
+Inv-loop work₀ plan out known n t g h source columns set block until q base₀ u₀ j₀ i₀ work base u j i =
+    Passing (lackingRecord plan out) n t (units g h) source until known (lanesBy (splitOf columns))
     (columnOf columns set (block * 2 ^ splitOf columns)) block q work₀ base u j i work
 
 abbrev μ-loop : tie.MeasureT-loop
-μ-loop work₀ plan out n t g h source columns set block until q base₀ u₀ j₀ i₀ work base u j i =
+μ-loop work₀ plan out known n t g h source columns set block until q base₀ u₀ j₀ i₀ work base u j i =
     (t + q - u) + (records (lackingRecord plan out) - j)
 
 smaller-requires : tie.Need-smaller-requires Inv-loop μ-loop
@@ -49,7 +51,7 @@ loop-holds c =
     let begun = c .before .before .before in
     let turns = begun .before .before in
     let start = turns .before .before .before .before in
-    passing-begun _ _ _ _ _ _ _ (filled-by _ (start .pre .1)) _ _ _ _ _ (turns .smaller .ensures) (start .pre .0) (begun .begin-columns .ensures) _ (c .part-at .ensures)
+    passing-begun _ _ _ _ _ _ _ _ (filled-by _ (start .pre .1)) _ _ _ _ _ (turns .smaller .ensures) (start .pre .0) (begun .begin-columns .ensures) (start .pre .2) _ (c .part-at .ensures)
 
 add-loop : tie.Need-add-loop Inv-loop μ-loop
 add-loop c = omega (arith, accepted _ _ _ (c .loop .inv .ready .accepted) .slots, c .loop .inv .parts)
@@ -91,11 +93,16 @@ part-at-requires-2 c κs =
     let area = ready-area _ _ _ _ _ _ _ _ (start .pre .0) in
     rw (turns .smaller .ensures) (area .parts, omega (arith, area .fits, start .good .0 .0))
 
-sub-kept-slot-end : tie.Need-sub-kept-slot-end Inv-loop μ-loop
-sub-kept-slot-end c = omega arith
+sub-settled-end : tie.Need-sub-settled-end Inv-loop μ-loop
+sub-settled-end c = omega arith
 
-kept-slot-end-requires : tie.Need-kept-slot-end-requires Inv-loop μ-loop
-kept-slot-end-requires c κs = passing-trail (c .before .before .before .before .before .loop .inv)
+settled-end-requires : tie.Need-settled-end-requires Inv-loop μ-loop
+settled-end-requires c κs =
+    let part = c .before in
+    let loop = part .before .before .before .before in (
+      passing-trail (loop .loop .inv),
+      λ one. passing-end (loop .loop .inv) (sym (part .before .before .kept-in-slot .ensures) ∙ part .before .if1 .left) (c .if2 .taken) one,
+    )
 
 settle-slot-requires : tie.Need-settle-slot-requires Inv-loop μ-loop
 settle-slot-requires c κs =
@@ -107,9 +114,9 @@ settle-slot-requires c κs =
           (found .before .if2 .taken) (part .before .before .before .loop-test .taken),
       settle-hearers (loop .loop .inv)
           (sym (part .before .before .kept-in-slot .ensures) ∙ part .before .if1 .left) _ (part .part-at2 .ensures)
-          (found .before .if2 .taken) (part .before .before .before .loop-test .taken) _ (found .kept-slot-end .ensures),
+          (found .before .if2 .taken) (part .before .before .before .loop-test .taken) _ (found .settled-end .ensures),
       loop .before .before .before .before .before .before .before .before .before .before .pre .1,
-      found .kept-slot-end .ensures .from,
+      found .settled-end .ensures .from,
     )
 
 stopped-requires : tie.Need-stopped-requires Inv-loop μ-loop
@@ -123,7 +130,7 @@ same-length c =
     let loop = part .before .before .before .before in
     next-length (loop .loop .inv)
     (sym (part .before .before .kept-in-slot .ensures) ∙ part .before .if1 .left) _ (part .part-at2 .ensures)
-    (found .before .if2 .taken) (part .before .before .before .loop-test .taken) _ (found .kept-slot-end .ensures) _ _
+    (found .before .if2 .taken) (part .before .before .before .loop-test .taken) _ (found .settled-end .ensures) _ _
     (settled .settle-slot .ensures) ∙ loop .before .before .before .before .begin-columns .kept .0
 
 returns : tie.Need-returns Inv-loop μ-loop
@@ -135,10 +142,10 @@ returns c =
     let begun = loop .before .before .before .before in
     let turns = begun .before .before in
     let start = turns .before .before .before .before in
-    passed-entry _ _ _ _ _ _ _ (filled-by _ (start .pre .1)) _ _ _ _ _ (turns .smaller .ensures) (start .pre .0) (begun .begin-columns .ensures) _ _
+    passed-entry _ _ _ _ _ _ false _ (filled-by _ (start .pre .1)) _ _ _ _ _ (turns .smaller .ensures) (start .pre .0) (begun .begin-columns .ensures) _ _
     (passed-over (loop .loop .inv)
     (sym (part .before .before .kept-in-slot .ensures) ∙ part .before .if1 .left) _ (part .part-at2 .ensures)
-    (found .before .if2 .taken) (part .before .before .before .loop-test .taken) _ (found .kept-slot-end .ensures) _ _
+    (found .before .if2 .taken) (part .before .before .before .loop-test .taken) _ (found .settled-end .ensures) _ _
     (settled .settle-slot .ensures) (c .before .if3 .taken) _ refl _ (c .stopped .ensures))
 
 reached-requires : tie.Need-reached-requires Inv-loop μ-loop
@@ -149,12 +156,12 @@ reached-requires c κs =
     let loop = part .before .before .before .before in
     let fits = first-part (next-area (loop .loop .inv)
     (sym (part .before .before .kept-in-slot .ensures) ∙ part .before .if1 .left) _ (part .part-at2 .ensures)
-    (found .before .if2 .taken) (part .before .before .before .loop-test .taken) _ (found .kept-slot-end .ensures) _ _
+    (found .before .if2 .taken) (part .before .before .before .loop-test .taken) _ (found .settled-end .ensures) _ _
     (settled .settle-slot .ensures)) in
     omega arith
 
-sub-t35 : tie.Need-sub-t35 Inv-loop μ-loop
-sub-t35 c = omega arith
+sub-t36 : tie.Need-sub-t36 Inv-loop μ-loop
+sub-t36 c = omega arith
 
 same-length-2 : tie.Need-same-length-2 Inv-loop μ-loop
 same-length-2 c =
@@ -164,7 +171,7 @@ same-length-2 c =
     let loop = part .before .before .before .before in
     next-length (loop .loop .inv)
     (sym (part .before .before .kept-in-slot .ensures) ∙ part .before .if1 .left) _ (part .part-at2 .ensures)
-    (found .before .if2 .taken) (part .before .before .before .loop-test .taken) _ (found .kept-slot-end .ensures) _ _
+    (found .before .if2 .taken) (part .before .before .before .loop-test .taken) _ (found .settled-end .ensures) _ _
     (settled .settle-slot .ensures) ∙ loop .before .before .before .before .begin-columns .kept .0
 
 returns-2 : tie.Need-returns-2 Inv-loop μ-loop
@@ -176,10 +183,10 @@ returns-2 c =
     let begun = loop .before .before .before .before in
     let turns = begun .before .before in
     let start = turns .before .before .before .before in
-    passed-entry _ _ _ _ _ _ _ (filled-by _ (start .pre .1)) _ _ _ _ _ (turns .smaller .ensures) (start .pre .0) (begun .begin-columns .ensures) _ _
+    passed-entry _ _ _ _ _ _ false _ (filled-by _ (start .pre .1)) _ _ _ _ _ (turns .smaller .ensures) (start .pre .0) (begun .begin-columns .ensures) _ _
     (passed-reached (loop .loop .inv)
     (sym (part .before .before .kept-in-slot .ensures) ∙ part .before .if1 .left) _ (part .part-at2 .ensures)
-    (found .before .if2 .taken) (part .before .before .before .loop-test .taken) _ (found .kept-slot-end .ensures) _ _
+    (found .before .if2 .taken) (part .before .before .before .loop-test .taken) _ (found .settled-end .ensures) _ _
     (settled .settle-slot .ensures) (c .before .before .before .if3 .left) (sym (c .before .reached .ensures) ∙ c .if4 .taken))
 
 loop-less-2 : tie.Need-loop-less-2 Inv-loop μ-loop
@@ -193,7 +200,7 @@ loop-again-2 c =
     let loop = part .before .before .before .before in
     passing-settle (loop .loop .inv)
     (sym (part .before .before .kept-in-slot .ensures) ∙ part .before .if1 .left) _ (part .part-at2 .ensures)
-    (found .before .if2 .taken) (part .before .before .before .loop-test .taken) _ (found .kept-slot-end .ensures) _ _
+    (found .before .if2 .taken) (part .before .before .before .loop-test .taken) _ (found .settled-end .ensures) _ _
     (settled .settle-slot .ensures) (c .before .before .before .if3 .left) (sym (c .before .reached .ensures) ∙ c .if4 .left)
 
 loop-less-3 : tie.Need-loop-less-3 Inv-loop μ-loop
@@ -220,7 +227,7 @@ returns-3 c =
     let begun = loop .before .before .before .before in
     let turns = begun .before .before in
     let start = turns .before .before .before .before in
-    passed-entry _ _ _ _ _ _ _ (filled-by _ (start .pre .1)) _ _ _ _ _ (turns .smaller .ensures) (start .pre .0) (begun .begin-columns .ensures) _ _
+    passed-entry _ _ _ _ _ _ false _ (filled-by _ (start .pre .1)) _ _ _ _ _ (turns .smaller .ensures) (start .pre .0) (begun .begin-columns .ensures) _ _
     (passed-end (loop .loop .inv) _ (omega arith) (c .end-pass .ensures))
 
 pub pass-columns-spec : {M : Type 1} → statement M
@@ -241,14 +248,14 @@ pass-columns-spec =
     loop-again
     add-u
     part-at-requires-2
-    sub-kept-slot-end
-    kept-slot-end-requires
+    sub-settled-end
+    settled-end-requires
     settle-slot-requires
     stopped-requires
     same-length
     returns
     reached-requires
-    sub-t35
+    sub-t36
     same-length-2
     returns-2
     loop-less-2

@@ -2,7 +2,7 @@
 -- Assumes nothing.
 use native.Mathlib.Omega.{arith}
 use mathlib.Core.Path.{sym}
-use Rattle.pass.proofs.PlaceLaws.{row-settled, row-waiting, absorb-sent, sent-row, sent-pruned, sent-none}
+use Rattle.pass.proofs.PlaceLaws.{row-settled, row-waiting, absorb-sent, sent-row, sent-pruned, sent-skipped, sent-none}
 use borrow.Author.Needs.{needs}
 use Rattle.pass.proofs.send.Statement.{statement}
 use Rattle.pass.proofs.send.Tie as tie
@@ -50,7 +50,10 @@ same-length : tie.Need-same-length
 same-length c = search needs
 
 returns : tie.Need-returns
-returns c = sent-row _ _ _ _ _ _ _ _ _ (c .before .before .before .before .before .row-at .ensures) (c .before .before .before .before .row-at2 .ensures) (omega arith) (omega arith) (c .before .before .absorb .ensures)
+returns c = sent-row _ _ _ _ _ _ _ _ _ _ (c .before .before .before .before .before .row-at .ensures) (c .before .before .before .before .row-at2 .ensures) (omega arith) (omega arith) (c .before .before .absorb .ensures)
+
+returns-2 : tie.Need-returns-2
+returns-2 c = sym (sent-skipped _ _ _ _ _ _ _ (omega arith) (omega arith) (c .if3 .taken))
 
 add-merge : tie.Need-add-merge
 add-merge c = search needs
@@ -61,11 +64,11 @@ merge-requires c κs = search needs
 same-length-2 : tie.Need-same-length-2
 same-length-2 c = search needs
 
-returns-2 : tie.Need-returns-2
-returns-2 c = sent-pruned _ _ _ _ _ _ _ (omega arith) (omega arith) (c .before .before .merge .ensures)
-
 returns-3 : tie.Need-returns-3
-returns-3 c = sym (sent-none _ _ _ _ _ _ (omega arith))
+returns-3 c = sent-pruned _ _ _ _ _ _ _ _ (omega arith) (omega arith) (c .before .before .before .before .if3 .left) (c .before .before .merge .ensures)
+
+returns-4 : tie.Need-returns-4
+returns-4 c = sym (sent-none _ _ _ _ _ _ _ (omega arith))
 
 pub send-spec : {M : Type 1} → statement M
 send-spec =
@@ -86,8 +89,9 @@ send-spec =
     absorb-requires
     same-length
     returns
+    returns-2
     add-merge
     merge-requires
     same-length-2
-    returns-2
-    returns-3)
+    returns-3
+    returns-4)

@@ -1,12 +1,14 @@
 -- `tallies::tally_block` meets its contract: what the pass says of the counts, and the block done where it goes on.
 -- Assumes nothing.
 use Rattle.tallies.proofs.BlockLaws.{block-ready, block-over, block-wide, block-workable, block-done}
+use borrow.Author.Tests.{ltb-true}
 use borrow.Author.Needs.{needs}
 use Rattle.tallies.proofs.tally_block.Statement.{statement}
 use Rattle.tallies.proofs.tally_block.Tie as tie
 
 pass-packed-requires : tie.Need-pass-packed-requires
-pass-packed-requires c κs = let start = c .before .before .before in block-ready _ _ _ _ _ _ _ _ _ _ (start .pre)
+pass-packed-requires c κs = let start = c .before .before .before in
+    (block-ready _ _ _ _ _ _ _ _ _ _ (start .pre), λ later. start .pre .few-walks (ltb-true _ _ later))
 
 enum-told : tie.Need-enum-told
 enum-told c = search needs
