@@ -15,7 +15,7 @@ ghost use Rattle.temporal.specs.Band.{takeIn, takeOut};
 ghost use Rattle.temporal.specs.Cursor.{first-way, next-way};
 ghost use Rattle.temporal.specs.FirstNext.{wayAnswer};
 ghost use Rattle.plan.specs.Fault.{faultNumber};
-ghost use Rattle.reach.specs.Pass.{lentTables};
+ghost use Rattle.reach.specs.Answer.{lentTables};
 ghost use Rattle.pair.specs.Answer.{pairBuffers};
 ghost use Rattle.loads.specs.Answer.{loadsNumber, loadBuffers};
 ghost use Rattle.drawn.specs.Answer.{drawnBuffers};

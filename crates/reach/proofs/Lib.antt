@@ -1,20 +1,4 @@
--- what merging an entry leaves
-mod MergeLaws
-mod PlaceLaws
-mod PassLaws
-mod EntryLaws
-mod TableLaws
-mod MarkLaws
-mod OnceLaws
-mod SweepLaws
-mod SlotLaws
-mod StateLaws
-mod FoldLaws
-mod TrailLaws
-mod SettleLaws
-mod EndLaws
-mod TurnLaws
-mod WindowLaws
+-- what filled tables answer, and how a call begins
 mod OutcomeLaws
 mod ReachedLaws
 mod CallLaws

@@ -16,8 +16,8 @@ use Rattle.temporal.specs.Shortest.{hops, count}
 use Rattle.temporal.proofs.ListLaws.{any-true, mem-below, length-zero}
 use Rattle.entries.specs.Entry.{overflows}
 use Rattle.entries.proofs.CountLaws.{stored-small, stored-large}
-use Rattle.reach.specs.Table.{Table, tableOverflows}
-use Rattle.reach.specs.Pass.{EntryHolds}
+use Rattle.reach_entries.specs.Table.{Table, tableOverflows}
+use Rattle.reach_entries.specs.Pass.{EntryHolds}
 
 -- two tests that hold together are equal
 both-ways : (a b : Bool) → (a ≡ true → b ≡ true) → (b ≡ true → a ≡ true) → a ≡ b

@@ -23,9 +23,10 @@ use Rattle.temporal.proofs.PlanLaws.{slots-within}
 use Rattle.temporal.proofs.ShortestLaws.{hops-bound}
 use Rattle.entries.specs.Entry.{stored}
 use Rattle.entries.proofs.CountLaws.{stored-small}
-use Rattle.reach.specs.Table.{tableOverflows, Fits}
-use Rattle.reach.specs.Pass.{Tables, lentTables, tablesOverflow, emptiedTables, EntryHolds, FilledTables}
+use Rattle.reach_entries.specs.Table.{tableOverflows, Fits}
+use Rattle.reach_entries.specs.Pass.{Tables, tablesOverflow, emptiedTables, EntryHolds, FilledTables}
 use Rattle.temporal.proofs.BufferLaws.{over-by, fill-beyond, getD-made, length-made}
+use Rattle.reach.specs.Answer.{lentTables}
 use Rattle.reach.proofs.OutcomeLaws.{Few, any-places, overflows-exactly}
 
 -- the four lists as document 01's tables

@@ -4,7 +4,7 @@ use native.Mathlib.Omega.{arith}
 use mathlib.Core.Path.{sym, _∙_}
 use Rattle.temporal.proofs.Accepted.{accepted}
 use Rattle.calls.proofs.CallLaws.{terms-allowed}
-use Rattle.reach.proofs.PlaceLaws.{few-places}
+use Rattle.reach_entries.proofs.PlaceLaws.{few-places}
 use Rattle.reach.proofs.CallLaws.{
   reach-station,
   reach-short-hops,
