@@ -1,5 +1,5 @@
-//! Plans at the edges of the limits: most stations, slots and records, counts around 2^64, the smallest and the
-//! largest g and h, numbers of sources around n and around a source with too many walks, and long lists.
+//! Plans at the edges of the limits: most stations, slots and records, counts around 2^64 and around what a lane holds,
+//! the smallest and the largest g and h, numbers of sources around n and around a source with too many walks, and long lists.
 
 use lister::cases::{Record, PLAN_A};
 use lister::means::COUNTED;
@@ -40,6 +40,7 @@ pub fn compare(comparison: &mut Comparison, seed: u64) -> Result<(), Difference>
     keepings(comparison, random)?;
     sources(comparison, random)?;
     sources_with_many_walks(comparison, random)?;
+    lanes(comparison, random)?;
     verdicts(comparison, random)?;
     lists::long(comparison, random)
 }
@@ -112,6 +113,34 @@ fn stale_plans() -> Vec<Owned> {
     plans.extend(detours_around().iter().map(LabelledPlan::owned));
     plans.extend(stale_blocks().iter().map(LabelledPlan::owned));
     plans
+}
+
+/// Counts on either side of what a lane of 8, 16 and 32 bits holds, undercut later or not, with sources beside them whose
+/// counts are small; where every reading is kept and where some are dropped.
+fn lane_plans() -> Vec<Owned> {
+    let mut plans = Vec::new();
+    for bits in [8, 16, 32] {
+        for turnaround in [LEAST_TURNAROUND, 2] {
+            for (index, plan) in exact_plans(bits, turnaround).iter().enumerate() {
+                let owned = Owned::built(&plan.builder);
+                let keeping = owned.turnaround + index % 3;
+                plans.extend([owned.clone(), owned.keeping_for(keeping)]);
+            }
+        }
+    }
+    plans
+}
+
+/// Loads and struck out on each of them.
+fn lanes(comparison: &mut Comparison, random: &mut Random) -> Result<(), Difference> {
+    for owned in lane_plans() {
+        let stations = [0, owned.stations - 1];
+        for operation in [Operation::Loads, Operation::StruckOut] {
+            let call = lend::call(random, operation, owned.input(), stations, Lengths::Named);
+            comparison.compare(&call, COUNTED)?;
+        }
+    }
+    Ok(())
 }
 
 /// Plans with turnarounds above 1: none of the hops of some can follow each other, those of others just can.
