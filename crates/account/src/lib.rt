@@ -1,20 +1,21 @@
 // The account of a station: the text that tells a warden which pairs lean on it, how much, and along which walks.
+#![tactic(auto)]
 ghost use Rattle.std.specs.Prelude.{◌≡◌, [], ◌+◌, ◌*◌, ◌<◌, ◌≤◌, min, length, get_or, take};
 ghost use Rattle.temporal.specs.Plan.{turning};
 ghost use Rattle.temporal.specs.Outcome.{over};
 ghost use Rattle.text.specs.Written.{Put};
-ghost use Rattle.ways.specs.Found.{listIn};
-ghost use Rattle.loads.specs.Answer.{loadsNumber};
-ghost use Rattle.account.specs.Account.{mostWalks, stationLine, pairLine, walkLine, moreLine, Accounted};
+ghost use Rattle.ways.specs.Found.{list_in};
+ghost use Rattle.loads.specs.Answer.{loads_number};
+ghost use Rattle.account.specs.Account.{most_walks, station_line, pair_line, walk_line, more_line, Accounted};
 ghost use Rattle.account.specs.Work.{
-  figuresIn,
-  loweredAt,
-  loweredLeg,
-  walkLines,
-  layeredText,
-  betweenText,
-  sourceText,
-  pairsText,
+  figures_in,
+  lowered_at,
+  lowered_leg,
+  walk_lines,
+  layered_text,
+  between_text,
+  source_text,
+  pairs_text,
   WalkWritable,
   Movable,
   WalksWritable,
@@ -23,14 +24,14 @@ ghost use Rattle.account.specs.Work.{
   SourceWritable,
   PairsWritable,
 };
-ghost use Rattle.account.specs.Whole.{stationText, withStation, LayersWritable, LoadedFor, AccountWithin};
+ghost use Rattle.account.specs.Whole.{station_text, with_station, LayersWritable, LoadedFor, AccountWithin};
 
 use loads::LoadsAnswer;
 use pair::PairAnswer;
 use ways::Pair;
 
 // The figures of a pair of the station: its ends, hops, through count, count and share.
-#[derive(Drop)]
+#[derive(Clone, Copy)]
 pub struct Figures {
     pub source: usize,
     pub destination: usize,
@@ -42,8 +43,8 @@ pub struct Figures {
 
 // Writes the first line.
 fn put_station(out: &mut [u8], at: usize, v: u64, pairs: u64, load: u64) -> usize
-    requires { at + length (stationLine v pairs load) ≤ length out.old }
-    ensures { Put at (stationLine v pairs load) out.old result out.new }
+    requires { at + length (station_line v pairs load) ≤ length out.old }
+    ensures { Put at (station_line v pairs load) out.old result out.new }
 {
     text::put_labelled(
         out,
@@ -60,8 +61,8 @@ fn put_station(out: &mut [u8], at: usize, v: u64, pairs: u64, load: u64) -> usiz
 
 // Writes a pair's line.
 fn put_pair_line(out: &mut [u8], at: usize, f: Figures) -> usize
-    requires { at + length (pairLine (figuresIn f)) ≤ length out.old }
-    ensures { Put at (pairLine (figuresIn f)) out.old result out.new }
+    requires { at + length (pair_line (figures_in f)) ≤ length out.old }
+    ensures { Put at (pair_line (figures_in f)) out.old result out.new }
 {
     let end = text::put_labelled(
         out,
@@ -81,8 +82,8 @@ fn put_pair_line(out: &mut [u8], at: usize, f: Figures) -> usize
 
 // Writes how many walks there are besides those printed.
 fn put_more(out: &mut [u8], at: usize, m: u64) -> usize
-    requires { at + length (moreLine m) ≤ length out.old }
-    ensures { Put at (moreLine m) out.old result out.new }
+    requires { at + length (more_line m) ≤ length out.old }
+    ensures { Put at (more_line m) out.old result out.new }
 {
     let end = text::put_bytes(out, at, b"  more ");
     text::put_field(out, end, m, b"\n")
@@ -90,8 +91,8 @@ fn put_more(out: &mut [u8], at: usize, m: u64) -> usize
 
 // Writes a leg, the plan's contact of position q of its layered plan, and what stands behind it.
 fn put_leg(out: &mut [u8], at: usize, layered: &[u8], n: usize, q: usize, last: bool) -> usize
-    requires { (at + length (loweredLeg layered.now n q last) ≤ length out.old) × (q * 6 + 5 < length layered.now) }
-    ensures { Put at (loweredLeg layered.now n q last) out.old result out.new }
+    requires { (at + length (lowered_leg layered.now n q last) ≤ length out.old) × (q * 6 + 5 < length layered.now) }
+    ensures { Put at (lowered_leg layered.now n q last) out.old result out.new }
 {
     let c = layered::lowered_contact(layered, n, q);
     let slot = c.slot as u64;
@@ -106,7 +107,7 @@ fn put_leg(out: &mut [u8], at: usize, layered: &[u8], n: usize, q: usize, last: 
 // Writes a walk's line; its positions in the layered plan are the first entries of the way buffer.
 fn put_walk(out: &mut [u8], at: usize, layered: &[u8], n: usize, way: &[u16], hops: usize) -> usize
     requires { WalkWritable layered.now n hops at way.now out.old }
-    ensures { Put at (walkLine (loweredAt layered.now n) (take hops way.now)) out.old result
+    ensures { Put at (walk_line (lowered_at layered.now n) (take hops way.now)) out.old result
         out.new }
 {
     let mut end = text::put_bytes(out, at, b"  ");
@@ -122,7 +123,7 @@ fn put_walk(out: &mut [u8], at: usize, layered: &[u8], n: usize, way: &[u16], ho
 // Moves the way buffer to walk i of the list of a pair, from the one before it.
 fn go_on(way: &mut [u16], work: &[u64], layered: &[u8], q: Pair, i: usize)
     requires { Movable layered.now q i way.old work.now }
-    ensures { way.new ≡ over (get_or (listIn layered.now q) i []) way.old }
+    ensures { way.new ≡ over (get_or (list_in layered.now q) i []) way.old }
 {
     if i == 0 {
         ways::first_path(way, work, layered, q);
@@ -143,7 +144,7 @@ fn put_walks(
     work: &[u64],
 ) -> usize
     requires { WalksWritable layered.now n q most at way.old work.now out.old }
-    ensures { Put at (walkLines layered.now n (listIn layered.now q) most) out.old result
+    ensures { Put at (walk_lines layered.now n (list_in layered.now q) most) out.old result
         out.new }
 {
     let mut end = at;
@@ -179,8 +180,8 @@ fn put_pair(
     way: &mut [u16],
     work: &mut [u64],
 ) -> usize
-    requires { PairWritable layered.now n t g k at (figuresIn f) way.old work.old out.old }
-    ensures { Put at (layeredText layered.now n t g k (figuresIn f)) out.old result out.new }
+    requires { PairWritable layered.now n t g k at (figures_in f) way.old work.old out.old }
+    ensures { Put at (layered_text layered.now n t g k (figures_in f)) out.old result out.new }
 {
     let stations = 2 * n;
     let destination = n + f.destination;
@@ -218,7 +219,7 @@ fn put_between(
     work: &mut [u64],
 ) -> usize
     requires { BetweenWritable input.now n t g v k s z at layered.now through.old way.old work.old out.old }
-    ensures { Put at (betweenText input.now n t g v k s z) out.old result out.new }
+    ensures { Put at (between_text input.now n t g v k s z) out.old result out.new }
 {
     if s == z {
         return at;
@@ -260,7 +261,7 @@ fn put_source(
     work: &mut [u64],
 ) -> usize
     requires { SourceWritable input.now n t g v k s at layered.now through.old way.old work.old out.old }
-    ensures { Put at (sourceText input.now n t g v k s) out.old result out.new }
+    ensures { Put at (source_text input.now n t g v k s) out.old result out.new }
 {
     let mut end = at;
     let mut z = 0;
@@ -289,7 +290,7 @@ fn put_pairs(
     work: &mut [u64],
 ) -> usize
     requires { PairsWritable input.now n t g v k at layered.now through.old way.old work.old out.old }
-    ensures { Put at (pairsText input.now n t g v k) out.old result out.new }
+    ensures { Put at (pairs_text input.now n t g v k) out.old result out.new }
 {
     let mut end = at;
     let mut s = 0;
@@ -318,7 +319,7 @@ fn put_pairs_of(
     work: &mut [u64],
 ) -> usize
     requires { LayersWritable input.now n t g v k at layers.now through.old way.old work.old out.old }
-    ensures { Put at (pairsText input.now n t g v k) out.old result out.new }
+    ensures { Put at (pairs_text input.now n t g v k) out.old result out.new }
 {
     let size = 2 * input.len();
     put_pairs(
@@ -353,7 +354,7 @@ fn account_loaded(
     work: &mut [u64],
 ) -> usize
     requires { LoadedFor input.now n t g v k out.old pairs.old sums.now layers.old way.old work.old }
-    ensures { Put 0 (stationText input.now n t g v k) out.old result out.new }
+    ensures { Put 0 (station_text input.now n t g v k) out.old result out.new }
 {
     let at = put_station(out, 0, v as u64, pairs[v], sums[v]);
     layered::layer(input, n, v, layers);
@@ -362,7 +363,7 @@ fn account_loaded(
 
 // The number of a refusal of loads, 0 for none, where a station is named: 6, a wrong station, comes before 9.
 fn with_station(number: u64, wrong: bool) -> u64
-    ensures { result ≡ withStation number wrong }
+    ensures { result ≡ with_station number wrong }
 {
     if wrong {
         if number == 0 {
@@ -377,7 +378,7 @@ fn with_station(number: u64, wrong: bool) -> u64
 
 // The number of a refusal of the account, 0 for none, from what loads answers.
 fn number_of(answer: LoadsAnswer, wrong: bool) -> u64
-    ensures { result ≡ withStation (loadsNumber answer) wrong }
+    ensures { result ≡ with_station (loads_number answer) wrong }
 {
     let LoadsAnswer::Refused(fault) = answer else {
         return with_station(0, wrong);
@@ -413,7 +414,7 @@ fn account_within(
 
 // The number of walks that are printed under a pair: a number above the most counts as the most.
 fn walks_of(walks: usize) -> usize
-    ensures { result ≡ min walks mostWalks }
+    ensures { result ≡ min walks most_walks }
 {
     if 8 < walks {
         return 8;

@@ -12,38 +12,38 @@ abbrev pub largest : ℕ
 largest = 18446744073709551615
 
 -- whether a code is that of a decimal digit, 48 to 57
-unfoldable pub isDigit : ℕ → Bool
-isDigit c = cond (leb 48 c) (leb c 57) false
+unfoldable pub is_digit : ℕ → Bool
+is_digit c = cond (leb 48 c) (leb c 57) false
 
 -- whether every code is that of a decimal digit
-unfoldable pub allDigits : List ℕ → Bool
-allDigits [] = true
-allDigits (c ∷ l) = cond (isDigit c) (allDigits l) false
+unfoldable pub only_digits : List ℕ → Bool
+only_digits [] = true
+only_digits (c ∷ l) = cond (is_digit c) (only_digits l) false
 
 -- whether a word is a number: digits alone, at least one
 unfoldable pub is_number : List ℕ → Bool
 is_number [] = false
-is_number (c ∷ l) = allDigits (c ∷ l)
+is_number (c ∷ l) = only_digits (c ∷ l)
 
 -- what a word says: the number whose digits it has, which may begin with zeros; every number above the largest counts as the largest
 unfoldable pub number_of : List ℕ → Word
 number_of w = cond (is_number w) (word.Number (min (value w) largest)) word.Other
 
 -- the most walks that may be asked for
-abbrev pub mostAsked : ℕ
-mostAsked = 8
+abbrev pub most_asked : ℕ
+most_asked = 8
 
 -- what two words ask for
 unfoldable pub asked : Word → Word → Request
-asked (word.Number v) (word.Number k) = cond (leb k mostAsked) (request.Account v k) request.Wrong
+asked (word.Number v) (word.Number k) = cond (leb k most_asked) (request.Account v k) request.Wrong
 asked (word.Number v) word.Other = request.Wrong
 asked word.Other b = request.Wrong
 
 -- what so many arguments ask for, the program's name among them, with two words behind it
-unfoldable pub requestOf : ℕ → List ℕ → List ℕ → Request
-requestOf count first second = cond (eqb count 3) (asked (number_of first) (number_of second)) request.Wrong
+unfoldable pub request_of : ℕ → List ℕ → List ℕ → Request
+request_of count first second = cond (eqb count 3) (asked (number_of first) (number_of second)) request.Wrong
 
 -- no more walks than may be asked for
 abbrev pub RequestWithin : Request → Type 0
-RequestWithin (request.Account v k) = k ≤ mostAsked
+RequestWithin (request.Account v k) = k ≤ most_asked
 RequestWithin request.Wrong = Unit {0}

@@ -1,18 +1,19 @@
 // The arguments of a program that accounts for a station: the station, and the most walks to print under each pair of it.
+#![tactic(auto)]
 ghost use Rattle.std.specs.Prelude.{◌+◌, ◌*◌, min, ◌≡◌};
-ghost use Rattle.asked.specs.Asked.{largest, number_of, requestOf, RequestWithin};
+ghost use Rattle.asked.specs.Asked.{largest, number_of, request_of, RequestWithin};
 
 use libc::STDERR_FILENO;
 
 // What a word says: a number, or it is none.
-#[derive(Drop)]
+#[derive(Clone, Copy)]
 pub enum Word {
     Number(usize),
     Other,
 }
 
 // What the arguments ask for: a station and a number of walks; or they are wrong.
-#[derive(Drop)]
+#[derive(Clone, Copy)]
 pub enum Request {
     Account(usize, usize),
     Wrong,
@@ -65,7 +66,7 @@ pub fn number(word: &[u8]) -> Word
 
 // What so many arguments ask for, of which two words are the first and the second behind the program's name.
 pub fn request_of(count: usize, first: &[u8], second: &[u8]) -> Request
-    ensures { result ≡ requestOf count first.now second.now }
+    ensures { result ≡ request_of count first.now second.now }
 {
     if count != ARGUMENTS {
         return Request::Wrong;

@@ -1,17 +1,18 @@
 // Document 02's operations on plans that share a band (C-22): taking a plan in and taking it out. The plan is gone through twice, slot by
 // slot: first every entry is looked at, then every entry is written.
+#![tactic(auto)]
 ghost use Rattle.std.specs.Prelude.{◌≡◌, false, ◌+◌, ◌≤◌, ltb};
-ghost use Rattle.temporal.specs.Cause.{planFault};
-ghost use Rattle.temporal.specs.Band.{takeIn, takeOut};
-ghost use Rattle.plan.specs.Fault.{callNumber};
-ghost use Rattle.band.specs.Answer.{bandOutcome};
+ghost use Rattle.temporal.specs.Cause.{plan_fault};
+ghost use Rattle.temporal.specs.Band.{take_in, take_out};
+ghost use Rattle.plan.specs.Fault.{call_number};
+ghost use Rattle.band.specs.Answer.{band_outcome};
 ghost use Rattle.band.specs.Taking.{
   refuses,
   changed,
-  refusalNumber,
-  refusedSomewhere,
-  changedTable,
-  takenBy,
+  refusal_number,
+  refused_somewhere,
+  changed_table,
+  taken_by,
   Slotted,
   Lent,
 };
@@ -19,14 +20,14 @@ ghost use Rattle.band.specs.Taking.{
 use plan::{CallFault, CheckAnswer, Fault};
 
 // What both operations answer.
-#[derive(Drop)]
+#[derive(Clone, Copy)]
 pub enum BandAnswer {
     Taken,
     Refused(Fault),
 }
 
 // Which of the two is asked: taking in, with the band's channels, or taking out.
-#[derive(Drop)]
+#[derive(Clone, Copy)]
 enum Taking {
     In(u16),
     Out,
@@ -64,7 +65,7 @@ fn changed(taking: Taking, entry: u16, more: usize) -> u16
 
 // Why an entry refuses.
 fn refusal(taking: Taking) -> CallFault
-    ensures { callNumber result ≡ refusalNumber taking }
+    ensures { call_number result ≡ refusal_number taking }
 {
     match taking {
         Taking::In(_) => CallFault::Channels,
@@ -75,7 +76,7 @@ fn refusal(taking: Taking) -> CallFault
 // Whether one of the 255 entries refuses its slot's records.
 fn refused_somewhere(plan: &[u8], taking: Taking, table: &[u16]) -> bool
     requires { Lent plan.now table.now }
-    ensures { result ≡ refusedSomewhere taking plan.now table.now }
+    ensures { result ≡ refused_somewhere taking plan.now table.now }
 {
     let mut at = 0;
     let mut j = 0;
@@ -92,8 +93,8 @@ fn refused_somewhere(plan: &[u8], taking: Taking, table: &[u16]) -> bool
 
 // Takes each slot's records into its entry, or out of it.
 fn change_all(plan: &[u8], taking: Taking, table: &mut [u16])
-    requires { Lent plan.now table.old × (refusedSomewhere taking plan.now table.old ≡ false) }
-    ensures { table.new ≡ changedTable taking plan.now table.old }
+    requires { Lent plan.now table.old × (refused_somewhere taking plan.now table.old ≡ false) }
+    ensures { table.new ≡ changed_table taking plan.now table.old }
 {
     let mut at = 0;
     let mut j = 0;
@@ -107,8 +108,8 @@ fn change_all(plan: &[u8], taking: Taking, table: &mut [u16])
 
 // The operation on an accepted plan: 8, then 15 or 16, then the work.
 fn take_accepted(plan: &[u8], n: usize, t: usize, taking: Taking, table: &mut [u16]) -> BandAnswer
-    requires { planFault plan.now n t ≡ 0 }
-    ensures { bandOutcome result table.new ≡ takenBy taking plan.now n t table.old }
+    requires { plan_fault plan.now n t ≡ 0 }
+    ensures { band_outcome result table.new ≡ taken_by taking plan.now n t table.old }
 {
     if table.len() < 255 {
         return BandAnswer::Refused(Fault::Call(CallFault::Short));
@@ -122,7 +123,7 @@ fn take_accepted(plan: &[u8], n: usize, t: usize, taking: Taking, table: &mut [u
 
 // Either operation: 1 to 5, then the rest.
 fn take(plan: &[u8], n: usize, t: usize, taking: Taking, table: &mut [u16]) -> BandAnswer
-    ensures { bandOutcome result table.new ≡ takenBy taking plan.now n t table.old }
+    ensures { band_outcome result table.new ≡ taken_by taking plan.now n t table.old }
 {
     let CheckAnswer::Refused(fault) = plan::check(plan, n, t) else {
         return take_accepted(plan, n, t, taking, table);
@@ -132,14 +133,14 @@ fn take(plan: &[u8], n: usize, t: usize, taking: Taking, table: &mut [u16]) -> B
 
 // Adds a plan's records per slot to a table of 255 entries, slot 1 first; 15 where an entry would be above c.
 pub fn take_in(plan: &[u8], n: usize, t: usize, c: u16, table: &mut [u16]) -> BandAnswer
-    ensures { bandOutcome result table.new ≡ takeIn plan.now n t c table.old }
+    ensures { band_outcome result table.new ≡ take_in plan.now n t c table.old }
 {
     take(plan, n, t, Taking::In(c), table)
 }
 
 // Subtracts them; 16 where an entry would be below 0.
 pub fn take_out(plan: &[u8], n: usize, t: usize, table: &mut [u16]) -> BandAnswer
-    ensures { bandOutcome result table.new ≡ takeOut plan.now n t table.old }
+    ensures { band_outcome result table.new ≡ take_out plan.now n t table.old }
 {
     take(plan, n, t, Taking::Out, table)
 }

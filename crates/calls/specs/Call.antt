@@ -2,22 +2,22 @@
 -- Assumes nothing.
 use Rattle.std.specs.Prelude.{ℕ, ◌||◌, ltb}
 use Rattle.temporal.specs.Plan.{Terms}
-use Rattle.temporal.specs.Cause.{first, endsCauses, pairCauses}
-use Rattle.temporal.specs.Outcome.{workSize}
-use Rattle.plan.specs.Fault.{callNumber}
+use Rattle.temporal.specs.Cause.{first, ends_causes, pair_causes}
+use Rattle.temporal.specs.Outcome.{work_size}
+use Rattle.plan.specs.Fault.{call_number}
 use Rattle.calls.specs.declared.CallCheck.{CallCheck}
 use Rattle.calls.specs.declared.CallCheck.TheVariants.{Free, Refused}
 
 -- the first of 6, 7 and 8 of a call that names a pair, lends `lent` entries where `named` are asked, and `area` entries of the work
 -- area; 0 where none holds
-unfoldable pub stationsFault : ℕ → ℕ → ℕ → ℕ → ℕ → ℕ → ℕ → ℕ
-stationsFault n t s z lent named area = first (endsCauses n s z (ltb lent named || ltb area (workSize n t)))
+unfoldable pub stations_fault : ℕ → ℕ → ℕ → ℕ → ℕ → ℕ → ℕ → ℕ
+stations_fault n t s z lent named area = first (ends_causes n s z (ltb lent named || ltb area (work_size n t)))
 
 -- the first of 12, 14, 6, 7 and 8 of it
-unfoldable pub pairCallFault : ℕ → ℕ → Terms → ℕ → ℕ → ℕ → ℕ → ℕ → ℕ
-pairCallFault n t terms s z lent named area = first (pairCauses terms n s z (ltb lent named || ltb area (workSize n t)))
+unfoldable pub pair_call_fault : ℕ → ℕ → Terms → ℕ → ℕ → ℕ → ℕ → ℕ → ℕ
+pair_call_fault n t terms s z lent named area = first (pair_causes terms n s z (ltb lent named || ltb area (work_size n t)))
 
 -- 0 where no such cause holds
-abbrev pub callCheckNumber : CallCheck → ℕ
-callCheckNumber Free = 0
-callCheckNumber (Refused f) = callNumber f
+abbrev pub call_check_number : CallCheck → ℕ
+call_check_number Free = 0
+call_check_number (Refused f) = call_number f

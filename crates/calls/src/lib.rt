@@ -1,14 +1,15 @@
 // What the operations share of a call's own causes: 12 and 14 of every one that takes the units' terms; 12, 14, 6, 7 and 8 of one on a
 // pair.
+#![tactic(auto)]
 ghost use Rattle.std.specs.Prelude.{◌≡◌, ℕ, ◌≤◌};
 ghost use Rattle.temporal.specs.Plan.{units};
-ghost use Rattle.temporal.specs.Cause.{first, wrongTurnaround, wrongKeeping, termsCauses};
-ghost use Rattle.calls.specs.Call.{stationsFault, pairCallFault, callCheckNumber};
+ghost use Rattle.temporal.specs.Cause.{first, wrong_turnaround, wrong_keeping, terms_causes};
+ghost use Rattle.calls.specs.Call.{stations_fault, pair_call_fault, call_check_number};
 
 use plan::CallFault;
 
 // Whether such a cause refuses a call.
-#[derive(Drop)]
+#[derive(Clone, Copy)]
 pub enum CallCheck {
     Free,
     Refused(CallFault),
@@ -16,7 +17,7 @@ pub enum CallCheck {
 
 // Whether the turnaround is outside 1 to 16: 12.
 fn wrong_turnaround(g: usize) -> bool
-    ensures { (h : ℕ) → result ≡ wrongTurnaround (units g h) }
+    ensures { (h : ℕ) → result ≡ wrong_turnaround (units g h) }
 {
     if g == 0 {
         return true;
@@ -26,7 +27,7 @@ fn wrong_turnaround(g: usize) -> bool
 
 // Whether a reading is kept for fewer slots than the turnaround, or for over 255: 14.
 fn wrong_keeping(g: usize, h: usize) -> bool
-    ensures { result ≡ wrongKeeping (units g h) }
+    ensures { result ≡ wrong_keeping (units g h) }
 {
     if h < g {
         return true;
@@ -36,7 +37,7 @@ fn wrong_keeping(g: usize, h: usize) -> bool
 
 // 12 and 14 of a call that says the units' terms.
 pub fn terms_call(g: usize, h: usize) -> CallCheck
-    ensures { callCheckNumber result ≡ first (termsCauses (units g h)) }
+    ensures { call_check_number result ≡ first (terms_causes (units g h)) }
 {
     if wrong_turnaround(g) {
         return CallCheck::Refused(CallFault::Turnaround);
@@ -58,7 +59,7 @@ fn stations_call(
     area: usize,
 ) -> CallCheck
     requires { (n ≤ 256) × (t ≤ 255) }
-    ensures { callCheckNumber result ≡ stationsFault n t source destination lent named area }
+    ensures { call_check_number result ≡ stations_fault n t source destination lent named area }
 {
     if n <= source {
         return CallCheck::Refused(CallFault::Station);
@@ -91,7 +92,7 @@ pub fn pair_call(
     area: usize,
 ) -> CallCheck
     requires { (n ≤ 256) × (t ≤ 255) }
-    ensures { callCheckNumber result ≡ pairCallFault n t (units g h) source destination lent named area }
+    ensures { call_check_number result ≡ pair_call_fault n t (units g h) source destination lent named area }
 {
     let CallCheck::Refused(fault) = terms_call(g, h) else {
         return stations_call(n, t, source, destination, lent, named, area);

@@ -1,5 +1,6 @@
 // What the programs that run cases share: reading a case from standard input, lending parts of tables, writing an answer
 // and tables to standard output.
+#![tactic(auto)]
 ghost use Rattle.std.specs.Prelude.{◌<◌, ◌≤◌, length};
 
 use libc::{STDIN_FILENO, STDOUT_FILENO};

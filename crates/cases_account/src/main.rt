@@ -1,6 +1,7 @@
 // The account of a station, on cases from standard input. A case is five 16-bit numbers, high byte first: the length of a label, the
 // length of the input, the turnaround, the station, and the number of walks; then the label and the input. For each case the label, a
 // colon, a line feed, and the text.
+#![tactic(auto)]
 
 // Writes the account of a station for units with a turnaround.
 fn write_account(input: &[u8], g: usize, station: usize, walks: usize, out: &mut [u8; 2598088]) {

@@ -6,6 +6,7 @@
 //
 // For each case a line: the label, a colon, a space and the number of the answer; then, behind " |", the lent table after the call.
 // A run of one value is written " i: x" or " i .. j: x"; entries of 0 are left out.
+#![tactic(auto)]
 ghost use Rattle.std.specs.Prelude.{◌<◌, ◌≤◌, length};
 
 use band::BandAnswer;

@@ -1,6 +1,7 @@
 // Operation 1, check, on cases from standard input. A case is four 16-bit numbers, high byte first: n, T, the length of
 // the plan and the length of a label; then the label and the plan. For each case a line: the label, a space and the
 // number of the answer, 0 where the plan is accepted.
+#![tactic(auto)]
 
 // One case; false where the input has no further one.
 fn run_case(head: &mut [u8], label: &mut [u8], plan: &mut [u8]) -> bool {

@@ -7,6 +7,7 @@
 // For each case a line: the label, a colon, a space, the number of the answer, and slot, hops and count, zeros where it
 // refuses; then the through table and the work area after the call, each behind " |". A run of one value is written " i: x"
 // or " i .. j: x"; entries of 0 are left out.
+#![tactic(auto)]
 use foremost::ForemostAnswer;
 
 // Writes the number of the answer, the slot, the hops and the count; zeros beside a refusal.

@@ -1,6 +1,7 @@
 // What load programs print, on cases from standard input. A case is three 16-bit numbers, high byte first: the length of a label,
 // the length of the input, and the turnaround; then the label and the input. For each case the label, a colon, a line feed, and
 // the text.
+#![tactic(auto)]
 
 // Writes the text of an input for units with a turnaround.
 fn write_text(input: &[u8], g: usize) {

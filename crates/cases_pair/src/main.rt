@@ -8,6 +8,7 @@
 // For each case a line: the label, a colon, a space and the number of the answer, then what was lent, each behind " |":
 // pair: hops, count, the through table; loads: the table of pairs and the table of loads; busiest: the station, 0 where it
 // refuses; each then the work area. A run of one value is written " i: x" or " i .. j: x"; entries of 0 are left out.
+#![tactic(auto)]
 use loads::{BusiestAnswer, LoadsAnswer};
 use pair::PairAnswer;
 

@@ -6,6 +6,7 @@
 //
 // For each case a line: the label, a colon, a space and the number of the answer; then the table of pairs, the table of loads and
 // the work area after the call, each behind " |". A run of one value is written " i: x" or " i .. j: x"; entries of 0 are left out.
+#![tactic(auto)]
 use loads::LoadsAnswer;
 
 // Writes the number of the answer.

@@ -9,6 +9,7 @@
 // the call; behind the number stand their lent entries after it, each table behind " |". A run of one value is written
 // " i: x" or " i .. j: x"; entries without a walk, 65535 hops or count 0, are left out. Entry i of row's table is
 // 3i + 1; behind the number stand the length of the part and, behind " |", its entries.
+#![tactic(auto)]
 ghost use Rattle.std.specs.Prelude.{◌<◌, ◌≤◌, length};
 
 use reach::ReachAnswer;

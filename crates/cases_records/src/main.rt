@@ -4,6 +4,7 @@
 // bytes, the length of the label.
 //
 // For each case a line: the label, a colon, then " foreign", or the station, its load and its pairs, each behind a space.
+#![tactic(auto)]
 use drawing::Reading;
 
 // Writes what is read.

@@ -6,6 +6,7 @@
 //
 // For each case a line: the label, a colon, a space, the number of the answer and the count, 0 where it refuses; then, behind
 // " |", the work area after the call. A run of one value is written " i: x" or " i .. j: x"; entries of 0 are left out.
+#![tactic(auto)]
 use sets::SetAnswer;
 
 // Writes the number of the answer and the count; zero beside a refusal.

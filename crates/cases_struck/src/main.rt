@@ -7,6 +7,7 @@
 // For each case a line: the label, a colon, a space, the number of the answer and the number of pairs, 0 where it refuses; then the
 // table of changes and the work area after the call, each behind " |". A run of one value is written " i: x" or " i .. j: x"; entries
 // of 0 are left out, and a change below 0 has a minus sign.
+#![tactic(auto)]
 ghost use Rattle.std.specs.Prelude.{◌<◌, ◌≤◌, length};
 
 use struck::StruckAnswer;

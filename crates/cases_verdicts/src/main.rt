@@ -7,6 +7,7 @@
 //
 // For each case a line: the label, a colon, a space, the number of the answer and, where it is 0, the verdict in a word; then,
 // behind " |", the work area after the call. A run of one value is written " i: x" or " i .. j: x"; entries of 0 are left out.
+#![tactic(auto)]
 use judging::Judgement;
 use verdicts::VerdictAnswer;
 

@@ -9,6 +9,7 @@
 // For each case a line with the label, then for each call a line: "path" and the hops, "none", "last", or "refused" and the
 // number; behind " |" all entries of the trace's way buffer; behind " |" the runs of the lent work area but those of 0. The
 // lent work area holds the mark before each call.
+#![tactic(auto)]
 use listing::WayAnswer;
 
 // Fills a way buffer from bytes.

@@ -10,9 +10,9 @@ use mir.Val.{SFits, to_z, of_z}
 use mir.ValLaws.{to_z-of_z}
 use Rattle.temporal.specs.Lists.{below}
 use Rattle.temporal.specs.Outcome.{over}
-use Rattle.walks.proofs.StruckLoads.{difference-fits}
-use Rattle.changes.specs.Changes.{Writable, IsLoad, Subtractable, loadAt, differenceAt, withZeros}
-use Rattle.changes.proofs.WritingLaws.{Writing, writing-behind, writing_more, writing-all, map-one}
+use Rattle.walks.proofs.StruckLoads.{difference_fits}
+use Rattle.changes.specs.Changes.{Writable, IsLoad, Subtractable, load_at, difference_at, with_zeros}
+use Rattle.changes.proofs.WritingLaws.{Writing, writing_behind, writing_more, writing_all, map_one}
 
 -- a load fits 64 bits with a sign
 pub load_fits : (a : ℕ) → a < 2 ^ 49 → SFits w64 (pos a)
@@ -23,8 +23,8 @@ load_read : (a : ℕ) → a < 2 ^ 49 → to_z w64 a ≡ pos a
 load_read a h = to_z-of_z w64 (pos a) (load_fits a h)
 
 -- the difference of two loads fits too
-pub loads-fit : (x y : ℤ) → IsLoad x → IsLoad y → SFits w64 (x -ℤ y)
-loads-fit x y g h = rw (g.same, h.same) (difference-fits g.load h.load g.small h.small)
+pub loads_fit : (x y : ℤ) → IsLoad x → IsLoad y → SFits w64 (x -ℤ y)
+loads_fit x y g h = rw (g.same, h.same) (difference_fits g.load h.load g.small h.small)
 
 module _ (loads : List ℕ) (at n : ℕ) (old : List ℤ) (v : ℕ) (h : v < n) where
   module _ (pre : Writable loads at n old) where
@@ -35,38 +35,38 @@ module _ (loads : List ℕ) (at n : ℕ) (old : List ℤ) (v : ℕ) (h : v < n) 
         record { load = get_or loads (at + v) 0; same = load_read (get_or loads (at + v) 0) small; small = small }
 
     -- one load more
-    pub load-more :
-        (table : List ℤ) → Writing (loadAt loads at) n old v table →
-        Writing (loadAt loads at) n old (v + 1) (set table v (to_z w64 (get_or loads (at + v) 0)))
-    load-more table w =
-        rw (load_read (get_or loads (at + v) 0) (pre.small v h)) (writing_more (loadAt loads at) n old v table pre.changes-room h w)
+    pub load_more :
+        (table : List ℤ) → Writing (load_at loads at) n old v table →
+        Writing (load_at loads at) n old (v + 1) (set table v (to_z w64 (get_or loads (at + v) 0)))
+    load_more table w =
+        rw (load_read (get_or loads (at + v) 0) (pre.small v h)) (writing_more (load_at loads at) n old v table pre.changes_room h w)
 
-  module _ (pre : Subtractable loads at n old) (table : List ℤ) (w : Writing (differenceAt loads at old) n old v table) where
+  module _ (pre : Subtractable loads at n old) (table : List ℤ) (w : Writing (difference_at loads at old) n old v table) where
     -- an entry as it is read
     entry_read : to_z w64 (of_z w64 (get_or table v (pos 0))) ≡ get_or old v (pos 0)
     entry_read =
         let e = pre.entries v h in
-        ap (λ k. to_z w64 (of_z w64 k)) (writing-behind (differenceAt loads at old) n old v table (pos 0) w ∙ e.same)
+        ap (λ k. to_z w64 (of_z w64 k)) (writing_behind (difference_at loads at old) n old v table (pos 0) w ∙ e.same)
         ∙ load_read e.load e.small ∙ sym e.same
 
     -- it is a load
-    pub entry-is : IsLoad (to_z w64 (of_z w64 (get_or table v (pos 0))))
-    entry-is = subst IsLoad (sym entry_read) (pre.entries v h)
+    pub entry_is : IsLoad (to_z w64 (of_z w64 (get_or table v (pos 0))))
+    entry_is = subst IsLoad (sym entry_read) (pre.entries v h)
 
     -- one difference more
-    pub difference-more : Writing (differenceAt loads at old) n old (v + 1)
+    pub difference_more : Writing (difference_at loads at old) n old (v + 1)
         (set table v (to_z w64 (of_z w64 (to_z w64 (get_or loads (at + v) 0) -ℤ to_z w64 (of_z w64 (get_or table v (pos 0)))))))
-    difference-more =
-        let stored = to_z-of_z w64 _ (loads-fit _ _ (load_is pre.writable) entry-is) in
-        subst (λ k. Writing (differenceAt loads at old) n old (v + 1) (set table v k))
+    difference_more =
+        let stored = to_z-of_z w64 _ (loads_fit _ _ (load_is pre.writable) entry_is) in
+        subst (λ k. Writing (difference_at loads at old) n old (v + 1) (set table v k))
         (sym (stored ∙ ap₂ ◌-ℤ◌ (load_read (get_or loads (at + v) 0) (pre.writable.small v h)) entry_read))
-        (writing_more (differenceAt loads at old) n old v table pre.writable.changes-room h w)
+        (writing_more (difference_at loads at old) n old v table pre.writable.changes_room h w)
 
 -- the value of every entry that is cleared
-abbrev pub zeroAt : ℕ → ℤ
-zeroAt v = pos 0
+abbrev pub zero_at : ℕ → ℤ
+zero_at v = pos 0
 
 -- at last all entries are cleared
-pub zeros-all : (n : ℕ) (old : List ℤ) (v : ℕ) (table : List ℤ) → n ≤ v → Writing zeroAt n old v table → table ≡ withZeros n old
-unfolding withZeros below
-zeros-all n old v table h w = writing-all zeroAt n old v table h w ∙ ap (λ l. over l old) (map-one (pos 0) 0 n)
+pub zeros_all : (n : ℕ) (old : List ℤ) (v : ℕ) (table : List ℤ) → n ≤ v → Writing zero_at n old v table → table ≡ with_zeros n old
+unfolding with_zeros below
+zeros_all n old v table h w = writing_all zero_at n old v table h w ∙ ap (λ l. over l old) (map_one (pos 0) 0 n)

@@ -7,7 +7,7 @@ use lib.ListN.{length, get_or, set, drop, replicate, length-set, length-map}
 use lib.Seq.{set_at, append_snoc, drop-cons, get_or-append-add, get_or-drop}
 use Rattle.temporal.specs.Lists.{from, below}
 use Rattle.temporal.specs.Outcome.{over}
-use Rattle.lists.proofs.ListLaws.{length-below}
+use Rattle.lists.proofs.ListLaws.{length_below}
 
 -- the first v of n entries are written
 pub record Writing {A : Type 0} (f : ℕ → A) (n : ℕ) (old : List A) (v : ℕ) (table : List A) : Type 0 where
@@ -17,38 +17,38 @@ pub record Writing {A : Type 0} (f : ℕ → A) (n : ℕ) (old : List A) (v : �
 
 module _ {A : Type 0} (f : ℕ → A) where
   -- one place more at the end
-  map-from-next : (i k : ℕ) → map f (from i (suc k)) ≡ map f (from i k) ++ (f (i + k) ∷ [])
+  map_from_next : (i k : ℕ) → map f (from i (suc k)) ≡ map f (from i k) ++ (f (i + k) ∷ [])
   unfolding from
-  map-from-next i zero = ap (λ j. f j ∷ []) (omega arith)
-  map-from-next i (suc k) =
+  map_from_next i zero = ap (λ j. f j ∷ []) (omega arith)
+  map_from_next i (suc k) =
       let place : suc i + k ≡ i + suc k = omega arith in
-      ap (◌∷◌ (f i)) (map-from-next (suc i) k ∙ ap (λ j. map f (from (suc i) k) ++ (f j ∷ [])) place)
+      ap (◌∷◌ (f i)) (map_from_next (suc i) k ∙ ap (λ j. map f (from (suc i) k) ++ (f j ∷ [])) place)
 
-  map-below-next : (k : ℕ) → map f (below (suc k)) ≡ map f (below k) ++ (f k ∷ [])
+  map_below_next : (k : ℕ) → map f (below (suc k)) ≡ map f (below k) ++ (f k ∷ [])
   unfolding below
-  map-below-next k =
+  map_below_next k =
       let place : 0 + k ≡ k = omega arith in
-      map-from-next 0 k ∙ ap (λ j. map f (from 0 k) ++ (f j ∷ [])) place
+      map_from_next 0 k ∙ ap (λ j. map f (from 0 k) ++ (f j ∷ [])) place
 
-  pub length-made : (k : ℕ) → length (map f (below k)) ≡ k
-  length-made k = length-map (below k) f ∙ length-below k
+  pub length_made : (k : ℕ) → length (map f (below k)) ≡ k
+  length_made k = length-map (below k) f ∙ length_below k
 
   -- the entry behind those that are written
-  over-next :
+  over_next :
       (k : ℕ) (old : List A) → k < length old →
       set (over (map f (below k)) old) k (f k) ≡ over (map f (below (suc k))) old
   unfolding over
-  over-next k old h =
-      ap (λ l. set (map f (below k) ++ l) k (f k)) (ap (λ j. drop j old) (length-made k) ∙ drop-cons old k (f k) h)
-      ∙ set_at (map f (below k)) (get_or old k (f k)) (drop (suc k) old) (f k) k (length-made k)
+  over_next k old h =
+      ap (λ l. set (map f (below k) ++ l) k (f k)) (ap (λ j. drop j old) (length_made k) ∙ drop-cons old k (f k) h)
+      ∙ set_at (map f (below k)) (get_or old k (f k)) (drop (suc k) old) (f k) k (length_made k)
       ∙ sym (append_snoc (map f (below k)) (f k) (drop (suc k) old))
-      ∙ ap₂ ◌++◌ (sym (map-below-next k)) (ap (λ j. drop j old) (sym (length-made (suc k))))
+      ∙ ap₂ ◌++◌ (sym (map_below_next k)) (ap (λ j. drop j old) (sym (length_made (suc k))))
 
   -- it is the old one
-  over-behind : (k : ℕ) (old : List A) (d : A) → get_or (over (map f (below k)) old) k d ≡ get_or old k d
+  over_behind : (k : ℕ) (old : List A) (d : A) → get_or (over (map f (below k)) old) k d ≡ get_or old k d
   unfolding over
-  over-behind k old d =
-      let place : length (map f (below k)) + 0 ≡ k = omega (arith, length-made k) in
+  over_behind k old d =
+      let place : length (map f (below k)) + 0 ≡ k = omega (arith, length_made k) in
       ap (λ j. get_or (over (map f (below k)) old) j d) (sym place)
       ∙ get_or-append-add (map f (below k)) (drop (length (map f (below k))) old) 0 d
       ∙ get_or-drop (length (map f (below k))) old 0 d
@@ -56,13 +56,13 @@ module _ {A : Type 0} (f : ℕ → A) where
 
   module _ (n : ℕ) (old : List A) where
     -- at first no entry is written
-    pub writing-none : Writing f n old 0 old
+    pub writing_none : Writing f n old 0 old
     unfolding over below from
-    writing-none = record { within = omega arith; same_length = refl; so_far = refl }
+    writing_none = record { within = omega arith; same_length = refl; so_far = refl }
 
     -- an entry that is not written is the old one
-    pub writing-behind : (v : ℕ) (table : List A) (d : A) → Writing f n old v table → get_or table v d ≡ get_or old v d
-    writing-behind v table d w = ap (λ l. get_or l v d) w.so_far ∙ over-behind v old d
+    pub writing_behind : (v : ℕ) (table : List A) (d : A) → Writing f n old v table → get_or table v d ≡ get_or old v d
+    writing_behind v table d w = ap (λ l. get_or l v d) w.so_far ∙ over_behind v old d
 
     -- one entry more
     pub writing_more :
@@ -73,17 +73,17 @@ module _ {A : Type 0} (f : ℕ → A) where
         record {
           within = omega arith;
           same_length = length-set table v (f v) ∙ w.same_length;
-          so_far = rw next (ap (λ l. set l v (f v)) w.so_far ∙ over-next v old (omega arith));
+          so_far = rw next (ap (λ l. set l v (f v)) w.so_far ∙ over_next v old (omega arith));
         }
 
     -- at last all are
-    pub writing-all : (v : ℕ) (table : List A) → n ≤ v → Writing f n old v table → table ≡ over (map f (below n)) old
-    writing-all v table h w =
+    pub writing_all : (v : ℕ) (table : List A) → n ≤ v → Writing f n old v table → table ≡ over (map f (below n)) old
+    writing_all v table h w =
         let last : v ≡ n = omega (arith, w.within) in
         w.so_far ∙ ap (λ k. over (map f (below k)) old) last
 
 -- one value everywhere
-pub map-one : {A : Type 0} (x : A) (i k : ℕ) → map (λ _. x) (from i k) ≡ replicate k x
+pub map_one : {A : Type 0} (x : A) (i k : ℕ) → map (λ _. x) (from i k) ≡ replicate k x
 unfolding from
-map-one x i zero = refl
-map-one x i (suc k) = ap (◌∷◌ x) (map-one x (suc i) k)
+map_one x i zero = refl
+map_one x i (suc k) = ap (◌∷◌ x) (map_one x (suc i) k)

@@ -6,8 +6,8 @@ use Rattle.temporal.specs.Outcome.{over}
 
 -- what writing n loads from a place on asks: room for them, and that each is below 2^49
 pub record Writable (loads : List ℕ) (at n : ℕ) (changes : List ℤ) : Type 0 where
-  pub loads-room : at + n ≤ length loads
-  pub changes-room : n ≤ length changes
+  pub loads_room : at + n ≤ length loads
+  pub changes_room : n ≤ length changes
   pub small : (v : ℕ) → v < n → get_or loads (at + v) 0 < 2 ^ 49
 
 -- an entry that is a load below 2^49
@@ -22,21 +22,21 @@ pub record Subtractable (loads : List ℕ) (at n : ℕ) (changes : List ℤ) : T
   pub entries : (v : ℕ) → v < n → IsLoad (get_or changes v (pos 0))
 
 -- the load v places behind a place, as a number with sign
-abbrev pub loadAt : List ℕ → ℕ → ℕ → ℤ
-loadAt loads at v = pos (get_or loads (at + v) 0)
+abbrev pub load_at : List ℕ → ℕ → ℕ → ℤ
+load_at loads at v = pos (get_or loads (at + v) 0)
 
 -- that load less the entry at v
-abbrev pub differenceAt : List ℕ → ℕ → List ℤ → ℕ → ℤ
-differenceAt loads at old v = loadAt loads at v -ℤ get_or old v (pos 0)
+abbrev pub difference_at : List ℕ → ℕ → List ℤ → ℕ → ℤ
+difference_at loads at old v = load_at loads at v -ℤ get_or old v (pos 0)
 
 -- the first n entries become the loads from a place on
-unfoldable pub withLoads : List ℕ → ℕ → ℕ → List ℤ → List ℤ
-withLoads loads at n old = over (map (loadAt loads at) (below n)) old
+unfoldable pub with_loads : List ℕ → ℕ → ℕ → List ℤ → List ℤ
+with_loads loads at n old = over (map (load_at loads at) (below n)) old
 
 -- each of the first n entries becomes the load at its place less the entry
-unfoldable pub withDifferences : List ℕ → ℕ → ℕ → List ℤ → List ℤ
-withDifferences loads at n old = over (map (differenceAt loads at old) (below n)) old
+unfoldable pub with_differences : List ℕ → ℕ → ℕ → List ℤ → List ℤ
+with_differences loads at n old = over (map (difference_at loads at old) (below n)) old
 
 -- the first n entries become 0
-unfoldable pub withZeros : ℕ → List ℤ → List ℤ
-withZeros n old = over (replicate n (pos 0)) old
+unfoldable pub with_zeros : ℕ → List ℤ → List ℤ
+with_zeros n old = over (replicate n (pos 0)) old

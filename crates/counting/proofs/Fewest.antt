@@ -13,10 +13,10 @@ use borrow.Author.Tests.{ltb-true, ltb-false}
 use lib.Dec.{ltb}
 use lib.ListN.{length}
 use Rattle.temporal.specs.Plan.{Plan, Appearance}
-use Rattle.temporal.specs.Walk.{endsIn}
-use Rattle.temporal.specs.Shortest.{ofHops, shortest, hops, count}
-use Rattle.lists.proofs.ListLaws.{no-member-empty, length-zero}
-use Rattle.walks.proofs.ShortestLaws.{Bounded, Found, nowhere, at-hops, found, hops-empty, hops-least, mem-ofHops}
+use Rattle.temporal.specs.Walk.{ends_in}
+use Rattle.temporal.specs.Shortest.{of_hops, shortest, hops, count}
+use Rattle.lists.proofs.ListLaws.{no_member_empty, length_zero}
+use Rattle.walks.proofs.ShortestLaws.{Bounded, Found, nowhere, at_hops, found, hops_empty, hops_least, mem_of_hops_law}
 use Rattle.counting.proofs.Weights.{total, everywhere, counts}
 
 -- h is the fewest k at which the sequence N is not 0; 65535 where it is 0 at every k
@@ -36,16 +36,16 @@ delayed N zero = 0
 delayed N (suc k) = N k
 
 -- a sequence that is 0 everywhere has no fewest
-pub fewest-none : {N : ℕ → ℕ} → ((k : ℕ) → N k ≡ 0) → Fewest N 65535
-fewest-none z = record { bound = omega arith; sooner = λ k h. z k; some = λ h. absurd (omega arith); never = λ e. z }
+pub fewest_none : {N : ℕ → ℕ} → ((k : ℕ) → N k ≡ 0) → Fewest N 65535
+fewest_none z = record { bound = omega arith; sooner = λ k h. z k; some = λ h. absurd (omega arith); never = λ e. z }
 
 -- a k at which a sequence is not 0, and is 0 before, is the fewest
-pub fewest-intro : {N : ℕ → ℕ} {h : ℕ} → h < 65535 → 0 < N h → ((k : ℕ) → k < h → N k ≡ 0) → Fewest N h
-fewest-intro g n z = record { bound = omega arith; sooner = z; some = λ h. n; never = λ e. absurd (omega arith) }
+pub fewest_intro : {N : ℕ → ℕ} {h : ℕ} → h < 65535 → 0 < N h → ((k : ℕ) → k < h → N k ≡ 0) → Fewest N h
+fewest_intro g n z = record { bound = omega arith; sooner = z; some = λ h. n; never = λ e. absurd (omega arith) }
 
 -- sequences that agree have the same fewest
-pub fewest-ext : {N M : ℕ → ℕ} {h : ℕ} → ((k : ℕ) → N k ≡ M k) → Fewest N h → Fewest M h
-fewest-ext {N} {M} {h} e f =
+pub fewest_ext : {N M : ℕ → ℕ} {h : ℕ} → ((k : ℕ) → N k ≡ M k) → Fewest N h → Fewest M h
+fewest_ext {N} {M} {h} e f =
     record {
       bound = f.bound;
       sooner = λ k g. sym (e k) ∙ f.sooner k g;
@@ -54,20 +54,20 @@ fewest-ext {N} {M} {h} e f =
     }
 
 -- a sequence that is nowhere greater has no smaller fewest
-pub fewest-less : {N M : ℕ → ℕ} {h l : ℕ} → ((k : ℕ) → N k ≤ M k) → Fewest N h → Fewest M l → l ≤ h
-fewest-less {N} {M} {h} {l} less f g =
+pub fewest_less : {N M : ℕ → ℕ} {h l : ℕ} → ((k : ℕ) → N k ≤ M k) → Fewest N h → Fewest M l → l ≤ h
+fewest_less {N} {M} {h} {l} less f g =
     by_cases (dec_le l h) (λ q. q)
     (λ q. absurd (omega (arith, less h, f.some (omega arith), g.sooner h (omega arith))))
 
 -- a sequence has one fewest
-pub fewest-unique : {N : ℕ → ℕ} {h l : ℕ} → Fewest N h → Fewest N l → h ≡ l
-fewest-unique f g =
-    omega (arith, fewest-less (λ k. omega arith) f g, fewest-less (λ k. omega arith) g f)
+pub fewest_unique : {N : ℕ → ℕ} {h l : ℕ} → Fewest N h → Fewest N l → h ≡ l
+fewest_unique f g =
+    omega (arith, fewest_less (λ k. omega arith) f g, fewest_less (λ k. omega arith) g f)
 
 -- the fewest of a sum is the smaller of the two
-pub fewest-plus : {N M : ℕ → ℕ} {h l : ℕ} → Fewest N h → Fewest M l → Fewest (plus N M) (min h l)
+pub fewest_plus : {N M : ℕ → ℕ} {h l : ℕ} → Fewest N h → Fewest M l → Fewest (plus N M) (min h l)
 unfolding plus
-fewest-plus {N} {M} {h} {l} f g =
+fewest_plus {N} {M} {h} {l} f g =
     record {
       bound = omega arith;
       sooner = λ k q. omega (arith, f.sooner k (omega arith), g.sooner k (omega arith));
@@ -78,57 +78,57 @@ fewest-plus {N} {M} {h} {l} f g =
     }
 
 -- one hop later the fewest is one more
-pub fewest-delayed : {N : ℕ → ℕ} {h : ℕ} → Fewest N h → h + 1 < 65535 → Fewest (delayed N) (h + 1)
+pub fewest_delayed : {N : ℕ → ℕ} {h : ℕ} → Fewest N h → h + 1 < 65535 → Fewest (delayed N) (h + 1)
 unfolding delayed
-fewest-delayed {N} {h} f g = fewest-intro g (rw add-one (f.some (omega arith))) before
+fewest_delayed {N} {h} f g = fewest_intro g (rw add-one (f.some (omega arith))) before
   where
     before : (k : ℕ) → k < h + 1 → delayed N k ≡ 0
     before zero q = refl
     before (suc k) q = f.sooner k (omega arith)
 
 -- one hop later none stays none
-pub fewest-delayed-none : {N : ℕ → ℕ} → Fewest N 65535 → Fewest (delayed N) 65535
+pub fewest_delayed_none : {N : ℕ → ℕ} → Fewest N 65535 → Fewest (delayed N) 65535
 unfolding delayed
-fewest-delayed-none {N} f = fewest-none always
+fewest_delayed_none {N} f = fewest_none always
   where
     always : (k : ℕ) → delayed N k ≡ 0
     always zero = refl
     always (suc k) = f.never refl k
 
 -- a sequence that is nowhere greater is 0 before the fewest
-pub less-sooner : {M m : ℕ → ℕ} {l : ℕ} → Fewest M l → ((k : ℕ) → m k ≤ M k) → (k : ℕ) → k < l → m k ≡ 0
-less-sooner f less k q = omega (arith, less k, f.sooner k q)
+pub less_sooner : {M m : ℕ → ℕ} {l : ℕ} → Fewest M l → ((k : ℕ) → m k ≤ M k) → (k : ℕ) → k < l → m k ≡ 0
+less_sooner f less k q = omega (arith, less k, f.sooner k q)
 
 -- the sum of two sequences n and m that are nowhere greater than N and M
 module _ (n m : ℕ → ℕ) where
   -- at the fewest of N, where that is before the fewest of M, the sum is n
-  pub plus-first : {M : ℕ → ℕ} {h l : ℕ} → Fewest M l → ((k : ℕ) → m k ≤ M k) → h < l → plus n m h ≡ n h
+  pub plus_first : {M : ℕ → ℕ} {h l : ℕ} → Fewest M l → ((k : ℕ) → m k ≤ M k) → h < l → plus n m h ≡ n h
   unfolding plus
-  plus-first {h = h} f less q = omega (arith, less-sooner f less h q)
+  plus_first {h = h} f less q = omega (arith, less_sooner f less h q)
 
   -- at the fewest of M, where that is before the fewest of N, the sum is m
-  pub plus-second : {N : ℕ → ℕ} {h l : ℕ} → Fewest N h → ((k : ℕ) → n k ≤ N k) → l < h → plus n m l ≡ m l
+  pub plus_second : {N : ℕ → ℕ} {h l : ℕ} → Fewest N h → ((k : ℕ) → n k ≤ N k) → l < h → plus n m l ≡ m l
   unfolding plus
-  plus-second {l = l} f less q = omega (arith, less-sooner f less l q)
+  plus_second {l = l} f less q = omega (arith, less_sooner f less l q)
 
   -- at the fewest of the sum of N and M the sum is that of the one with fewer, or of both where they have as many
-  pub plus-fewest : {N M : ℕ → ℕ} {h l : ℕ} → Fewest N h → Fewest M l
+  pub plus_fewest : {N M : ℕ → ℕ} {h l : ℕ} → Fewest N h → Fewest M l
       → ((k : ℕ) → n k ≤ N k)
       → ((k : ℕ) → m k ≤ M k)
       → plus n m (min h l) ≡ cond (ltb h l) (n h) (cond (ltb l h) (m l) (n h + m l))
   unfolding plus
-  plus-fewest {h = h} {l = l} f g left right = go (ltb h l) refl (ltb l h) refl
+  plus_fewest {h = h} {l = l} f g left right = go (ltb h l) refl (ltb l h) refl
     where
       go : (b : Bool) → ltb h l ≡ b → (c : Bool) → ltb l h ≡ c
           → plus n m (min h l) ≡ cond b (n h) (cond c (m l) (n h + m l))
       go true q c r =
           let less = ltb-true h l q in
           let e : min h l ≡ h = omega arith in
-          rw e (plus-first g right less)
+          rw e (plus_first g right less)
       go false q true r =
           let less = ltb-true l h r in
           let e : min h l ≡ l = omega arith in
-          rw e (plus-second f left less)
+          rw e (plus_second f left less)
       go false q false r =
           let one = ltb-false h l q in
           let other = ltb-false l h r in
@@ -138,40 +138,40 @@ module _ (n m : ℕ → ℕ) where
 
 module _ {p : Plan} {u : List ℕ → Bool} (b : Bounded p u) where
   -- where no list passes, none of k positions does
-  no-hops : ((w : List ℕ) → u w ≡ true → ⊥) → (k : ℕ) → ofHops p u k ≡ []
-  no-hops n k = no-member-empty (ofHops p u k) (λ w m. n w ((mem-ofHops p u k).0 m).2)
+  no_hops : ((w : List ℕ) → u w ≡ true → ⊥) → (k : ℕ) → of_hops p u k ≡ []
+  no_hops n k = no_member_empty (of_hops p u k) (λ w m. n w ((mem_of_hops_law p u k).0 m).2)
 
   -- the shortest lists are those of as many positions as the shortest have
-  pub shortest-ofHops : shortest p u ≡ ofHops p u (hops (shortest p u))
-  shortest-ofHops = go (found b)
+  pub shortest_of_hops_law : shortest p u ≡ of_hops p u (hops (shortest p u))
+  shortest_of_hops_law = go (found b)
     where
-      go : Found p u → shortest p u ≡ ofHops p u (hops (shortest p u))
-      go (nowhere e n) = e ∙ sym (no-hops n (hops (shortest p u)))
-      go (at-hops k h e) = e ∙ ap (ofHops p u) (sym (hops-least h))
+      go : Found p u → shortest p u ≡ of_hops p u (hops (shortest p u))
+      go (nowhere e n) = e ∙ sym (no_hops n (hops (shortest p u)))
+      go (at_hops k h e) = e ∙ ap (of_hops p u) (sym (hops_least h))
 
   -- the hops of the shortest lists are the fewest of the counts
-  fewest-ofHops : p.slots < 65535 → Fewest (λ k. count (ofHops p u k)) (hops (shortest p u))
-  fewest-ofHops g = go (found b)
+  fewest_of_hops_law : p.slots < 65535 → Fewest (λ k. count (of_hops p u k)) (hops (shortest p u))
+  fewest_of_hops_law g = go (found b)
     where
-      go : Found p u → Fewest (λ k. count (ofHops p u k)) (hops (shortest p u))
-      go (nowhere e n) = rw (hops-empty (shortest p u) e) (fewest-none (λ k. ap length (no-hops n k)))
-      go (at-hops k h e) =
+      go : Found p u → Fewest (λ k. count (of_hops p u k)) (hops (shortest p u))
+      go (nowhere e n) = rw (hops_empty (shortest p u) e) (fewest_none (λ k. ap length (no_hops n k)))
+      go (at_hops k h e) =
           let fits = h.fits in
-          let some_walk : count (ofHops p u k) ≡ 0 → ⊥ = λ z. h.some ((length-zero (ofHops p u k)).0 z) in
-          rw (hops-least h)
-          (fewest-intro (omega arith) (omega arith) (λ j q. ap length (h.sooner j q)))
+          let some_walk : count (of_hops p u k) ≡ 0 → ⊥ = λ z. h.some ((length_zero (of_hops p u k)).0 z) in
+          rw (hops_least h)
+          (fewest_intro (omega arith) (omega arith) (λ j q. ap length (h.sooner j q)))
 
-module _ (p : Plan) (x : Appearance) (t : Appearance → Bool) (b : Bounded p (endsIn p x t)) where
+module _ (p : Plan) (x : Appearance) (t : Appearance → Bool) (b : Bounded p (ends_in p x t)) where
   -- the hops of the shortest walks that end in a test are the fewest hops at which the total is not 0
-  pub fewest-shortest : p.slots < 65535
-      → Fewest (total p everywhere x (λ y. cond (t y) 1 0)) (hops (shortest p (endsIn p x t)))
-  fewest-shortest g = fewest-ext (counts p t x) (fewest-ofHops b g)
+  pub fewest_shortest : p.slots < 65535
+      → Fewest (total p everywhere x (λ y. cond (t y) 1 0)) (hops (shortest p (ends_in p x t)))
+  fewest_shortest g = fewest_ext (counts p t x) (fewest_of_hops_law b g)
 
   -- the shortest walks that end in a test are as many as the total at their hops
-  pub count-shortest : count (shortest p (endsIn p x t))
-      ≡ total p everywhere x (λ y. cond (t y) 1 0) (hops (shortest p (endsIn p x t)))
-  count-shortest = ap length (shortest-ofHops b) ∙ counts p t x (hops (shortest p (endsIn p x t)))
+  pub count_shortest : count (shortest p (ends_in p x t))
+      ≡ total p everywhere x (λ y. cond (t y) 1 0) (hops (shortest p (ends_in p x t)))
+  count_shortest = ap length (shortest_of_hops_law b) ∙ counts p t x (hops (shortest p (ends_in p x t)))
 
   -- there is no such walk where the hops are 65535
-  pub count_none : p.slots < 65535 → hops (shortest p (endsIn p x t)) ≡ 65535 → count (shortest p (endsIn p x t)) ≡ 0
-  count_none g e = count-shortest ∙ (fewest-shortest g).never e (hops (shortest p (endsIn p x t)))
+  pub count_none : p.slots < 65535 → hops (shortest p (ends_in p x t)) ≡ 65535 → count (shortest p (ends_in p x t)) ≡ 0
+  count_none g e = count_shortest ∙ (fewest_shortest g).never e (hops (shortest p (ends_in p x t)))

@@ -9,24 +9,24 @@ use mathlib.Core.Logic.{⊎_elim, ◌↔◌, ◌≢◌}
 use borrow.Author.Tests.{ltb-true, ltb-false, lt-ltb, le-ltb}
 use lib.ListN.{get_or, replicate}
 use Rattle.temporal.specs.Lists.{sum, below}
-use Rattle.temporal.specs.Cause.{cause, first, unless, planCauses}
+use Rattle.temporal.specs.Cause.{cause, first, unless, plan_causes}
 use Rattle.temporal.specs.Outcome.{Outcome, entered, short}
 use Rattle.temporal.specs.Cursor.{same_numbers}
-use Rattle.temporal.specs.Band.{recordsIn, bandSlots, takenIn, takenOut, overBand, underBand, takeIn, takeOut}
-use Rattle.lists.proofs.BufferLaws.{written, same-numbers}
+use Rattle.temporal.specs.Band.{records_in, band_slots, taken_in, taken_out, over_band, under_band, take_in, take_out}
+use Rattle.lists.proofs.BufferLaws.{written, same_numbers_law}
 use Rattle.temporal.proofs.CauseLaws.{
-  first-append-none,
-  first-append-some,
-  first-append-right,
+  first_append_none,
+  first_append_some,
+  first_append_right,
   first_head,
   first_tail,
-  first-true,
-  first-false,
+  first_true,
+  first_false,
 }
-use Rattle.walks.proofs.EnteredLaws.{unless-some, no-first, no-cause}
-use Rattle.lists.proofs.ListLaws.{true-or-false, not-both, by-member, mem_below, any-true, any_false}
-use Rattle.walks.proofs.NumberLaws.{none_has, cause-has, append-has, plan-has}
-use Rattle.plan.specs.Fault.{planNumber, callNumber}
+use Rattle.walks.proofs.EnteredLaws.{unless_some, no_first, no_cause}
+use Rattle.lists.proofs.ListLaws.{true_or_false, not_both, by_member, mem_below, any_true, any_false}
+use Rattle.walks.proofs.NumberLaws.{none_has, cause_has, append_has, plan_has}
+use Rattle.plan.specs.Fault.{plan_number, call_number}
 use Rattle.plan.specs.declared.PlanFault.{PlanFault}
 use Rattle.plan.specs.declared.PlanFault.TheVariants as plan-fault
 use Rattle.plan.specs.declared.CallFault.{CallFault}
@@ -34,19 +34,19 @@ use Rattle.plan.specs.declared.CallFault.TheVariants as call-fault
 use Rattle.plan.specs.declared.Fault.{Fault}
 use Rattle.plan.specs.declared.Fault.TheVariants as fault
 use Rattle.plan.proofs.Answers.{fault-number-within}
-use Rattle.band.specs.Answer.{bandNumber, bandOutcome}
+use Rattle.band.specs.Answer.{band_number, band_outcome}
 use Rattle.band.specs.declared.BandAnswer.{BandAnswer}
 use Rattle.band.specs.declared.BandAnswer.TheVariants.{Taken, Refused}
 use Rattle.demands.specs.Band.{
   BandCall,
   BandEvent,
   took_in,
-  took-out,
+  took_out,
   without,
-  inAfterIn,
-  inAfterOut,
+  in_after_in,
+  in_after_out,
   BandRun,
-  usedBy,
+  used_by,
   Used,
   earlier,
   Passes,
@@ -62,39 +62,39 @@ none_first = refl
 -- ---- numbers that some answer has
 
 abbrev Named : ℕ → Type 0
-Named k = (r : BandAnswer) × (bandNumber r ≡ k)
+Named k = (r : BandAnswer) × (band_number r ≡ k)
 
-no-fault : Named 0
-no-fault = (Taken, refl)
+no_fault : Named 0
+no_fault = (Taken, refl)
 
-named-plan : (f : PlanFault) → Named (planNumber f)
-named-plan f = (Refused (fault.Plan f), refl)
+named_plan : (f : PlanFault) → Named (plan_number f)
+named_plan f = (Refused (fault.Plan f), refl)
 
-named-call : (f : CallFault) → Named (callNumber f)
-named-call f = (Refused (fault.Call f), refl)
+named_call : (f : CallFault) → Named (call_number f)
+named_call f = (Refused (fault.Call f), refl)
 
 -- ---- one call: 1 to 5 and 8, then its own cause, then the work
 
 module _ (k : BandCall) (table : List ℕ) (m : ℕ) (large : 9 ≤ m) (holds : Bool) (new : List ℕ) where
   abbrev plan : List ℕ
-  plan = planCauses k.bytes k.stations k.slots
+  plan = plan_causes k.bytes k.stations k.slots
 
   abbrev early : List ℕ
-  early = plan ++ (cause 8 (short bandSlots table) ∷ [])
+  early = plan ++ (cause 8 (short band_slots table) ∷ [])
 
   abbrev causes : List ℕ
-  causes = plan ++ (cause 8 (short bandSlots table) ∷ cause (suc m) holds ∷ [])
+  causes = plan ++ (cause 8 (short band_slots table) ∷ cause (suc m) holds ∷ [])
 
   -- the first of 1 to 5 and 8 is no larger number
-  early-other : (x : ℕ) → 9 ≤ x → first early ≢ x
-  early-other x h =
-      append-has (λ i. i ≢ x) (λ e. omega arith) plan _
-      (plan-has (λ i. i ≢ x) (λ e. omega arith) (λ e. omega arith) (λ e. omega arith) (λ e. omega arith) (λ e. omega arith)
+  early_other : (x : ℕ) → 9 ≤ x → first early ≢ x
+  early_other x h =
+      append_has (λ i. i ≢ x) (λ e. omega arith) plan _
+      (plan_has (λ i. i ≢ x) (λ e. omega arith) (λ e. omega arith) (λ e. omega arith) (λ e. omega arith) (λ e. omega arith)
       (λ e. omega arith) k.bytes k.stations k.slots)
-      (cause-has (λ i. i ≢ x) (λ e. omega arith) 8 _ [] (λ e. omega arith) (none_has (λ i. i ≢ x) (λ e. omega arith)))
+      (cause_has (λ i. i ≢ x) (λ e. omega arith) 8 _ [] (λ e. omega arith) (none_has (λ i. i ≢ x) (λ e. omega arith)))
 
   split : first causes ≡ first (early ++ (cause (suc m) holds ∷ []))
-  split = ap first (sym (append_assoc plan (cause 8 (short bandSlots table) ∷ []) (cause (suc m) holds ∷ [])))
+  split = ap first (sym (append_assoc plan (cause 8 (short band_slots table) ∷ []) (cause (suc m) holds ∷ [])))
 
   -- its own number comes exactly where its own cause holds and none of the others
   own : (first causes ≡ suc m) ↔ ((first early ≡ 0) × (holds ≡ true))
@@ -106,33 +106,33 @@ module _ (k : BandCall) (table : List ℕ) (m : ℕ) (large : 9 ≤ m) (holds : 
         ⊎_elim
             (λ holding. holding)
             (λ not.
-            let none = first-append-none early (cause (suc m) holds ∷ []) q in
-            let passed = first-false (suc m) holds [] not in
+            let none = first_append_none early (cause (suc m) holds ∷ []) q in
+            let passed = first_false (suc m) holds [] not in
             let nothing = none_first in
             let whole = split in
             absurd (omega arith))
-            (true-or-false holds),
+            (true_or_false holds),
       )
       forth (suc k) q e =
-          let some = first-append-some early (cause (suc m) holds ∷ []) (omega arith) in
-          absurd (early-other (suc m) (omega arith) (sym some ∙ sym split ∙ e))
+          let some = first_append_some early (cause (suc m) holds ∷ []) (omega arith) in
+          absurd (early_other (suc m) (omega arith) (sym some ∙ sym split ∙ e))
 
       back : (first early ≡ 0) × (holds ≡ true) → first causes ≡ suc m
-      back (q, is) = split ∙ first-append-none early _ q ∙ first-true m holds [] is
+      back (q, is) = split ∙ first_append_none early _ q ∙ first_true m holds [] is
 
   -- and no other number above 8 comes
   no_other : (x : ℕ) → 9 ≤ x → x ≢ suc m → first causes ≢ x
   no_other x h other e =
-      append-has (λ i. i ≢ x) (λ e. omega arith) early (cause (suc m) holds ∷ []) (early-other x h)
-      (cause-has (λ i. i ≢ x) (λ e. omega arith) (suc m) holds [] (λ q. other (sym q)) (none_has (λ i. i ≢ x) (λ e. omega arith)))
+      append_has (λ i. i ≢ x) (λ e. omega arith) early (cause (suc m) holds ∷ []) (early_other x h)
+      (cause_has (λ i. i ≢ x) (λ e. omega arith) (suc m) holds [] (λ q. other (sym q)) (none_has (λ i. i ≢ x) (λ e. omega arith)))
       (sym split ∙ e)
 
   outcome : Outcome (Unit {0}) (List ℕ)
   outcome = entered causes tt table (record { number = 0; values = tt; buffers = new })
 
-  outcome-number : outcome.number ≡ first causes
+  outcome_number : outcome.number ≡ first causes
   unfolding outcome entered unless
-  outcome-number = decide (first causes)
+  outcome_number = decide (first causes)
     where
       decide : (k : ℕ)
           → (unless {A = Outcome (Unit {0}) (List ℕ)} k (λ j. record { number = j; values = tt; buffers = table })
@@ -141,149 +141,149 @@ module _ (k : BandCall) (table : List ℕ) (m : ℕ) (large : 9 ≤ m) (holds : 
       decide (suc k) = refl
 
   -- some answer has this outcome, where one has its own number
-  some-answer : Named (suc m) → (r : BandAnswer) × (after : List ℕ) × (bandOutcome r after ≡ outcome)
-  some-answer mine =
+  some_answer : Named (suc m) → (r : BandAnswer) × (after : List ℕ) × (band_outcome r after ≡ outcome)
+  some_answer mine =
       let (r, e) =
-      append-has Named no-fault plan _ (plan-has Named no-fault (named-plan plan-fault.Limits) (named-plan plan-fault.Length)
-      (named-plan plan-fault.Slot) (named-plan plan-fault.Ends) (named-plan plan-fault.Order) k.bytes k.stations k.slots)
-      (cause-has Named no-fault 8 _ _ (named-call call-fault.Short)
-      (cause-has Named no-fault (suc m) holds [] mine (none_has Named no-fault))) in
-      (r, outcome.buffers, ap (λ x. record { number = x; values = tt; buffers = outcome.buffers }) (e ∙ sym outcome-number))
+      append_has Named no_fault plan _ (plan_has Named no_fault (named_plan plan-fault.Limits) (named_plan plan-fault.Length)
+      (named_plan plan-fault.Slot) (named_plan plan-fault.Ends) (named_plan plan-fault.Order) k.bytes k.stations k.slots)
+      (cause_has Named no_fault 8 _ _ (named_call call-fault.Short)
+      (cause_has Named no_fault (suc m) holds [] mine (none_has Named no_fault))) in
+      (r, outcome.buffers, ap (λ x. record { number = x; values = tt; buffers = outcome.buffers }) (e ∙ sym outcome_number))
 
   module _ (after : List ℕ) where
     abbrev Met : BandAnswer → Type 0
-    Met r = bandOutcome r after ≡ outcome
+    Met r = band_outcome r after ≡ outcome
 
-    met-number : (r : BandAnswer) → Met r → bandNumber r ≡ first causes
-    met-number r e = ap (λ o. o.number) e ∙ outcome-number
+    met_number : (r : BandAnswer) → Met r → band_number r ≡ first causes
+    met_number r e = ap (λ o. o.number) e ∙ outcome_number
 
     -- an accepted call
-    met-free : Met Taken → holds ≡ false
+    met_free : Met Taken → holds ≡ false
     unfolding outcome
-    met-free e =
-        first_head m holds [] (first_tail 7 _ _ (first-append-right plan _ (no-first causes tt tt table after _ e)))
+    met_free e =
+        first_head m holds [] (first_tail 7 _ _ (first_append_right plan _ (no_first causes tt tt table after _ e)))
 
-    met-new : Met Taken → after ≡ new
+    met_new : Met Taken → after ≡ new
     unfolding outcome
-    met-new e = ap (λ o. o.buffers) (no-cause causes tt tt table after _ e)
+    met_new e = ap (λ o. o.buffers) (no_cause causes tt tt table after _ e)
 
     -- a refused call
-    met-old : (f : Fault) → Met (Refused f) → after ≡ table
+    met_old : (f : Fault) → Met (Refused f) → after ≡ table
     unfolding outcome entered
-    met-old f e =
+    met_old f e =
         let some = (fault-number-within f).0 in
-        let number = met-number (Refused f) e in
-        ap (λ o. o.buffers) (e ∙ unless-some (first causes) _ _ (omega arith))
+        let number = met_number (Refused f) e in
+        ap (λ o. o.buffers) (e ∙ unless_some (first causes) _ _ (omega arith))
 
 -- ---- the plans in
 
 -- a plan that is in, and the others
-used-without : (bs : List ℕ) (ins : List (List ℕ)) → Memᴰ bs ins → (u : ℕ)
-    → usedBy ins u ≡ recordsIn bs u + usedBy (without bs ins) u
-unfolding usedBy without sum
-used-without bs [] there u = absurd (Memᴰ.not-nil there)
-used-without bs (p ∷ l) there u = decide (same_numbers bs p) refl (λ m. used-without bs l m u)
+used_without : (bs : List ℕ) (ins : List (List ℕ)) → Memᴰ bs ins → (u : ℕ)
+    → used_by ins u ≡ records_in bs u + used_by (without bs ins) u
+unfolding used_by without sum
+used_without bs [] there u = absurd (Memᴰ.not-nil there)
+used_without bs (p ∷ l) there u = decide (same_numbers bs p) refl (λ m. used_without bs l m u)
   where
     decide : (b : Bool) → same_numbers bs p ≡ b
-        → (Memᴰ bs l → usedBy l u ≡ recordsIn bs u + usedBy (without bs l) u)
-        → recordsIn p u + usedBy l u ≡ recordsIn bs u + usedBy (cond b l (p ∷ without bs l)) u
-    decide true q rest = let same = ap (λ x. recordsIn x u) ((same-numbers bs p).0 q) in omega arith
+        → (Memᴰ bs l → used_by l u ≡ records_in bs u + used_by (without bs l) u)
+        → records_in p u + used_by l u ≡ records_in bs u + used_by (cond b l (p ∷ without bs l)) u
+    decide true q rest = let same = ap (λ x. records_in x u) ((same_numbers_law bs p).0 q) in omega arith
     decide false q rest =
-        let other = by-member there (λ e. absurd (not-both ((same-numbers bs p).1 e) q)) rest in omega arith
+        let other = by_member there (λ e. absurd (not_both ((same_numbers_law bs p).1 e) q)) rest in omega arith
 
 -- ---- one step of a run
 
 module _ (c : ℕ) (ins : List (List ℕ)) (table : List ℕ) (right : Used c ins table) (k : BandCall) (after : List ℕ) where
   -- the entries as the plans in say them
-  with-new : (j : ℕ) → j < bandSlots → get_or table j 0 + recordsIn k.bytes (j + 1) ≡ usedBy (k.bytes ∷ ins) (j + 1)
-  unfolding usedBy sum
-  with-new j h = let e = right.entry j h in omega arith
+  with_new : (j : ℕ) → j < band_slots → get_or table j 0 + records_in k.bytes (j + 1) ≡ used_by (k.bytes ∷ ins) (j + 1)
+  unfolding used_by sum
+  with_new j h = let e = right.entry j h in omega arith
 
-  over-passes : (overBand k.bytes c table ≡ true) ↔ Passes c ins k.bytes
-  unfolding overBand
-  over-passes = (
-    λ e. let (j, there, test) = (any-true _ (below bandSlots)).0 e in
-        let inside = (mem_below bandSlots).0 there in
-        (j, inside, subst (λ x. c < x) (with-new j inside) (ltb-true c _ test)),
-    λ (j, inside, more). (any-true _ (below bandSlots)).1
-        (j, (mem_below bandSlots).1 inside, lt-ltb c _ (subst (λ x. c < x) (sym (with-new j inside)) more)),
+  over_passes : (over_band k.bytes c table ≡ true) ↔ Passes c ins k.bytes
+  unfolding over_band
+  over_passes = (
+    λ e. let (j, there, test) = (any_true _ (below band_slots)).0 e in
+        let inside = (mem_below band_slots).0 there in
+        (j, inside, subst (λ x. c < x) (with_new j inside) (ltb-true c _ test)),
+    λ (j, inside, more). (any_true _ (below band_slots)).1
+        (j, (mem_below band_slots).1 inside, lt-ltb c _ (subst (λ x. c < x) (sym (with_new j inside)) more)),
   )
 
-  module _ (r : BandAnswer) (e : bandOutcome r after ≡ takeIn k.bytes k.stations k.slots c table) where
-    fifteen : (bandNumber r ≡ 15) ↔ ((earlier k table ≡ 0) × Passes c ins k.bytes)
-    unfolding takeIn earlier outcome
+  module _ (r : BandAnswer) (e : band_outcome r after ≡ take_in k.bytes k.stations k.slots c table) where
+    fifteen : (band_number r ≡ 15) ↔ ((earlier k table ≡ 0) × Passes c ins k.bytes)
+    unfolding take_in earlier outcome
     fifteen =
-        let number = met-number k table 14 (omega arith) (overBand k.bytes c table) _ after r e in
-        let both = own k table 14 (omega arith) (overBand k.bytes c table) (takenIn k.bytes table) in (
-          λ q. let (none, is) = both.0 (sym number ∙ q) in (none, over-passes.0 is),
-          λ (none, passes). number ∙ both.1 (none, over-passes.1 passes),
+        let number = met_number k table 14 (omega arith) (over_band k.bytes c table) _ after r e in
+        let both = own k table 14 (omega arith) (over_band k.bytes c table) (taken_in k.bytes table) in (
+          λ q. let (none, is) = both.0 (sym number ∙ q) in (none, over_passes.0 is),
+          λ (none, passes). number ∙ both.1 (none, over_passes.1 passes),
         )
 
-    in-not-sixteen : bandNumber r ≢ 16
-    unfolding takeIn outcome
-    in-not-sixteen q =
-        let number = met-number k table 14 (omega arith) (overBand k.bytes c table) _ after r e in
-        no_other k table 14 (omega arith) (overBand k.bytes c table) (takenIn k.bytes table) 16
+    in_not_sixteen : band_number r ≢ 16
+    unfolding take_in outcome
+    in_not_sixteen q =
+        let number = met_number k table 14 (omega arith) (over_band k.bytes c table) _ after r e in
+        no_other k table 14 (omega arith) (over_band k.bytes c table) (taken_in k.bytes table) 16
         (omega arith) (omega arith) (sym number ∙ q)
 
-  used-in : (r : BandAnswer) → bandOutcome r after ≡ takeIn k.bytes k.stations k.slots c table
-      → Used c (inAfterIn k.bytes r ins) after
-  unfolding takeIn takenIn overBand inAfterIn outcome
-  used-in Taken e =
-      let free = met-free k table 14 (omega arith) (overBand k.bytes c table) _ after e in
-      let is = met-new k table 14 (omega arith) (overBand k.bytes c table) _ after e in
-      let entry : (j : ℕ) → j < bandSlots → get_or after j 0 ≡ get_or table j 0 + recordsIn k.bytes (j + 1) =
-      λ j h. ap (λ l. get_or l j 0) is ∙ written (λ i. get_or table i 0 + recordsIn k.bytes (i + 1)) bandSlots j table h in
+  used_in : (r : BandAnswer) → band_outcome r after ≡ take_in k.bytes k.stations k.slots c table
+      → Used c (in_after_in k.bytes r ins) after
+  unfolding take_in taken_in over_band in_after_in outcome
+  used_in Taken e =
+      let free = met_free k table 14 (omega arith) (over_band k.bytes c table) _ after e in
+      let is = met_new k table 14 (omega arith) (over_band k.bytes c table) _ after e in
+      let entry : (j : ℕ) → j < band_slots → get_or after j 0 ≡ get_or table j 0 + records_in k.bytes (j + 1) =
+      λ j h. ap (λ l. get_or l j 0) is ∙ written (λ i. get_or table i 0 + records_in k.bytes (i + 1)) band_slots j table h in
       record {
-        entry = λ j h. entry j h ∙ with-new j h;
+        entry = λ j h. entry j h ∙ with_new j h;
         at_most = λ j h.
-            let few = ltb-false c _ ((any_false _ (below bandSlots)).0 free j ((mem_below bandSlots).1 h)) in
+            let few = ltb-false c _ ((any_false _ (below band_slots)).0 free j ((mem_below band_slots).1 h)) in
             rw (entry j h) few;
       }
-  used-in (Refused f) e =
+  used_in (Refused f) e =
       subst (Used c ins)
-      (sym (met-old k table 14 (omega arith) (overBand k.bytes c table) _ after f e)) right
+      (sym (met_old k table 14 (omega arith) (over_band k.bytes c table) _ after f e)) right
 
   module _ (there : Memᴰ k.bytes ins) where
     -- the plan's records are among those that the entries count
-    enough : (j : ℕ) → j < bandSlots → get_or table j 0 ≡ recordsIn k.bytes (j + 1) + usedBy (without k.bytes ins) (j + 1)
-    enough j h = right.entry j h ∙ used-without k.bytes ins there (j + 1)
+    enough : (j : ℕ) → j < band_slots → get_or table j 0 ≡ records_in k.bytes (j + 1) + used_by (without k.bytes ins) (j + 1)
+    enough j h = right.entry j h ∙ used_without k.bytes ins there (j + 1)
 
-    not-under : underBand k.bytes table ≡ false
-    unfolding underBand
-    not-under =
-        (any_false _ (below bandSlots)).1
-        (λ j m. let all = enough j ((mem_below bandSlots).0 m) in le-ltb (get_or table j 0) (recordsIn k.bytes (j + 1)) (omega arith))
+    not_under : under_band k.bytes table ≡ false
+    unfolding under_band
+    not_under =
+        (any_false _ (below band_slots)).1
+        (λ j m. let all = enough j ((mem_below band_slots).0 m) in le-ltb (get_or table j 0) (records_in k.bytes (j + 1)) (omega arith))
 
-    module _ (r : BandAnswer) (e : bandOutcome r after ≡ takeOut k.bytes k.stations k.slots table) where
-      out-not-fifteen : bandNumber r ≢ 15
-      unfolding takeOut outcome
-      out-not-fifteen q =
-          let number = met-number k table 15 (omega arith) (underBand k.bytes table) _ after r e in
-          no_other k table 15 (omega arith) (underBand k.bytes table) (takenOut k.bytes table) 15
+    module _ (r : BandAnswer) (e : band_outcome r after ≡ take_out k.bytes k.stations k.slots table) where
+      out_not_fifteen : band_number r ≢ 15
+      unfolding take_out outcome
+      out_not_fifteen q =
+          let number = met_number k table 15 (omega arith) (under_band k.bytes table) _ after r e in
+          no_other k table 15 (omega arith) (under_band k.bytes table) (taken_out k.bytes table) 15
           (omega arith) (omega arith) (sym number ∙ q)
 
-      sixteen-never : bandNumber r ≢ 16
-      unfolding takeOut outcome
-      sixteen-never q =
-          let number = met-number k table 15 (omega arith) (underBand k.bytes table) _ after r e in
-          let both = own k table 15 (omega arith) (underBand k.bytes table) (takenOut k.bytes table) in
-          not-both (both.0 (sym number ∙ q)).1 not-under
+      sixteen_never : band_number r ≢ 16
+      unfolding take_out outcome
+      sixteen_never q =
+          let number = met_number k table 15 (omega arith) (under_band k.bytes table) _ after r e in
+          let both = own k table 15 (omega arith) (under_band k.bytes table) (taken_out k.bytes table) in
+          not_both (both.0 (sym number ∙ q)).1 not_under
 
-    used-out : (r : BandAnswer) → bandOutcome r after ≡ takeOut k.bytes k.stations k.slots table
-        → Used c (inAfterOut k.bytes r ins) after
-    unfolding takeOut takenOut inAfterOut outcome
-    used-out Taken e =
-        let is = met-new k table 15 (omega arith) (underBand k.bytes table) _ after e in
-        let entry : (j : ℕ) → j < bandSlots → get_or after j 0 ≡ get_or table j 0 - recordsIn k.bytes (j + 1) =
-        λ j h. ap (λ l. get_or l j 0) is ∙ written (λ i. get_or table i 0 - recordsIn k.bytes (i + 1)) bandSlots j table h in
+    used_out : (r : BandAnswer) → band_outcome r after ≡ take_out k.bytes k.stations k.slots table
+        → Used c (in_after_out k.bytes r ins) after
+    unfolding take_out taken_out in_after_out outcome
+    used_out Taken e =
+        let is = met_new k table 15 (omega arith) (under_band k.bytes table) _ after e in
+        let entry : (j : ℕ) → j < band_slots → get_or after j 0 ≡ get_or table j 0 - records_in k.bytes (j + 1) =
+        λ j h. ap (λ l. get_or l j 0) is ∙ written (λ i. get_or table i 0 - records_in k.bytes (i + 1)) band_slots j table h in
         record {
           entry = λ j h. let all = enough j h in entry j h ∙ omega arith;
           at_most = λ j h. let most = right.at_most j h in rw (entry j h) (omega arith);
         }
-    used-out (Refused f) e =
+    used_out (Refused f) e =
         subst (Used c ins)
-        (sym (met-old k table 15 (omega arith) (underBand k.bytes table) _ after f e)) right
+        (sym (met_old k table 15 (omega arith) (under_band k.bytes table) _ after f e)) right
 
 -- ---- runs
 
@@ -294,14 +294,14 @@ run_holds c ins table [] right run = right
 run_holds c ins table (took_in k r after ∷ es) right (e, rest) = (
   right,
   fifteen c ins table right k after r e,
-  in-not-sixteen c ins table right k after r e,
-  run_holds c _ after es (used-in c ins table right k after r e) rest,
+  in_not_sixteen c ins table right k after r e,
+  run_holds c _ after es (used_in c ins table right k after r e) rest,
 )
-run_holds c ins table (took-out k r after ∷ es) right (there, e, rest) = (
+run_holds c ins table (took_out k r after ∷ es) right (there, e, rest) = (
   right,
-  out-not-fifteen c ins table right k after there r e,
-  sixteen-never c ins table right k after there r e,
-  run_holds c _ after es (used-out c ins table right k after there r e) rest,
+  out_not_fifteen c ins table right k after there r e,
+  sixteen_never c ins table right k after there r e,
+  run_holds c _ after es (used_out c ins table right k after there r e) rest,
 )
 
 zeros : (size j : ℕ) → ◌≡◌ {A = ℕ} (get_or (replicate size 0) j 0) 0
@@ -309,20 +309,20 @@ zeros zero j = refl
 zeros (suc size) zero = refl
 zeros (suc size) (suc j) = zeros size j
 
-every-call-answered : EveryCallAnswered
-unfolding takeIn takeOut outcome
-every-call-answered k table = (
-  λ c. some-answer k table 14 (omega arith) (overBand k.bytes c table) (takenIn k.bytes table) (named-call call-fault.Channels),
-  some-answer k table 15 (omega arith) (underBand k.bytes table) (takenOut k.bytes table) (named-call call-fault.Untaken),
+every_call_answered : EveryCallAnswered
+unfolding take_in take_out outcome
+every_call_answered k table = (
+  λ c. some_answer k table 14 (omega arith) (over_band k.bytes c table) (taken_in k.bytes table) (named_call call-fault.Channels),
+  some_answer k table 15 (omega arith) (under_band k.bytes table) (taken_out k.bytes table) (named_call call-fault.Untaken),
 )
 
 -- C-22.
-pub band-demand : BandDemand
-unfolding usedBy sum
-band-demand =
+pub band_demand : BandDemand
+unfolding used_by sum
+band_demand =
     record {
       runs = λ c size es run.
           run_holds c [] (replicate size 0) es
           (record { entry = λ j h. zeros size j; at_most = λ j h. let none = zeros size j in omega arith }) run;
-      goes_on = every-call-answered;
+      goes_on = every_call_answered;
     }

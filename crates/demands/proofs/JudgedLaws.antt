@@ -8,176 +8,176 @@ use mathlib.Core.Logic.{◌↔◌, ◌≢◌}
 use Rattle.temporal.specs.Lists.{below}
 use Rattle.temporal.specs.Plan.{Terms}
 use Rattle.temporal.specs.Bytes.{records}
-use Rattle.temporal.specs.Cause.{cause, first, unless, termsCauses, wrongSources, recordCauses, planCauses, stationCauses, endsCauses, pairCauses}
+use Rattle.temporal.specs.Cause.{cause, first, unless, terms_causes, wrong_sources, record_causes, plan_causes, station_causes, ends_causes, pair_causes}
 use Rattle.temporal.specs.Outcome.{Outcome, entered}
-use Rattle.temporal.specs.OutcomeSet.{setCauses}
-use Rattle.temporal.proofs.CauseLaws.{first-append-none, first-append-some, first-false}
-use Rattle.walks.proofs.EnteredLaws.{unless-some, unless-none, refusedWith}
+use Rattle.temporal.specs.OutcomeSet.{set_causes}
+use Rattle.temporal.proofs.CauseLaws.{first_append_none, first_append_some, first_false}
+use Rattle.walks.proofs.EnteredLaws.{unless_some, unless_none, refused_with}
 use Rattle.demands.specs.Demand1.{NoneHolds, Numbered, Judged}
 
 -- ---- the number
 
-none-holds : (l : List ℕ) → (first l ≡ 0) ↔ NoneHolds l
+none_holds : (l : List ℕ) → (first l ≡ 0) ↔ NoneHolds l
 unfolding first NoneHolds
-none-holds [] = (λ e. tt, λ e. refl)
-none-holds (zero ∷ l) = (λ e. (refl, (none-holds l).0 e), λ h. (none-holds l).1 h.1)
-none-holds (suc k ∷ l) = (λ e. absurd (omega arith), λ h. absurd (let e = h.0 in omega arith))
+none_holds [] = (λ e. tt, λ e. refl)
+none_holds (zero ∷ l) = (λ e. (refl, (none_holds l).0 e), λ h. (none_holds l).1 h.1)
+none_holds (suc k ∷ l) = (λ e. absurd (omega arith), λ h. absurd (let e = h.0 in omega arith))
 
 -- the first cause is 0 exactly where none holds
 pub numbered : (l : List ℕ) (k : ℕ) → k ≡ first l → Numbered l k
-numbered l k e = record { the-first = e; accepted = (λ z. (none-holds l).0 (sym e ∙ z), λ h. e ∙ (none-holds l).1 h) }
+numbered l k e = record { the_first = e; accepted = (λ z. (none_holds l).0 (sym e ∙ z), λ h. e ∙ (none_holds l).1 h) }
 
 -- ---- lists without 9 and 10
 
 -- the first cause of a list is neither 9 nor 10
 pub record Plain (l : List ℕ) : Type 0 where
-  pub not-too-many : first l ≢ 9
-  pub not-unoffered : first l ≢ 10
+  pub not_too_many : first l ≢ 9
+  pub not_unoffered : first l ≢ 10
 
-plain-none : Plain []
+plain_none : Plain []
 unfolding first
-plain-none = record { not-too-many = λ e. omega arith; not-unoffered = λ e. omega arith }
+plain_none = record { not_too_many = λ e. omega arith; not_unoffered = λ e. omega arith }
 
-plain-cause : (k : ℕ) (b : Bool) (l : List ℕ) → k ≢ 9 → k ≢ 10 → Plain l → Plain (cause k b ∷ l)
+plain_cause : (k : ℕ) (b : Bool) (l : List ℕ) → k ≢ 9 → k ≢ 10 → Plain l → Plain (cause k b ∷ l)
 unfolding first cause
-plain-cause k false l p q rest = record { not-too-many = rest.not-too-many; not-unoffered = rest.not-unoffered }
-plain-cause zero true l p q rest = record { not-too-many = rest.not-too-many; not-unoffered = rest.not-unoffered }
-plain-cause (suc k) true l p q rest = record { not-too-many = p; not-unoffered = q }
+plain_cause k false l p q rest = record { not_too_many = rest.not_too_many; not_unoffered = rest.not_unoffered }
+plain_cause zero true l p q rest = record { not_too_many = rest.not_too_many; not_unoffered = rest.not_unoffered }
+plain_cause (suc k) true l p q rest = record { not_too_many = p; not_unoffered = q }
 
 -- a cause that does not hold
-plain-false : (k : ℕ) (b : Bool) (l : List ℕ) → b ≡ false → Plain l → Plain (cause k b ∷ l)
+plain_false : (k : ℕ) (b : Bool) (l : List ℕ) → b ≡ false → Plain l → Plain (cause k b ∷ l)
 unfolding first cause
-plain-false k true l e rest = absurd (let z : ◌≡◌ {A = ℕ} 0 1 = cc in omega arith)
-plain-false k false l e rest = record { not-too-many = rest.not-too-many; not-unoffered = rest.not-unoffered }
+plain_false k true l e rest = absurd (let z : ◌≡◌ {A = ℕ} 0 1 = cc in omega arith)
+plain_false k false l e rest = record { not_too_many = rest.not_too_many; not_unoffered = rest.not_unoffered }
 
-plain-append : (l m : List ℕ) → Plain l → Plain m → Plain (l ++ m)
-plain-append l m a b = decide (first l) refl
+plain_append : (l m : List ℕ) → Plain l → Plain m → Plain (l ++ m)
+plain_append l m a b = decide (first l) refl
   where
     decide : (k : ℕ) → first l ≡ k → Plain (l ++ m)
     decide zero q =
-        let same = first-append-none l m q in
-        record { not-too-many = λ e. b.not-too-many (sym same ∙ e); not-unoffered = λ e. b.not-unoffered (sym same ∙ e) }
+        let same = first_append_none l m q in
+        record { not_too_many = λ e. b.not_too_many (sym same ∙ e); not_unoffered = λ e. b.not_unoffered (sym same ∙ e) }
     decide (suc k) q =
-        let same = first-append-some l m (omega arith) in
-        record { not-too-many = λ e. a.not-too-many (sym same ∙ e); not-unoffered = λ e. a.not-unoffered (sym same ∙ e) }
+        let same = first_append_some l m (omega arith) in
+        record { not_too_many = λ e. a.not_too_many (sym same ∙ e); not_unoffered = λ e. a.not_unoffered (sym same ∙ e) }
 
-plain-each : (f : ℕ → List ℕ) (l : List ℕ) → ((i : ℕ) → Plain (f i)) → Plain (flat_map f l)
+plain_each : (f : ℕ → List ℕ) (l : List ℕ) → ((i : ℕ) → Plain (f i)) → Plain (flat_map f l)
 unfolding flat_map
-plain-each f [] h = plain-none
-plain-each f (i ∷ l) h = plain-append (f i) (flat_map f l) (h i) (plain-each f l h)
+plain_each f [] h = plain_none
+plain_each f (i ∷ l) h = plain_append (f i) (flat_map f l) (h i) (plain_each f l h)
 
-plain-plan : (bs : List ℕ) (n t : ℕ) → Plain (planCauses bs n t)
-unfolding planCauses recordCauses
-plain-plan bs n t =
-    plain-cause 1 _ _ (omega arith) (omega arith)
-    (plain-cause 2 _ _ (omega arith) (omega arith)
-    (plain-each (recordCauses bs n t) (below (records bs)) (λ i.
-    plain-cause 3 _ _ (omega arith) (omega arith)
-    (plain-cause 4 _ _ (omega arith) (omega arith) (plain-cause 5 _ [] (omega arith) (omega arith) plain-none)))))
+plain_plan : (bs : List ℕ) (n t : ℕ) → Plain (plan_causes bs n t)
+unfolding plan_causes record_causes
+plain_plan bs n t =
+    plain_cause 1 _ _ (omega arith) (omega arith)
+    (plain_cause 2 _ _ (omega arith) (omega arith)
+    (plain_each (record_causes bs n t) (below (records bs)) (λ i.
+    plain_cause 3 _ _ (omega arith) (omega arith)
+    (plain_cause 4 _ _ (omega arith) (omega arith) (plain_cause 5 _ [] (omega arith) (omega arith) plain_none)))))
 
-plain-terms : (terms : Terms) → Plain (termsCauses terms)
-unfolding termsCauses
-plain-terms terms =
-    plain-cause 12 _ _ (omega arith) (omega arith) (plain-cause 14 _ [] (omega arith) (omega arith) plain-none)
+plain_terms : (terms : Terms) → Plain (terms_causes terms)
+unfolding terms_causes
+plain_terms terms =
+    plain_cause 12 _ _ (omega arith) (omega arith) (plain_cause 14 _ [] (omega arith) (omega arith) plain_none)
 
 -- the causes of a plan and of the terms with those of a call that names a station, a pair, or nothing
 module _ (bs : List ℕ) (n t : ℕ) (terms : Terms) (lacking : Bool) where
-  plain-call : (rest : List ℕ) → Plain rest → Plain (planCauses bs n t ++ (termsCauses terms ++ rest))
-  plain-call rest plain = plain-append _ _ (plain-plan bs n t) (plain-append _ _ (plain-terms terms) plain)
+  plain_call : (rest : List ℕ) → Plain rest → Plain (plan_causes bs n t ++ (terms_causes terms ++ rest))
+  plain_call rest plain = plain_append _ _ (plain_plan bs n t) (plain_append _ _ (plain_terms terms) plain)
 
-  pub plain-station : (s : ℕ) → Plain (planCauses bs n t ++ (termsCauses terms ++ stationCauses n s lacking))
-  unfolding stationCauses
-  plain-station s =
-      plain-call _ (plain-cause 6 _ _ (omega arith) (omega arith) (plain-cause 8 _ [] (omega arith) (omega arith) plain-none))
+  pub plain_station : (s : ℕ) → Plain (plan_causes bs n t ++ (terms_causes terms ++ station_causes n s lacking))
+  unfolding station_causes
+  plain_station s =
+      plain_call _ (plain_cause 6 _ _ (omega arith) (omega arith) (plain_cause 8 _ [] (omega arith) (omega arith) plain_none))
 
-  pub plain-pair : (s z : ℕ) → Plain (planCauses bs n t ++ pairCauses terms n s z lacking)
-  unfolding pairCauses endsCauses
-  plain-pair s z =
-      plain-call _ (plain-cause 6 _ _ (omega arith) (omega arith)
-      (plain-cause 7 _ _ (omega arith) (omega arith) (plain-cause 8 _ [] (omega arith) (omega arith) plain-none)))
+  pub plain_pair : (s z : ℕ) → Plain (plan_causes bs n t ++ pair_causes terms n s z lacking)
+  unfolding pair_causes ends_causes
+  plain_pair s z =
+      plain_call _ (plain_cause 6 _ _ (omega arith) (omega arith)
+      (plain_cause 7 _ _ (omega arith) (omega arith) (plain_cause 8 _ [] (omega arith) (omega arith) plain_none)))
 
   module _ (k : ℕ) where
-    sources-and : (rest : List ℕ) → Plain rest
-        → Plain (planCauses bs n t ++ (termsCauses terms ++ cause 13 (wrongSources n k) ∷ cause 8 lacking ∷ rest))
-    sources-and rest plain =
-        plain-call _ (plain-cause 13 _ _ (omega arith) (omega arith) (plain-cause 8 _ _ (omega arith) (omega arith) plain))
+    sources_and : (rest : List ℕ) → Plain rest
+        → Plain (plan_causes bs n t ++ (terms_causes terms ++ cause 13 (wrong_sources n k) ∷ cause 8 lacking ∷ rest))
+    sources_and rest plain =
+        plain_call _ (plain_cause 13 _ _ (omega arith) (omega arith) (plain_cause 8 _ _ (omega arith) (omega arith) plain))
 
-    pub plain-sources : Plain (planCauses bs n t ++ (termsCauses terms ++ cause 13 (wrongSources n k) ∷ cause 8 lacking ∷ []))
-    plain-sources = sources-and [] plain-none
+    pub plain_sources : Plain (plan_causes bs n t ++ (terms_causes terms ++ cause 13 (wrong_sources n k) ∷ cause 8 lacking ∷ []))
+    plain_sources = sources_and [] plain_none
 
     -- with 9, where no source has too many
-    pub plain-few : (many : Bool) → many ≡ false
-        → Plain (planCauses bs n t ++ (termsCauses terms ++ cause 13 (wrongSources n k) ∷ cause 8 lacking ∷ cause 9 many ∷ []))
-    plain-few many e = sources-and _ (plain-false 9 many [] e plain-none)
+    pub plain_few : (many : Bool) → many ≡ false
+        → Plain (plan_causes bs n t ++ (terms_causes terms ++ cause 13 (wrong_sources n k) ∷ cause 8 lacking ∷ cause 9 many ∷ []))
+    plain_few many e = sources_and _ (plain_false 9 many [] e plain_none)
 
-  pub plain-short : Plain (planCauses bs n t ++ (termsCauses terms ++ cause 8 lacking ∷ []))
-  plain-short = plain-call _ (plain-cause 8 _ [] (omega arith) (omega arith) plain-none)
+  pub plain_short : Plain (plan_causes bs n t ++ (terms_causes terms ++ cause 8 lacking ∷ []))
+  plain_short = plain_call _ (plain_cause 8 _ [] (omega arith) (omega arith) plain_none)
 
   -- and with 17
-  pub plain-position : (b : Bool) → Plain (planCauses bs n t ++ (termsCauses terms ++ cause 8 lacking ∷ cause 17 b ∷ []))
-  plain-position b =
-      plain-call _ (plain-cause 8 _ _ (omega arith) (omega arith) (plain-cause 17 b [] (omega arith) (omega arith) plain-none))
+  pub plain_position : (b : Bool) → Plain (plan_causes bs n t ++ (terms_causes terms ++ cause 8 lacking ∷ cause 17 b ∷ []))
+  plain_position b =
+      plain_call _ (plain_cause 8 _ _ (omega arith) (omega arith) (plain_cause 17 b [] (omega arith) (omega arith) plain_none))
 
 -- and with those of a call that names a pair and a set
-pub plain-set : (bs : List ℕ) (n t : ℕ) (terms : Terms) (s z : ℕ) (set old : List ℕ)
-    → Plain (planCauses bs n t ++ setCauses n t terms s z set old)
-unfolding setCauses
-plain-set bs n t terms s z set old =
-    subst Plain (append_assoc (planCauses bs n t) _ _)
-    (plain-append _ _ (plain-pair bs n t terms _ s z) (plain-cause 11 _ [] (omega arith) (omega arith) plain-none))
+pub plain_set : (bs : List ℕ) (n t : ℕ) (terms : Terms) (s z : ℕ) (set old : List ℕ)
+    → Plain (plan_causes bs n t ++ set_causes n t terms s z set old)
+unfolding set_causes
+plain_set bs n t terms s z set old =
+    subst Plain (append_assoc (plan_causes bs n t) _ _)
+    (plain_append _ _ (plain_pair bs n t terms _ s z) (plain_cause 11 _ [] (omega arith) (omega arith) plain_none))
 
 -- and with 8 and one cause more, of a call that names nothing
-pub plain-band : (bs : List ℕ) (n t : ℕ) (lacking : Bool) (k : ℕ) (b : Bool) → k ≢ 9 → k ≢ 10
-    → Plain (planCauses bs n t ++ (cause 8 lacking ∷ cause k b ∷ []))
-plain-band bs n t lacking k b p q =
-    plain-append _ _ (plain-plan bs n t) (plain-cause 8 _ _ (omega arith) (omega arith) (plain-cause k b [] p q plain-none))
+pub plain_band : (bs : List ℕ) (n t : ℕ) (lacking : Bool) (k : ℕ) (b : Bool) → k ≢ 9 → k ≢ 10
+    → Plain (plan_causes bs n t ++ (cause 8 lacking ∷ cause k b ∷ []))
+plain_band bs n t lacking k b p q =
+    plain_append _ _ (plain_plan bs n t) (plain_cause 8 _ _ (omega arith) (omega arith) (plain_cause k b [] p q plain_none))
 
 -- ---- the call
 
 -- lists whose first causes are the same, behind one list
-first-append-same : (l a b : List ℕ) → first a ≡ first b → first (l ++ a) ≡ first (l ++ b)
-first-append-same l a b e = decide (first l) refl
+first_append_same : (l a b : List ℕ) → first a ≡ first b → first (l ++ a) ≡ first (l ++ b)
+first_append_same l a b e = decide (first l) refl
   where
     decide : (k : ℕ) → first l ≡ k → first (l ++ a) ≡ first (l ++ b)
-    decide zero q = first-append-none l a q ∙ e ∙ sym (first-append-none l b q)
-    decide (suc k) q = first-append-some l a (omega arith) ∙ sym (first-append-some l b (omega arith))
+    decide zero q = first_append_none l a q ∙ e ∙ sym (first_append_none l b q)
+    decide (suc k) q = first_append_some l a (omega arith) ∙ sym (first_append_some l b (omega arith))
 
 module _ {Values Buffers : Type 0} (zeros : Values) (old emptied : Buffers) where
   -- where the first causes are without 9 and 10, the whole is judged as the work is by the causes after them
-  pub judged-entered : (early late : List ℕ) (work : Outcome Values Buffers) → Plain early
+  pub judged_entered : (early late : List ℕ) (work : Outcome Values Buffers) → Plain early
       → Judged late zeros old emptied work
       → Judged (early ++ late) zeros old emptied (entered early zeros old work)
   unfolding entered
-  judged-entered early late work plain j = decide (first early) refl
+  judged_entered early late work plain j = decide (first early) refl
     where
       decide : (k : ℕ) → first early ≡ k
-          → Judged (early ++ late) zeros old emptied (unless (first early) (refusedWith zeros old work) work)
+          → Judged (early ++ late) zeros old emptied (unless (first early) (refused_with zeros old work) work)
       decide zero q =
-          subst (Judged (early ++ late) zeros old emptied) (sym (unless-none (first early) _ work q))
+          subst (Judged (early ++ late) zeros old emptied) (sym (unless_none (first early) _ work q))
           (record {
-            numbered = numbered _ _ (j.numbered.the-first ∙ sym (first-append-none early late q));
+            numbered = numbered _ _ (j.numbered.the_first ∙ sym (first_append_none early late q));
             beside = j.beside;
             untouched = j.untouched;
             too_many = j.too_many;
             unoffered = j.unoffered;
           })
       decide (suc k) q =
-          subst (Judged (early ++ late) zeros old emptied) (sym (unless-some (first early) _ work (omega arith)))
+          subst (Judged (early ++ late) zeros old emptied) (sym (unless_some (first early) _ work (omega arith)))
           (record {
-            numbered = numbered _ _ (sym (first-append-some early late (omega arith)));
+            numbered = numbered _ _ (sym (first_append_some early late (omega arith)));
             beside = λ h. refl;
             untouched = λ a b c. refl;
-            too_many = λ e. absurd (plain.not-too-many e);
-            unoffered = λ e. absurd (plain.not-unoffered e);
+            too_many = λ e. absurd (plain.not_too_many e);
+            unoffered = λ e. absurd (plain.not_unoffered e);
           })
 
   -- a cause that does not hold may be left out of the list
-  pub judged-without : (l c m : List ℕ) (k : ℕ) (b : Bool) (o : Outcome Values Buffers) → b ≡ false
+  pub judged_without : (l c m : List ℕ) (k : ℕ) (b : Bool) (o : Outcome Values Buffers) → b ≡ false
       → Judged (l ++ (c ++ cause k b ∷ m)) zeros old emptied o → Judged (l ++ (c ++ m)) zeros old emptied o
-  judged-without l c m k b o e j =
+  judged_without l c m k b o e j =
       record {
-        numbered = numbered _ _ (j.numbered.the-first ∙
-            first-append-same l _ _ (first-append-same c (cause k b ∷ m) m (first-false k b m e)));
+        numbered = numbered _ _ (j.numbered.the_first ∙
+            first_append_same l _ _ (first_append_same c (cause k b ∷ m) m (first_false k b m e)));
         beside = j.beside;
         untouched = j.untouched;
         too_many = j.too_many;
@@ -185,9 +185,9 @@ module _ {Values Buffers : Type 0} (zeros : Values) (old emptied : Buffers) wher
       }
 
   -- an outcome whose number is 0, where no cause holds
-  pub judged-accepted : (causes : List ℕ) (o : Outcome Values Buffers) → o.number ≡ 0 → first causes ≡ 0
+  pub judged_accepted : (causes : List ℕ) (o : Outcome Values Buffers) → o.number ≡ 0 → first causes ≡ 0
       → Judged causes zeros old emptied o
-  judged-accepted causes o e none =
+  judged_accepted causes o e none =
       record {
         numbered = numbered causes o.number (e ∙ sym none);
         beside = λ h. absurd (h e);
@@ -197,9 +197,9 @@ module _ {Values Buffers : Type 0} (zeros : Values) (old emptied : Buffers) wher
       }
 
   -- a refusal with 9 or with 10, the buffers emptied
-  pub judged-too-many : (causes : List ℕ) → first causes ≡ 9
+  pub judged_too_many : (causes : List ℕ) → first causes ≡ 9
       → Judged causes zeros old emptied (record { number = 9; values = zeros; buffers = emptied })
-  judged-too-many causes e =
+  judged_too_many causes e =
       record {
         numbered = numbered causes 9 (sym e);
         beside = λ h. refl;
@@ -208,9 +208,9 @@ module _ {Values Buffers : Type 0} (zeros : Values) (old emptied : Buffers) wher
         unoffered = λ h. refl;
       }
 
-  pub judged-unoffered : (causes : List ℕ) → first causes ≡ 10
+  pub judged_unoffered : (causes : List ℕ) → first causes ≡ 10
       → Judged causes zeros old emptied (record { number = 10; values = zeros; buffers = emptied })
-  judged-unoffered causes e =
+  judged_unoffered causes e =
       record {
         numbered = numbered causes 10 (sym e);
         beside = λ h. refl;
@@ -220,17 +220,17 @@ module _ {Values Buffers : Type 0} (zeros : Values) (old emptied : Buffers) wher
       }
 
   -- an operation that has no cause left
-  pub judged-plain : (causes : List ℕ) (work : Outcome Values Buffers) → Plain causes → work.number ≡ 0
+  pub judged_plain : (causes : List ℕ) (work : Outcome Values Buffers) → Plain causes → work.number ≡ 0
       → Judged causes zeros old emptied (entered causes zeros old work)
   unfolding first
-  judged-plain causes work plain e =
+  judged_plain causes work plain e =
       subst (λ l. Judged l zeros old emptied (entered causes zeros old work)) (append-nil causes)
-      (judged-entered causes [] work plain (judged-accepted [] work e refl))
+      (judged_entered causes [] work plain (judged_accepted [] work e refl))
 
   -- the work of an operation whose one cause left is 9
-  pub judged-work : (many : Bool) (o : Outcome Values Buffers) → o.number ≡ 0
+  pub judged_work : (many : Bool) (o : Outcome Values Buffers) → o.number ≡ 0
       → Judged (cause 9 many ∷ []) zeros old emptied
       (cond many (record { number = 9; values = zeros; buffers = emptied }) o)
   unfolding cause first
-  judged-work true o e = judged-too-many (9 ∷ []) refl
-  judged-work false o e = judged-accepted (0 ∷ []) o e refl
+  judged_work true o e = judged_too_many (9 ∷ []) refl
+  judged_work false o e = judged_accepted (0 ∷ []) o e refl

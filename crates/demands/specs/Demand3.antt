@@ -6,27 +6,27 @@ use mathlib.Core.List.{List, [], ◌∷◌, Memᴰ}
 use Rattle.temporal.specs.Lists.{any}
 use Rattle.temporal.specs.Shortest.{hops}
 use Rattle.temporal.specs.OutcomePair.{PairBuffers}
-use Rattle.temporal.specs.Cursor.{Reply, path, no-path, last-path, refused, next_Way}
+use Rattle.temporal.specs.Cursor.{Reply, path, no_path, last_path, refused, next_Way}
 use Rattle.temporal.specs.FirstNext.{Question, list_of, WayContract}
-use Rattle.temporal.specs.Trace.{causeOf, Event, called, wrote, Asked, EveryTraceFollows}
+use Rattle.temporal.specs.Trace.{cause_of, Event, called, wrote, Asked, EveryTraceFollows}
 use Rattle.temporal.specs.TraceGiven.{given, FromFirstWay, EveryTraceGives}
 use Rattle.pair.specs.declared.PairAnswer.{PairAnswer}
 use Rattle.demands.specs.Listing.{EveryListingTraced}
 use Rattle.demands.specs.PairLoads.{PairAccepts, CountedByPair, PairDemand, LoadsDemand, BusiestDemand}
 
 -- whether an event says that there is no further way: "none" or "last"
-unfoldable pub saysEnd : Event → Bool
-saysEnd (called c (path h) after) = false
-saysEnd (called c no-path after) = true
-saysEnd (called c last-path after) = true
-saysEnd (called c (refused k) after) = false
-saysEnd (wrote behind) = false
+unfoldable pub says_end : Event → Bool
+says_end (called c (path h) after) = false
+says_end (called c no_path after) = true
+says_end (called c last_path after) = true
+says_end (called c (refused k) after) = false
+says_end (wrote behind) = false
 
 -- From an accepted first way to "last", or to "none", with no other accepted first way behind it, a trace gave as many ways
 -- as pair counts, and as many through each station as its through count.
 abbrev pub EveryWayAccounted : Type 0
 EveryWayAccounted =
-    (q : Question) → Asked q → (e : Event) (es : List Event) → FromFirstWay q e es → any saysEnd (e ∷ es) ≡ true →
+    (q : Question) → Asked q → (e : Event) (es : List Event) → FromFirstWay q e es → any says_end (e ∷ es) ≡ true →
     (old : PairBuffers) (r : PairAnswer) (new : PairBuffers) → PairAccepts q old r new →
     CountedByPair q (given (e ∷ es)) r new
 
@@ -38,10 +38,10 @@ NotOffered q way = (Memᴰ (take (hops (list_of q)) way) (list_of q) → ⊥) �
 -- Next way answers 10 exactly where this is so and no other cause of refusal holds.
 abbrev pub TenWhereNotOffered : Type 0
 TenWhereNotOffered =
-    (q : Question) (way work : List ℕ) (r : Reply) (wayAfter workAfter : List ℕ) →
-    WayContract next_Way q way work r wayAfter workAfter →
+    (q : Question) (way work : List ℕ) (r : Reply) (wayAfter work_after : List ℕ) →
+    WayContract next_Way q way work r wayAfter work_after →
     (r ≡ refused 10) ↔
-    ((causeOf (record { operation = next_Way; question = q; lent = length way; work = length work }) ≡ 0) ×
+    ((cause_of (record { operation = next_Way; question = q; lent = length way; work = length work }) ≡ 0) ×
     NotOffered q way)
 
 -- Demand 3.

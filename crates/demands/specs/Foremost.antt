@@ -6,20 +6,20 @@ use mathlib.Core.List.{List, Memᴰ}
 use Rattle.std.proofs.Math.Option.{some}
 use Rattle.temporal.specs.Lists.{select, Rising}
 use Rattle.temporal.specs.Plan.{Plan, Appearance, start, turning}
-use Rattle.temporal.specs.Walk.{run, last_or, isWalkTo, isWalk}
-use Rattle.temporal.specs.Definition3.{isPath000}
-use Rattle.temporal.specs.Shortest.{shortestWalksTo, hops}
-use Rattle.temporal.specs.Foremost.{foremostPaths}
+use Rattle.temporal.specs.Walk.{run, last_or, is_walk_to, is_walk}
+use Rattle.temporal.specs.Definition3.{is_path000}
+use Rattle.temporal.specs.Shortest.{shortest_walks_to, hops}
+use Rattle.temporal.specs.Foremost.{foremost_paths}
 use Rattle.temporal.specs.Bytes.{plan_of}
 use Rattle.temporal.specs.OutcomePair.{PairBuffers}
 use Rattle.temporal.specs.OutcomeForemost.{ForemostValues, foremost}
-use Rattle.foremost.specs.Answer.{foremostNumber, foremostValues, foremostOutcome}
+use Rattle.foremost.specs.Answer.{foremost_number, foremost_values, foremost_outcome}
 use Rattle.foremost.specs.declared.ForemostAnswer.{ForemostAnswer}
-use Rattle.demands.specs.Demand2.{ShortestList, isBetween}
+use Rattle.demands.specs.Demand2.{ShortestList, is_between}
 
 -- whether w is document 000's path (Def. 3) from s to z that arrives in slot u
-abbrev pub arrivesIn : Plan → ℕ → ℕ → ℕ → List ℕ → Bool
-arrivesIn p s z u w = isPath000 p s z w && isWalk p s z u w
+abbrev pub arrives_in : Plan → ℕ → ℕ → ℕ → List ℕ → Bool
+arrives_in p s z u w = is_path000 p s z w && is_walk p s z u w
 
 -- What an accepted call says of its pair: x the slot, the hops and the count, b the buffers at exit.
 pub record ForemostTold (p : Plan) (s z : ℕ) (x : ForemostValues) (b : PairBuffers) : Type 0 where
@@ -27,22 +27,22 @@ pub record ForemostTold (p : Plan) (s z : ℕ) (x : ForemostValues) (b : PairBuf
   pub earliest :
       (w : List ℕ) (l : List Appearance) → run p (start s) w ≡ some l → (last_or (start s) l).station ≡ z →
       x.slot ≤ (last_or (start s) l).slot
-  pub reached : x.slot ≢ 65535 → (w : List ℕ) × (isWalk p s z x.slot w ≡ true)
-  pub no_slot : (x.slot ≡ 65535) ↔ ((w : List ℕ) → isWalkTo p s z w ≡ true → ⊥)
+  pub reached : x.slot ≢ 65535 → (w : List ℕ) × (is_walk p s z x.slot w ≡ true)
+  pub no_slot : (x.slot ≡ 65535) ↔ ((w : List ℕ) → is_walk_to p s z w ≡ true → ⊥)
   -- document 000's Definition 11: the list has the paths that arrive in the slot and than which no walk that does is shorter, each
   -- once and in order, and hops and count are the list's
-  pub list : ShortestList (arrivesIn p s z x.slot) (isWalk p s z x.slot) (foremostPaths p s z) x.hops x.count
-  pub rising : Rising (foremostPaths p s z)
+  pub list : ShortestList (arrives_in p s z x.slot) (is_walk p s z x.slot) (foremost_paths p s z) x.hops x.count
+  pub rising : Rising (foremost_paths p s z)
   -- a through count is the number of members that have the station strictly between their ends
   pub between :
-      (v : ℕ) → v < p.stations → get_or b.throughTable v 0 ≡ length (select (isBetween p s v) (foremostPaths p s z))
+      (v : ℕ) → v < p.stations → get_or b.through_table v 0 ≡ length (select (is_between p s v) (foremost_paths p s z))
   -- the hops are never below the pair's, and where they are the pair's every member is in the pair's complete list
-  pub at_least : hops (shortestWalksTo p s z) ≤ x.hops
-  pub among : x.hops ≡ hops (shortestWalksTo p s z) → (w : List ℕ) → Memᴰ w (foremostPaths p s z) → Memᴰ w (shortestWalksTo p s z)
+  pub at_least : hops (shortest_walks_to p s z) ≤ x.hops
+  pub among : x.hops ≡ hops (shortest_walks_to p s z) → (w : List ℕ) → Memᴰ w (foremost_paths p s z) → Memᴰ w (shortest_walks_to p s z)
 
 -- C-14, for every call that the operation's contract allows and that is not refused, from one station to another.
 abbrev pub ForemostDemand : Type 0
 ForemostDemand =
     (bs : List ℕ) (n t g s z : ℕ) (old new : PairBuffers) (r : ForemostAnswer) →
-    foremostOutcome r new ≡ foremost bs n t (turning g) s z old → foremostNumber r ≡ 0 →
-    ForemostTold (plan_of bs n t (turning g)) s z (foremostValues r) new
+    foremost_outcome r new ≡ foremost bs n t (turning g) s z old → foremost_number r ≡ 0 →
+    ForemostTold (plan_of bs n t (turning g)) s z (foremost_values r) new

@@ -3,7 +3,7 @@
 -- Assumes nothing.
 use Rattle.std.specs.Prelude.{ℕ, ◌+◌, ◌*◌, ◌≤◌, ◌<◌, ◌≡◌, ◌⊎◌, ◌≢◌, List, length}
 use Rattle.temporal.specs.Plan.{Contact}
-use Rattle.temporal.specs.Bytes.{contactAt, records}
+use Rattle.temporal.specs.Bytes.{contact_at, records}
 
 -- Document 01's "rise strictly by (slot, a, b)": d is above c.
 unfoldable pub Above : Contact → Contact → Type 0
@@ -19,9 +19,9 @@ pub record WithinLimits (bs : List ℕ) (n t : ℕ) : Type 0 where
   pub whole : length bs ≡ 6 * records bs
   pub few : records bs ≤ 8192
   -- slots are "numbered 1 to T"
-  pub slot : (i : ℕ) → i < records bs → (1 ≤ (contactAt bs i).slot) × ((contactAt bs i).slot ≤ t)
+  pub slot : (i : ℕ) → i < records bs → (1 ≤ (contact_at bs i).slot) × ((contact_at bs i).slot ≤ t)
   -- not "a equals b, or either is ≥ n" (C-16)
   pub ends : (i : ℕ) → i < records bs →
-      ((contactAt bs i).sender ≢ (contactAt bs i).hearer) × (((contactAt bs i).sender < n) × ((contactAt bs i).hearer < n))
+      ((contact_at bs i).sender ≢ (contact_at bs i).hearer) × (((contact_at bs i).sender < n) × ((contact_at bs i).hearer < n))
   -- each record is above the one before it
-  pub order : (i : ℕ) → i + 1 < records bs → Above (contactAt bs i) (contactAt bs (i + 1))
+  pub order : (i : ℕ) → i + 1 < records bs → Above (contact_at bs i) (contact_at bs (i + 1))

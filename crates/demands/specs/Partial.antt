@@ -2,23 +2,23 @@
 -- Assumes nothing.
 use Rattle.std.specs.Prelude.{ℕ, ◌+◌, ◌≤◌, ◌<◌, ◌≡◌, ◌≢◌, List, get_or}
 use Rattle.temporal.specs.Plan.{Terms}
-use Rattle.temporal.specs.Load.{partialPairs, partialLoad, restOfPairs, restOfLoad}
+use Rattle.temporal.specs.Load.{partial_pairs, partial_load, rest_of_pairs, rest_of_load}
 use Rattle.temporal.specs.Bytes.{plan_of}
-use Rattle.temporal.specs.OutcomePair.{LoadBuffers, partialLoads, loads}
-use Rattle.loads.specs.Answer.{loadsNumber, loadsOutcome}
+use Rattle.temporal.specs.OutcomePair.{LoadBuffers, partial_loads, loads}
+use Rattle.loads.specs.Answer.{loads_number, loads_outcome}
 use Rattle.loads.specs.declared.LoadsAnswer.{LoadsAnswer}
 use Rattle.demands.specs.PairLoads.{LoadsAccepts}
 
 -- Partial loads accepted the call: its ensures holds of the answer and the buffers before and after, and the number is 0.
 pub record PartialAccepts (bs : List ℕ) (n t : ℕ) (terms : Terms) (k : ℕ) (old : LoadBuffers) (r : LoadsAnswer) (new : LoadBuffers)
     : Type 0 where
-  pub contract : loadsOutcome r new ≡ partialLoads bs n t terms k old
-  pub accepted : loadsNumber r ≡ 0
+  pub contract : loads_outcome r new ≡ partial_loads bs n t terms k old
+  pub accepted : loads_number r ≡ 0
 
 -- the entries of station v: the pairs and the load over the sources below k
 pub record PartlyLoaded (bs : List ℕ) (n t : ℕ) (terms : Terms) (k : ℕ) (new : LoadBuffers) (v : ℕ) : Type 0 where
-  pub pairs_of : get_or new.pairsTable v 0 ≡ partialPairs (plan_of bs n t terms) k v
-  pub load_of : get_or new.loadTable v 0 ≡ partialLoad (plan_of bs n t terms) k v
+  pub pairs_of : get_or new.pairs_table v 0 ≡ partial_pairs (plan_of bs n t terms) k v
+  pub load_of : get_or new.load_table v 0 ≡ partial_load (plan_of bs n t terms) k v
 
 -- A figure x that is still open by a rest, and a later one y that is open by another: y is not lower, and the span from y to y and
 -- its rest lies within that of x.
@@ -28,15 +28,15 @@ pub record SpanWithin (x rest y rest' : ℕ) : Type 0 where
 
 -- the tables of a call with k sources, and those of one with j sources, at station v
 pub record Narrowed (n k j : ℕ) (new new' : LoadBuffers) (v : ℕ) : Type 0 where
-  pub pairs-span : SpanWithin (get_or new.pairsTable v 0) (restOfPairs n k) (get_or new'.pairsTable v 0) (restOfPairs n j)
-  pub load-span : SpanWithin (get_or new.loadTable v 0) (restOfLoad n k) (get_or new'.loadTable v 0) (restOfLoad n j)
+  pub pairs_span : SpanWithin (get_or new.pairs_table v 0) (rest_of_pairs n k) (get_or new'.pairs_table v 0) (rest_of_pairs n j)
+  pub load_span : SpanWithin (get_or new.load_table v 0) (rest_of_load n k) (get_or new'.load_table v 0) (rest_of_load n j)
 
 -- the tables of a call with k sources, and those of the loads, at station v: the loads are not lower, and higher by at most the rest
 pub record Bounded (n k : ℕ) (new full : LoadBuffers) (v : ℕ) : Type 0 where
-  pub pairs-least : get_or new.pairsTable v 0 ≤ get_or full.pairsTable v 0
-  pub pairs-most : get_or full.pairsTable v 0 ≤ get_or new.pairsTable v 0 + restOfPairs n k
-  pub load-least : get_or new.loadTable v 0 ≤ get_or full.loadTable v 0
-  pub load-most : get_or full.loadTable v 0 ≤ get_or new.loadTable v 0 + restOfLoad n k
+  pub pairs_least : get_or new.pairs_table v 0 ≤ get_or full.pairs_table v 0
+  pub pairs_most : get_or full.pairs_table v 0 ≤ get_or new.pairs_table v 0 + rest_of_pairs n k
+  pub load_least : get_or new.load_table v 0 ≤ get_or full.load_table v 0
+  pub load_most : get_or full.load_table v 0 ≤ get_or new.load_table v 0 + rest_of_load n k
 
 -- C-18, for every call that the contracts allow.
 pub record PartialDemand : Type 0 where
@@ -61,13 +61,13 @@ pub record PartialDemand : Type 0 where
   pub whole :
       (bs : List ℕ) (n t : ℕ) (terms : Terms) (old : LoadBuffers) (r : LoadsAnswer) (new : LoadBuffers) (r' : LoadsAnswer)
       (new' : LoadBuffers) →
-      loadsOutcome r new ≡ partialLoads bs n t terms n old → loadsOutcome r' new' ≡ loads bs n t terms old →
-      loadsOutcome r new ≡ loadsOutcome r' new'
+      loads_outcome r new ≡ partial_loads bs n t terms n old → loads_outcome r' new' ≡ loads bs n t terms old →
+      loads_outcome r new ≡ loads_outcome r' new'
   -- with k = 0 there is no 9, and an accepted call leaves zeros
   pub no_source :
       (bs : List ℕ) (n t : ℕ) (terms : Terms) (old : LoadBuffers) (r : LoadsAnswer) (new : LoadBuffers) →
-      loadsOutcome r new ≡ partialLoads bs n t terms 0 old → loadsNumber r ≢ 9
-  pub no-source-zeros :
+      loads_outcome r new ≡ partial_loads bs n t terms 0 old → loads_number r ≢ 9
+  pub no_source_zeros :
       (bs : List ℕ) (n t : ℕ) (terms : Terms) (old : LoadBuffers) (r : LoadsAnswer) (new : LoadBuffers) →
       PartialAccepts bs n t terms 0 old r new → (v : ℕ) → v < n →
-      (get_or new.pairsTable v 0 ≡ 0) × (get_or new.loadTable v 0 ≡ 0)
+      (get_or new.pairs_table v 0 ≡ 0) × (get_or new.load_table v 0 ≡ 0)

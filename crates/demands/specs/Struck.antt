@@ -3,26 +3,26 @@
 use Rattle.std.specs.Prelude.{ℕ, ◌*◌, ◌^◌, ◌≤◌, ◌<◌, ◌≡◌, ◌||◌, List, ltb, pos, ◌-ℤ◌, length, get_or}
 use Rattle.temporal.specs.Plan.{Terms}
 use Rattle.temporal.specs.Bytes.{plan_of}
-use Rattle.temporal.specs.Cause.{planFault}
-use Rattle.temporal.specs.Shortest.{shortestWalksTo, hops, count}
-use Rattle.temporal.specs.Struck.{struckOut, lackingRecord, uses, pairsUsing, change, magnitude}
+use Rattle.temporal.specs.Cause.{plan_fault}
+use Rattle.temporal.specs.Shortest.{shortest_walks_to, hops, count}
+use Rattle.temporal.specs.Struck.{struck_out, lacking_record, uses, pairs_using, change, magnitude}
 use Rattle.temporal.specs.OutcomePair.{LoadBuffers}
 use Rattle.temporal.specs.OutcomeStruck.{StruckBuffers, struck}
 use Rattle.loads.specs.declared.LoadsAnswer.{LoadsAnswer}
-use Rattle.struck.specs.Answer.{struckNumber, struckPairs, struckOutcome}
+use Rattle.struck.specs.Answer.{struck_number, struck_pairs, struck_outcome}
 use Rattle.struck.specs.declared.StruckAnswer.{StruckAnswer}
 use Rattle.demands.specs.PairLoads.{LoadsAccepts}
 
 -- The operation accepted the call: its ensures holds of the answer and the buffers before and after, and the number is 0.
 pub record StruckAccepts (bs : List ℕ) (n t : ℕ) (terms : Terms) (i : ℕ) (old : StruckBuffers) (r : StruckAnswer) (new : StruckBuffers)
     : Type 0 where
-  pub contract : struckOutcome r new ≡ struck bs n t terms i old
-  pub accepted : struckNumber r ≡ 0
+  pub contract : struck_outcome r new ≡ struck bs n t terms i old
+  pub accepted : struck_number r ≡ 0
 
 -- what an accepted call leaves: the number of pairs that use the contact, and each station's change of load
 pub record StruckTold (bs : List ℕ) (n t : ℕ) (terms : Terms) (i : ℕ) (r : StruckAnswer) (new : StruckBuffers) : Type 0 where
-  pub pairs_of : struckPairs r ≡ length (pairsUsing (plan_of bs n t terms) i)
-  pub change-of : (v : ℕ) → v < n → get_or new.changeTable v (pos 0) ≡ change (plan_of bs n t terms) i v
+  pub pairs_of : struck_pairs r ≡ length (pairs_using (plan_of bs n t terms) i)
+  pub change_of : (v : ℕ) → v < n → get_or new.change_table v (pos 0) ≡ change (plan_of bs n t terms) i v
 
 -- C-23, for every call that the contracts allow.
 pub record StruckDemand : Type 0 where
@@ -33,24 +33,24 @@ pub record StruckDemand : Type 0 where
   pub bounded :
       (bs : List ℕ) (n t : ℕ) (terms : Terms) (i : ℕ) (old : StruckBuffers) (r : StruckAnswer) (new : StruckBuffers) →
       StruckAccepts bs n t terms i old r new → (v : ℕ) → v < n →
-      magnitude (get_or new.changeTable v (pos 0)) ≤ struckPairs r * 2 ^ 32
+      magnitude (get_or new.change_table v (pos 0)) ≤ struck_pairs r * 2 ^ 32
   -- with 0 pairs every change is 0
   pub unchanged :
       (bs : List ℕ) (n t : ℕ) (terms : Terms) (i : ℕ) (old : StruckBuffers) (r : StruckAnswer) (new : StruckBuffers) →
-      StruckAccepts bs n t terms i old r new → struckPairs r ≡ 0 → (v : ℕ) → v < n → get_or new.changeTable v (pos 0) ≡ pos 0
+      StruckAccepts bs n t terms i old r new → struck_pairs r ≡ 0 → (v : ℕ) → v < n → get_or new.change_table v (pos 0) ≡ pos 0
   -- a pair uses the contact exactly if without it the pair has more hops, 65535 where it has no walk, or fewer walks
   pub exactly :
-      (bs : List ℕ) (n t : ℕ) (terms : Terms) → planFault bs n t ≡ 0 → (i s z : ℕ) →
+      (bs : List ℕ) (n t : ℕ) (terms : Terms) → plan_fault bs n t ≡ 0 → (i s z : ℕ) →
       uses (plan_of bs n t terms) i s z ≡
-      (ltb (hops (shortestWalksTo (plan_of bs n t terms) s z)) (hops (shortestWalksTo (struckOut (plan_of bs n t terms) i) s z)) ||
-      ltb (count (shortestWalksTo (struckOut (plan_of bs n t terms) i) s z)) (count (shortestWalksTo (plan_of bs n t terms) s z)))
+      (ltb (hops (shortest_walks_to (plan_of bs n t terms) s z)) (hops (shortest_walks_to (struck_out (plan_of bs n t terms) i) s z)) ||
+      ltb (count (shortest_walks_to (struck_out (plan_of bs n t terms) i) s z)) (count (shortest_walks_to (plan_of bs n t terms) s z)))
   -- the plan without the record is the plan whose bytes lack those six, and it is accepted
-  pub shorter : (bs : List ℕ) (n t : ℕ) (terms : Terms) (i : ℕ) → plan_of (lackingRecord bs i) n t terms ≡ struckOut (plan_of bs n t terms) i
-  pub shorter-accepted : (bs : List ℕ) (n t : ℕ) → planFault bs n t ≡ 0 → (i : ℕ) → planFault (lackingRecord bs i) n t ≡ 0
+  pub shorter : (bs : List ℕ) (n t : ℕ) (terms : Terms) (i : ℕ) → plan_of (lacking_record bs i) n t terms ≡ struck_out (plan_of bs n t terms) i
+  pub shorter_accepted : (bs : List ℕ) (n t : ℕ) → plan_fault bs n t ≡ 0 → (i : ℕ) → plan_fault (lacking_record bs i) n t ≡ 0
   -- so a change is what loads gives for the bytes without the six less what it gives for all of them
-  pub by-loads :
+  pub by_loads :
       (bs : List ℕ) (n t : ℕ) (terms : Terms) (i : ℕ) (old : StruckBuffers) (r : StruckAnswer) (new : StruckBuffers)
       (old-less : LoadBuffers) (r-less : LoadsAnswer) (less : LoadBuffers) (old-full : LoadBuffers) (r-full : LoadsAnswer) (full : LoadBuffers) →
-      StruckAccepts bs n t terms i old r new → LoadsAccepts (lackingRecord bs i) n t terms old-less r-less less →
+      StruckAccepts bs n t terms i old r new → LoadsAccepts (lacking_record bs i) n t terms old-less r-less less →
       LoadsAccepts bs n t terms old-full r-full full → (v : ℕ) → v < n →
-      get_or new.changeTable v (pos 0) ≡ pos (get_or less.loadTable v 0) -ℤ pos (get_or full.loadTable v 0)
+      get_or new.change_table v (pos 0) ≡ pos (get_or less.load_table v 0) -ℤ pos (get_or full.load_table v 0)

@@ -7,22 +7,22 @@ use Rattle.temporal.specs.OutcomeVerdict.{verdict}
 use Rattle.temporal.specs.FirstNext.{Question, list_of}
 use Rattle.temporal.specs.Trace.{Event, Asked}
 use Rattle.temporal.specs.TraceGiven.{given, FromFirstWay}
-use Rattle.verdicts.specs.Answer.{verdictNumber, verdictGiven, verdictOutcome}
+use Rattle.verdicts.specs.Answer.{verdict_number, verdict_given, verdict_outcome}
 use Rattle.verdicts.specs.declared.VerdictAnswer.{VerdictAnswer}
 
 -- The operation accepted the question with a list: its ensures holds of the answer and the work area before and after, and the number
 -- is 0.
 pub record VerdictAccepts (q : Question) (list old : List ℕ) (r : VerdictAnswer) (new : List ℕ) : Type 0 where
   pub contract :
-      verdictOutcome r new ≡ verdict q.bytes q.stations q.slots q.terms q.source q.destination list old
-  pub accepted : verdictNumber r ≡ 0
+      verdict_outcome r new ≡ verdict q.bytes q.stations q.slots q.terms q.source q.destination list old
+  pub accepted : verdict_number r ≡ 0
 
 -- What an accepted call says of its list, by the complete list l: one of the three verdicts, and each exactly where it is so.
 pub record VerdictSaid (l : List (List ℕ)) (list : List ℕ) (r : VerdictAnswer) : Type 0 where
-  pub given-one : (v : Verdict) × (verdictGiven r ≡ some v)
-  pub is-complete : (verdictGiven r ≡ some complete) ↔ IsComplete l list
-  pub is-beginning : (verdictGiven r ≡ some beginning) ↔ IsBeginning l list
-  pub is-wrong : (verdictGiven r ≡ some wrong) ↔ ((IsComplete l list → ⊥) × (IsBeginning l list → ⊥))
+  pub given_one : (v : Verdict) × (verdict_given r ≡ some v)
+  pub is_complete : (verdict_given r ≡ some complete) ↔ IsComplete l list
+  pub is_beginning : (verdict_given r ≡ some beginning) ↔ IsBeginning l list
+  pub is_wrong : (verdict_given r ≡ some wrong) ↔ ((IsComplete l list → ⊥) × (IsBeginning l list → ⊥))
   -- no list is complete and a beginning
   pub disjoint : IsComplete l list → IsBeginning l list → ⊥
 
@@ -33,9 +33,9 @@ pub record VerdictDemand : Type 0 where
       VerdictSaid (list_of q) list r
   -- In a trace, the ways given from one accepted first way until just before the next, one behind another, get "complete" where all
   -- are out and "a proper beginning" otherwise.
-  pub of-traces :
+  pub of_traces :
       (q : Question) → Asked q → (e : Event) (es : List Event) → FromFirstWay q e es →
       (old : List ℕ) (r : VerdictAnswer) (new : List ℕ) → VerdictAccepts q (joined (given (e ∷ es))) old r new →
-      (length (given (e ∷ es)) ≡ length (list_of q) → verdictGiven r ≡ some complete) ×
-      (length (given (e ∷ es)) < length (list_of q) → verdictGiven r ≡ some beginning) ×
+      (length (given (e ∷ es)) ≡ length (list_of q) → verdict_given r ≡ some complete) ×
+      (length (given (e ∷ es)) < length (list_of q) → verdict_given r ≡ some beginning) ×
       (length (given (e ∷ es)) ≤ length (list_of q))

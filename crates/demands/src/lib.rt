@@ -1,1 +1,2 @@
 // Laws alone: the demands on the operations, a theorem each.
+#![tactic(auto)]

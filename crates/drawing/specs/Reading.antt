@@ -2,7 +2,7 @@
 -- Assumes nothing.
 use Rattle.std.specs.Prelude.{◌≡◌, ℕ, ◌+◌, ◌*◌, ◌^◌, ◌<◌, List, ◌≢◌, to_bits}
 use Rattle.std.specs.Float.{binary64}
-use Rattle.temporal.specs.Drawing.{shareBits, ReadBack, foreign, station, Reads}
+use Rattle.temporal.specs.Drawing.{share_bits, ReadBack, foreign, station, Reads}
 use Rattle.drawing.specs.declared.Drawn.{Drawn}
 use Rattle.drawing.specs.declared.Number.{Number}
 use Rattle.drawing.specs.declared.Number.TheVariants as number
@@ -10,34 +10,34 @@ use Rattle.drawing.specs.declared.Parsed.{Parsed}
 use Rattle.drawing.specs.declared.Parsed.TheVariants as parsed
 use Rattle.drawing.specs.declared.Reading.{Reading}
 use Rattle.drawing.specs.declared.Reading.TheVariants as reading
-use Rattle.drawing.specs.Doubles.{drawnBytes}
+use Rattle.drawing.specs.Doubles.{drawn_bytes}
 
 -- the answer in the definitions' words
-abbrev pub readBack : Reading → ReadBack
-readBack reading.Foreign = foreign
-readBack (reading.Station v load pairs) = station v load pairs
+abbrev pub read_result : Reading → ReadBack
+read_result reading.Foreign = foreign
+read_result (reading.Station v load pairs) = station v load pairs
 
 -- the number below 2^53 whose share has these bits; none where no number's share has them
 unfoldable pub NumberOf : ℕ → Number → Type 0
-NumberOf b number.None = (x : ℕ) → x < 2 ^ 53 → shareBits x ≢ b
-NumberOf b (number.Whole x) = (x < 2 ^ 53) × (shareBits x ≡ b)
+NumberOf b number.None = (x : ℕ) → x < 2 ^ 53 → share_bits x ≢ b
+NumberOf b (number.Whole x) = (x < 2 ^ 53) × (share_bits x ≡ b)
 
 -- a station of 16 bits and doubles that are finite and carry no minus sign
 pub record Parseable (d : Drawn) : Type 0 where
-  pub station-low : d.station < 65536
-  pub low-finite : to_bits binary64 d.low < 2047 * 2 ^ 52
-  pub high-finite : to_bits binary64 d.high < 2047 * 2 ^ 52
+  pub station_low : d.station < 65536
+  pub low_finite : to_bits binary64 d.low < 2047 * 2 ^ 52
+  pub high_finite : to_bits binary64 d.high < 2047 * 2 ^ 52
 
 -- the record that bytes are; none only where the bytes are foreign
 unfoldable pub ParsedAs : List ℕ → Parsed → Type 0
 ParsedAs bytes parsed.Foreign = Reads bytes foreign
-ParsedAs bytes (parsed.Record d) = Parseable d × (drawnBytes d ≡ bytes)
+ParsedAs bytes (parsed.Record d) = Parseable d × (drawn_bytes d ≡ bytes)
 
 -- station, load and pairs within the limits, where the pairs and the load add up to a sum
 pub record Limits (v load pairs sum : ℕ) : Type 0 where
-  pub station-low : v < 256
+  pub station_low : v < 256
   pub load_low : load < 2 ^ 49
-  pub pairs-low : pairs < 2 ^ 49
+  pub pairs_low : pairs < 2 ^ 49
   pub no_pairs : pairs ≡ 0 → load ≡ 0
   pub adds : load + pairs ≡ sum
 

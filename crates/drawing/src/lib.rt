@@ -1,21 +1,22 @@
 // Records of 18 bytes for the drawing program: a station and two doubles, written and read back.
+#![tactic(auto)]
 ghost use Rattle.std.specs.Prelude.{◌≡◌, ◌+◌, ◌*◌, ◌^◌, ◌<◌, ◌≤◌, not, T, length, is_nan, to_bits};
 ghost use Rattle.std.proofs.lemmas.List.Edits.{sets};
 ghost use Rattle.std.specs.Float.{binary64};
-ghost use Rattle.temporal.specs.Drawing.{shareBits, carried, bytes_of, drawnRecord, Reads};
+ghost use Rattle.temporal.specs.Drawing.{share_bits, carried, bytes_of, drawn_record, Reads};
 ghost use Rattle.drawing.specs.Bytes.{number_at};
-ghost use Rattle.drawing.specs.Doubles.{carriedBits, DrawnAs, drawnBytes};
-ghost use Rattle.drawing.specs.Reading.{readBack, NumberOf, Parseable, ParsedAs, NumbersRead};
+ghost use Rattle.drawing.specs.Doubles.{carried_bits, DrawnAs, drawn_bytes};
+ghost use Rattle.drawing.specs.Reading.{read_result, NumberOf, Parseable, ParsedAs, NumbersRead};
 
 // What a station carries: a low and a high double, or nothing.
-#[derive(Drop)]
+#[derive(Clone, Copy)]
 pub enum Figures {
     Idle,
     Carries(f64, f64),
 }
 
 // What a record holds.
-#[derive(Drop)]
+#[derive(Clone, Copy)]
 pub struct Drawn {
     pub station: usize,
     pub low: f64,
@@ -25,7 +26,7 @@ pub struct Drawn {
 // x / 2^32; nothing is rounded.
 pub fn share_value(x: u64) -> f64
     requires { x < 2 ^ 53 }
-    ensures { to_bits binary64 result ≡ shareBits x }
+    ensures { to_bits binary64 result ≡ share_bits x }
 {
     x as f64 / 4294967296.0
 }
@@ -33,7 +34,7 @@ pub fn share_value(x: u64) -> f64
 // The figures of a station with a load and a number of pairs.
 pub fn figures_of(load: u64, pairs: u64) -> Figures
     requires { (load < 2 ^ 49) × (pairs < 2 ^ 49) }
-    ensures { carriedBits result ≡ carried load pairs }
+    ensures { carried_bits result ≡ carried load pairs }
 {
     if pairs == 0 {
         return Figures::Idle;
@@ -76,7 +77,7 @@ fn write_double(records: &mut [u8], at: usize, bits: u64)
 pub fn write_record(records: &mut [u8], at: usize, drawn: Drawn)
     requires at_in_bounds { at + 18 ≤ length records.old }
     requires t { T (not (is_nan drawn.low)) × T (not (is_nan drawn.high)) }
-    ensures { records.new ≡ sets records.old at (drawnBytes drawn) }
+    ensures { records.new ≡ sets records.old at (drawn_bytes drawn) }
 {
     let station = drawn.station;
     records[at] = (station / 256 % 256) as u8;
@@ -89,27 +90,27 @@ pub fn write_record(records: &mut [u8], at: usize, drawn: Drawn)
 pub fn draw_station(records: &mut [u8], at: usize, station: usize, load: u64, pairs: u64)
     requires at_in_bounds { at + 18 ≤ length records.old }
     requires load_bound { (load < 2 ^ 49) × (pairs < 2 ^ 49) }
-    ensures { records.new ≡ sets records.old at (drawnRecord station load pairs) }
+    ensures { records.new ≡ sets records.old at (drawn_record station load pairs) }
 {
     write_record(records, at, drawn_of(station, load, pairs));
 }
 
 // The whole number below 2^53 whose share a double is, or none.
-#[derive(Drop)]
+#[derive(Clone, Copy)]
 enum Number {
     None,
     Whole(u64),
 }
 
 // What bytes hold: a record of a station and two numbers that are not negative, or none.
-#[derive(Drop)]
+#[derive(Clone, Copy)]
 enum Parsed {
     Foreign,
     Record(Drawn),
 }
 
 // What is read back of bytes: a station with its load and its number of pairs, or that no station could have written them.
-#[derive(Drop)]
+#[derive(Clone, Copy)]
 pub enum Reading {
     Foreign,
     Station(usize, u64, u64),
@@ -181,7 +182,7 @@ fn number_of(value: f64) -> Number
 
 // The station, load and pairs of a load and its sum with the pairs.
 fn read_numbers(station: usize, load: u64, sum: u64) -> Reading
-    ensures { NumbersRead station load sum (readBack result) }
+    ensures { NumbersRead station load sum (read_result result) }
 {
     if 256 <= station {
         return Reading::Foreign;
@@ -207,7 +208,7 @@ fn read_numbers(station: usize, load: u64, sum: u64) -> Reading
 // What a record says.
 fn read_drawn(drawn: Drawn) -> Reading
     requires { Parseable drawn }
-    ensures { Reads (drawnBytes drawn) (readBack result) }
+    ensures { Reads (drawn_bytes drawn) (read_result result) }
 {
     let Number::Whole(load) = number_of(drawn.low) else {
         return Reading::Foreign;
@@ -220,7 +221,7 @@ fn read_drawn(drawn: Drawn) -> Reading
 
 // Reads bytes back.
 pub fn read_record(bytes: &[u8]) -> Reading
-    ensures { Reads bytes.now (readBack result) }
+    ensures { Reads bytes.now (read_result result) }
 {
     let Parsed::Record(drawn) = parse_record(bytes) else {
         return Reading::Foreign;

@@ -12,54 +12,54 @@ use Rattle.temporal.specs.Plan.{Terms}
 use Rattle.temporal.specs.Lists.{below}
 use Rattle.temporal.specs.Load.{pairs, load}
 use Rattle.temporal.specs.Bytes.{plan_of}
-use Rattle.temporal.specs.Cause.{planFault, first, termsCauses, tooManyAnywhere}
-use Rattle.temporal.specs.Outcome.{Outcome, over, cleared, workSize}
-use Rattle.temporal.specs.OutcomePair.{LoadBuffers, partlyLoaded}
-use Rattle.temporal.specs.OutcomeDrawn.{DrawnBuffers, recordsSize, drawnRecords, drawnLoaded, drawnShort, drawnLoads}
+use Rattle.temporal.specs.Cause.{plan_fault, first, terms_causes, too_many_anywhere}
+use Rattle.temporal.specs.Outcome.{Outcome, over, cleared, work_size}
+use Rattle.temporal.specs.OutcomePair.{LoadBuffers, partly_loaded}
+use Rattle.temporal.specs.OutcomeDrawn.{DrawnBuffers, records_size, drawn_records, drawn_loaded, drawn_short, drawn_loads}
 use Rattle.walks.proofs.Accepted.{accepted}
-use Rattle.lists.proofs.BufferLaws.{written, length-made, length_over}
+use Rattle.lists.proofs.BufferLaws.{written, length_made, length_over}
 use Rattle.walks.proofs.EnteredLaws.{
-  refusedWith,
-  entered-plan,
-  entered-call,
-  entered-none,
-  entered-cause,
-  entered-pass,
-  entered-work,
+  refused_with,
+  entered_plan,
+  entered_call,
+  entered_none,
+  entered_cause,
+  entered_pass,
+  entered_work,
 }
-use Rattle.lists.proofs.ListLaws.{true-or-false}
-use Rattle.counting.proofs.ExactSum.{pairs-at-most, load_below}
-use Rattle.plan.specs.Fault.{planNumber, callNumber, faultNumber, checkNumber}
+use Rattle.lists.proofs.ListLaws.{true_or_false}
+use Rattle.counting.proofs.ExactSum.{pairs_at_most, load_below}
+use Rattle.plan.specs.Fault.{plan_number, call_number, fault_number, check_number}
 use Rattle.plan.specs.declared.Fault.{Fault}
 use Rattle.plan.specs.declared.CallFault.{CallFault}
 use Rattle.plan.specs.declared.PlanFault.{PlanFault}
 use Rattle.plan.specs.declared.CheckAnswer.{CheckAnswer}
 use Rattle.plan.specs.declared.CheckAnswer.TheVariants as check-answer
 use Rattle.plan.proofs.Answers.{number-positive, fault-number-within}
-use Rattle.calls.specs.Call.{callCheckNumber}
+use Rattle.calls.specs.Call.{call_check_number}
 use Rattle.calls.specs.declared.CallCheck.{CallCheck}
 use Rattle.calls.specs.declared.CallCheck.TheVariants as call-check
-use Rattle.calls.proofs.CallLaws.{terms-allowed, terms-refused}
-use Rattle.loads.specs.Answer.{loadBuffers, loadsOutcome, loadsNumber}
+use Rattle.calls.proofs.CallLaws.{terms_allowed, terms_refused}
+use Rattle.loads.specs.Answer.{load_buffers, loads_outcome, loads_number}
 use Rattle.loads.specs.declared.LoadsAnswer.{LoadsAnswer}
 use Rattle.loads.specs.declared.LoadsAnswer.TheVariants as loads-answer
-use Rattle.drawn.specs.Answer.{drawnBuffers, drawnOutcome}
-use Rattle.drawn.specs.Work.{recordsFrom, Drawable, DrawnReady}
-use Rattle.drawn.proofs.RecordsLaws.{records-all}
+use Rattle.drawn.specs.Answer.{drawn_buffers, drawn_outcome}
+use Rattle.drawn.specs.Work.{records_from, Drawable, DrawnReady}
+use Rattle.drawn.proofs.RecordsLaws.{records_all}
 
 -- ---- the work, from what loads leaves
 
 module _ (bs : List ℕ) (n t : ℕ) (terms : Terms) (ps ls rs area : List ℕ) (ready : DrawnReady bs n t terms ps ls rs area)
     (r : LoadsAnswer) (ps' ls' area' : List ℕ)
-    (left : loadsOutcome r (loadBuffers ps' ls' area') ≡ partlyLoaded (plan_of bs n t terms) n (loadBuffers ps ls area)) where
+    (left : loads_outcome r (load_buffers ps' ls' area') ≡ partly_loaded (plan_of bs n t terms) n (load_buffers ps ls area)) where
   -- the records besides
-  drawn-by :
+  drawn_by :
       (rs' : List ℕ) →
       rs' ≡
-      cond (tooManyAnywhere (plan_of bs n t terms)) (cleared (recordsSize n) rs) (over (drawnRecords (plan_of bs n t terms)) rs) →
-      drawnOutcome r (drawnBuffers ps' ls' rs' area') ≡ drawnLoaded (plan_of bs n t terms) (drawnBuffers ps ls rs area)
-  unfolding drawnLoaded plan_of
-  drawn-by rs' e =
+      cond (too_many_anywhere (plan_of bs n t terms)) (cleared (records_size n) rs) (over (drawn_records (plan_of bs n t terms)) rs) →
+      drawn_outcome r (drawn_buffers ps' ls' rs' area') ≡ drawn_loaded (plan_of bs n t terms) (drawn_buffers ps ls rs area)
+  unfolding drawn_loaded plan_of
+  drawn_by rs' e =
       ap₂
       (λ (o : Outcome (Unit {0}) LoadBuffers) (l : List ℕ).
       record { number = o.number; values = tt; buffers = record { tables = o.buffers; records = l } })
@@ -67,157 +67,157 @@ module _ (bs : List ℕ) (n t : ℕ) (terms : Terms) (ps ls rs area : List ℕ) 
 
   -- loads refused: its number is 9, and the records are cleared
   module _ (f : Fault) (is : r ≡ loads-answer.Refused f) where
-    many : tooManyAnywhere (plan_of bs n t terms) ≡ true
-    unfolding partlyLoaded plan_of
+    many : too_many_anywhere (plan_of bs n t terms) ≡ true
+    unfolding partly_loaded plan_of
     many =
         ⊎_elim
         (λ yes. yes)
         (λ no.
-        let number : faultNumber f ≡ 0 = ap loadsNumber (sym is) ∙ ap (λ o. o.number) (rw no at left) in
+        let number : fault_number f ≡ 0 = ap loads_number (sym is) ∙ ap (λ o. o.number) (rw no at left) in
         absurd (omega (arith, (fault-number-within f).0)))
-        (true-or-false (tooManyAnywhere (plan_of bs n t terms)))
+        (true_or_false (too_many_anywhere (plan_of bs n t terms)))
 
-    pub drawn-refused :
-        (rs' : List ℕ) → rs' ≡ over (replicate (recordsSize n) 0) rs →
-        drawnOutcome (loads-answer.Refused f) (drawnBuffers ps' ls' rs' area') ≡
-        drawnLoaded (plan_of bs n t terms) (drawnBuffers ps ls rs area)
+    pub drawn_refused :
+        (rs' : List ℕ) → rs' ≡ over (replicate (records_size n) 0) rs →
+        drawn_outcome (loads-answer.Refused f) (drawn_buffers ps' ls' rs' area') ≡
+        drawn_loaded (plan_of bs n t terms) (drawn_buffers ps ls rs area)
     unfolding cleared
-    drawn-refused rs' e =
-        ap (λ a. drawnOutcome a (drawnBuffers ps' ls' rs' area')) (sym is) ∙ drawn-by rs' (rw many e)
+    drawn_refused rs' e =
+        ap (λ a. drawn_outcome a (drawn_buffers ps' ls' rs' area')) (sym is) ∙ drawn_by rs' (rw many e)
 
   -- loads went through: the tables have the pairs and the loads, which are small enough to be drawn
   module _ (is : r ≡ loads-answer.Loaded) where
-    few : tooManyAnywhere (plan_of bs n t terms) ≡ false
-    unfolding partlyLoaded plan_of
+    few : too_many_anywhere (plan_of bs n t terms) ≡ false
+    unfolding partly_loaded plan_of
     few =
         ⊎_elim
-        (λ yes. absurd (let z : ◌≡◌ {A = ℕ} 0 9 = ap loadsNumber (sym is) ∙ ap (λ o. o.number) (rw yes at left) in omega arith))
+        (λ yes. absurd (let z : ◌≡◌ {A = ℕ} 0 9 = ap loads_number (sym is) ∙ ap (λ o. o.number) (rw yes at left) in omega arith))
         (λ no. no)
-        (true-or-false (tooManyAnywhere (plan_of bs n t terms)))
+        (true_or_false (too_many_anywhere (plan_of bs n t terms)))
 
-    pairs-are : ps' ≡ over (map (pairs (plan_of bs n t terms)) (below n)) ps
-    unfolding partlyLoaded plan_of
-    pairs-are = let no = few in ap (λ o. o.buffers.pairsTable) (rw no at left)
+    pairs_are : ps' ≡ over (map (pairs (plan_of bs n t terms)) (below n)) ps
+    unfolding partly_loaded plan_of
+    pairs_are = let no = few in ap (λ o. o.buffers.pairs_table) (rw no at left)
 
-    loads-are : ls' ≡ over (map (load (plan_of bs n t terms)) (below n)) ls
-    unfolding partlyLoaded plan_of
-    loads-are = let no = few in ap (λ o. o.buffers.loadTable) (rw no at left)
+    loads_are : ls' ≡ over (map (load (plan_of bs n t terms)) (below n)) ls
+    unfolding partly_loaded plan_of
+    loads_are = let no = few in ap (λ o. o.buffers.load_table) (rw no at left)
 
-    pairs-at : (v : ℕ) → v < n → get_or ps' v 0 ≡ pairs (plan_of bs n t terms) v
-    pairs-at v h = ap (λ l. get_or l v 0) pairs-are ∙ written (pairs (plan_of bs n t terms)) n v ps h
+    pairs_at : (v : ℕ) → v < n → get_or ps' v 0 ≡ pairs (plan_of bs n t terms) v
+    pairs_at v h = ap (λ l. get_or l v 0) pairs_are ∙ written (pairs (plan_of bs n t terms)) n v ps h
 
-    loads-at : (v : ℕ) → v < n → get_or ls' v 0 ≡ load (plan_of bs n t terms) v
-    loads-at v h = ap (λ l. get_or l v 0) loads-are ∙ written (load (plan_of bs n t terms)) n v ls h
+    loads_at : (v : ℕ) → v < n → get_or ls' v 0 ≡ load (plan_of bs n t terms) v
+    loads_at v h = ap (λ l. get_or l v 0) loads_are ∙ written (load (plan_of bs n t terms)) n v ls h
 
-    made-fits : (f : ℕ → ℕ) (l l' : List ℕ) → l' ≡ over (map f (below n)) l → n ≤ length l → n ≤ length l'
-    made-fits f l l' e h =
-        let size = length-made f n in
+    made_fits : (f : ℕ → ℕ) (l l' : List ℕ) → l' ≡ over (map f (below n)) l → n ≤ length l → n ≤ length l'
+    made_fits f l l' e h =
+        let size = length_made f n in
         let same = ap length e ∙ length_over (map f (below n)) l (omega arith) in
         omega arith
 
-    pub drawn-drawable : Drawable n ps' ls' rs
+    pub drawn_drawable : Drawable n ps' ls' rs
     unfolding plan_of
-    drawn-drawable =
+    drawn_drawable =
         let most = (accepted bs n t ready.ready.accepted).stations in
         record {
-          pairs-room = made-fits (pairs (plan_of bs n t terms)) ps ps' pairs-are ready.ready.pairs-room;
-          loads-room = made-fits (load (plan_of bs n t terms)) ls ls' loads-are ready.ready.loads-room;
-          records-room = ready.records-room;
-          pairs-low = λ v h. omega (arith, pairs-at v h, pairs-at-most (plan_of bs n t terms) n v, mul-le-mul most most);
-          loads-low = λ v h. rw (loads-at v h) (load_below (plan_of bs n t terms) n v most most);
+          pairs_room = made_fits (pairs (plan_of bs n t terms)) ps ps' pairs_are ready.ready.pairs_room;
+          loads_room = made_fits (load (plan_of bs n t terms)) ls ls' loads_are ready.ready.loads_room;
+          records_room = ready.records_room;
+          pairs_low = λ v h. omega (arith, pairs_at v h, pairs_at_most (plan_of bs n t terms) n v, mul-le-mul most most);
+          loads_low = λ v h. rw (loads_at v h) (load_below (plan_of bs n t terms) n v most most);
         }
 
-    pub drawn-loaded :
-        (rs' : List ℕ) → rs' ≡ over (recordsFrom ps' ls' 0 n) rs →
-        drawnOutcome loads-answer.Loaded (drawnBuffers ps' ls' rs' area') ≡
-        drawnLoaded (plan_of bs n t terms) (drawnBuffers ps ls rs area)
+    pub drawn_loaded_law :
+        (rs' : List ℕ) → rs' ≡ over (records_from ps' ls' 0 n) rs →
+        drawn_outcome loads-answer.Loaded (drawn_buffers ps' ls' rs' area') ≡
+        drawn_loaded (plan_of bs n t terms) (drawn_buffers ps ls rs area)
     unfolding plan_of
-    drawn-loaded rs' e =
-        let same : recordsFrom ps' ls' 0 n ≡ drawnRecords (plan_of bs n t terms) =
-        records-all (plan_of bs n t terms) ps' ls' n pairs-at loads-at refl in
+    drawn_loaded_law rs' e =
+        let same : records_from ps' ls' 0 n ≡ drawn_records (plan_of bs n t terms) =
+        records_all (plan_of bs n t terms) ps' ls' n pairs_at loads_at refl in
         let no = few in
-        ap (λ a. drawnOutcome a (drawnBuffers ps' ls' rs' area')) (sym is) ∙
-        drawn-by rs' (rw no (e ∙ ap (λ l. over l rs) same))
+        ap (λ a. drawn_outcome a (drawn_buffers ps' ls' rs' area')) (sym is) ∙
+        drawn_by rs' (rw no (e ∙ ap (λ l. over l rs) same))
 
 -- ---- how the operation begins
 
 module _ (bs : List ℕ) (n t : ℕ) (terms : Terms) (ps ls rs area : List ℕ) where
   abbrev buffers : DrawnBuffers
-  buffers = drawnBuffers ps ls rs area
+  buffers = drawn_buffers ps ls rs area
 
   abbrev Is : ℕ → Type 0
-  Is k = ◌≡◌ {A = Outcome (Unit {0}) DrawnBuffers} (record { number = k; values = tt; buffers = buffers }) (drawnLoads bs n t terms buffers)
+  Is k = ◌≡◌ {A = Outcome (Unit {0}) DrawnBuffers} (record { number = k; values = tt; buffers = buffers }) (drawn_loads bs n t terms buffers)
 
-  pub drawn-plan : (r : CheckAnswer) (f : PlanFault) → checkNumber r ≡ planFault bs n t → r ≡ check-answer.Refused f → Is (planNumber f)
-  unfolding drawnLoads
-  drawn-plan r f answer e =
-      let number : planNumber f ≡ planFault bs n t = ap checkNumber (sym e) ∙ answer in
+  pub drawn_plan : (r : CheckAnswer) (f : PlanFault) → check_number r ≡ plan_fault bs n t → r ≡ check-answer.Refused f → Is (plan_number f)
+  unfolding drawn_loads
+  drawn_plan r f answer e =
+      let number : plan_number f ≡ plan_fault bs n t = ap check_number (sym e) ∙ answer in
       let some = number-positive f in
-      ap (refusedWith tt buffers (drawnLoaded (plan_of bs n t terms) buffers)) number ∙
-      sym (entered-plan tt buffers (drawnLoaded (plan_of bs n t terms) buffers) bs n t _ (omega arith))
+      ap (refused_with tt buffers (drawn_loaded (plan_of bs n t terms) buffers)) number ∙
+      sym (entered_plan tt buffers (drawn_loaded (plan_of bs n t terms) buffers) bs n t _ (omega arith))
 
-  module _ (ok : planFault bs n t ≡ 0) where
+  module _ (ok : plan_fault bs n t ≡ 0) where
     -- 12 or 14
-    pub drawn-terms :
-        (r : CallCheck) → callCheckNumber r ≡ first (termsCauses terms) → (f : CallFault) → r ≡ call-check.Refused f → Is (callNumber f)
-    unfolding drawnLoads
-    drawn-terms r found f e = terms-refused tt buffers _ bs n t terms _ ok r found f e
+    pub drawn_terms :
+        (r : CallCheck) → call_check_number r ≡ first (terms_causes terms) → (f : CallFault) → r ≡ call-check.Refused f → Is (call_number f)
+    unfolding drawn_loads
+    drawn_terms r found f e = terms_refused tt buffers _ bs n t terms _ ok r found f e
 
-    module _ (right : first (termsCauses terms) ≡ 0) where
-      lacks : drawnShort n t buffers ≡ true → Is 8
-      unfolding drawnLoads
+    module _ (right : first (terms_causes terms) ≡ 0) where
+      lacks : drawn_short n t buffers ≡ true → Is 8
+      unfolding drawn_loads
       lacks e =
-          sym (entered-call tt buffers _ bs n t _ ok ∙ entered-none tt buffers _ (termsCauses terms) _ right ∙
-          entered-cause tt buffers _ 7 _ [] e)
+          sym (entered_call tt buffers _ bs n t _ ok ∙ entered_none tt buffers _ (terms_causes terms) _ right ∙
+          entered_cause tt buffers _ 7 _ [] e)
 
-      pub drawn-short-pairs : length ps < n → Is 8
-      drawn-short-pairs h = lacks (rw (lt-ltb (length ps) n h))
+      pub drawn_short_pairs : length ps < n → Is 8
+      drawn_short_pairs h = lacks (rw (lt-ltb (length ps) n h))
 
       module _ (a : n ≤ length ps) where
-        pub drawn-short-loads : length ls < n → Is 8
-        drawn-short-loads h = lacks (rw (le-ltb (length ps) n a, lt-ltb (length ls) n h))
+        pub drawn_short_loads : length ls < n → Is 8
+        drawn_short_loads h = lacks (rw (le-ltb (length ps) n a, lt-ltb (length ls) n h))
 
         module _ (b : n ≤ length ls) where
-          pub drawn-short-records : length rs < recordsSize n → Is 8
-          drawn-short-records h =
-              lacks (rw (le-ltb (length ps) n a, le-ltb (length ls) n b, lt-ltb (length rs) (recordsSize n) h))
+          pub drawn_short_records : length rs < records_size n → Is 8
+          drawn_short_records h =
+              lacks (rw (le-ltb (length ps) n a, le-ltb (length ls) n b, lt-ltb (length rs) (records_size n) h))
 
-          module _ (c : recordsSize n ≤ length rs) where
-            pub drawn-short-area : length area < workSize n t → Is 8
-            drawn-short-area h =
+          module _ (c : records_size n ≤ length rs) where
+            pub drawn_short_area : length area < work_size n t → Is 8
+            drawn_short_area h =
                 lacks
                 (rw (
                   le-ltb (length ps) n a,
                   le-ltb (length ls) n b,
-                  le-ltb (length rs) (recordsSize n) c,
-                  lt-ltb (length area) (workSize n t) h,
+                  le-ltb (length rs) (records_size n) c,
+                  lt-ltb (length area) (work_size n t) h,
                 ))
 
-            module _ (d : workSize n t ≤ length area) where
-              pub drawn-works : drawnLoads bs n t terms buffers ≡ drawnLoaded (plan_of bs n t terms) buffers
-              unfolding drawnLoads
-              drawn-works =
-                  entered-call tt buffers _ bs n t _ ok ∙ entered-none tt buffers _ (termsCauses terms) _ right ∙
-                  entered-pass tt buffers _ 8 _ []
+            module _ (d : work_size n t ≤ length area) where
+              pub drawn_works : drawn_loads bs n t terms buffers ≡ drawn_loaded (plan_of bs n t terms) buffers
+              unfolding drawn_loads
+              drawn_works =
+                  entered_call tt buffers _ bs n t _ ok ∙ entered_none tt buffers _ (terms_causes terms) _ right ∙
+                  entered_pass tt buffers _ 8 _ []
                   (rw (
                     le-ltb (length ps) n a,
                     le-ltb (length ls) n b,
-                    le-ltb (length rs) (recordsSize n) c,
-                    le-ltb (length area) (workSize n t) d,
+                    le-ltb (length rs) (records_size n) c,
+                    le-ltb (length area) (work_size n t) d,
                   )) ∙
-                  entered-work tt buffers _
+                  entered_work tt buffers _
 
               -- what the work asks
-              pub drawn-ready : DrawnReady bs n t terms ps ls rs area
-              drawn-ready =
+              pub drawn_ready : DrawnReady bs n t terms ps ls rs area
+              drawn_ready =
                   record {
                     ready = record {
                       accepted = ok;
-                      units = terms-allowed terms right;
+                      units = terms_allowed terms right;
                       sources = omega arith;
-                      pairs-room = a;
-                      loads-room = b;
+                      pairs_room = a;
+                      loads_room = b;
                       area = d;
                     };
-                    records-room = c;
+                    records_room = c;
                   }

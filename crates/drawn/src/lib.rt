@@ -1,13 +1,14 @@
 // Document 02's loads for the drawing program (C-24): the loads call, and behind it the record of each station.
+#![tactic(auto)]
 ghost use Rattle.std.specs.Prelude.{◌≡◌, ◌*◌, ◌<◌};
 ghost use Rattle.std.proofs.lemmas.List.Edits.{sets};
 ghost use Rattle.temporal.specs.Plan.{units};
 ghost use Rattle.temporal.specs.Bytes.{plan_of};
-ghost use Rattle.temporal.specs.Cause.{first, termsCauses, planFault};
+ghost use Rattle.temporal.specs.Cause.{first, terms_causes, plan_fault};
 ghost use Rattle.temporal.specs.Outcome.{over};
-ghost use Rattle.temporal.specs.OutcomeDrawn.{drawnLoaded, drawnLoads};
-ghost use Rattle.drawn.specs.Answer.{drawnBuffers, drawnOutcome};
-ghost use Rattle.drawn.specs.Work.{entryRecord, recordsFrom, Drawable, DrawnReady};
+ghost use Rattle.temporal.specs.OutcomeDrawn.{drawn_loaded, drawn_loads};
+ghost use Rattle.drawn.specs.Answer.{drawn_buffers, drawn_outcome};
+ghost use Rattle.drawn.specs.Work.{entry_record, records_from, Drawable, DrawnReady};
 
 use calls::CallCheck;
 use loads::LoadsAnswer;
@@ -16,7 +17,7 @@ use plan::{CallFault, CheckAnswer, Fault};
 // Writes the record of station v, by its entries in both tables, to its place.
 fn draw_entry(records: &mut [u8], pairs: &[u64], sums: &[u64], n: usize, v: usize)
     requires { Drawable n pairs.now sums.now records.old × (v < n) }
-    ensures { records.new ≡ sets records.old (18 * v) (entryRecord pairs.now sums.now v) }
+    ensures { records.new ≡ sets records.old (18 * v) (entry_record pairs.now sums.now v) }
 {
     drawing::draw_station(records, 18 * v, v, sums[v], pairs[v]);
 }
@@ -24,7 +25,7 @@ fn draw_entry(records: &mut [u8], pairs: &[u64], sums: &[u64], n: usize, v: usiz
 // Writes the records of the stations below n.
 fn draw_records(records: &mut [u8], pairs: &[u64], sums: &[u64], n: usize)
     requires { Drawable n pairs.now sums.now records.old }
-    ensures { records.new ≡ over (recordsFrom pairs.now sums.now 0 n) records.old }
+    ensures { records.new ≡ over (records_from pairs.now sums.now 0 n) records.old }
 {
     let mut v = 0;
     while v < n {
@@ -46,9 +47,9 @@ fn drawn_loads_work(
     h: usize,
 ) -> LoadsAnswer
     requires { DrawnReady plan.now n t (units g h) pairs.old sums.old records.old work.old }
-    ensures { drawnOutcome result (drawnBuffers pairs.new sums.new records.new work.new) ≡
-        drawnLoaded (plan_of plan.now n t (units g h))
-        (drawnBuffers pairs.old sums.old records.old work.old) }
+    ensures { drawn_outcome result (drawn_buffers pairs.new sums.new records.new work.new) ≡
+        drawn_loaded (plan_of plan.now n t (units g h))
+        (drawn_buffers pairs.old sums.old records.old work.old) }
 {
     let LoadsAnswer::Refused(fault) = loads::partial_loads_work(
         pairs, sums, work, plan, n, t, g, h, n,
@@ -72,10 +73,10 @@ fn drawn_loads_asked(
     g: usize,
     h: usize,
 ) -> LoadsAnswer
-    requires { (planFault plan.now n t ≡ 0) × (first (termsCauses (units g h)) ≡ 0) }
-    ensures { drawnOutcome result (drawnBuffers pairs.new sums.new records.new work.new) ≡
-        drawnLoads plan.now n t (units g h)
-        (drawnBuffers pairs.old sums.old records.old work.old) }
+    requires { (plan_fault plan.now n t ≡ 0) × (first (terms_causes (units g h)) ≡ 0) }
+    ensures { drawn_outcome result (drawn_buffers pairs.new sums.new records.new work.new) ≡
+        drawn_loads plan.now n t (units g h)
+        (drawn_buffers pairs.old sums.old records.old work.old) }
 {
     if pairs.len() < n {
         return LoadsAnswer::Refused(Fault::Call(CallFault::Short));
@@ -104,10 +105,10 @@ fn drawn_loads_accepted(
     g: usize,
     h: usize,
 ) -> LoadsAnswer
-    requires { planFault plan.now n t ≡ 0 }
-    ensures { drawnOutcome result (drawnBuffers pairs.new sums.new records.new work.new) ≡
-        drawnLoads plan.now n t (units g h)
-        (drawnBuffers pairs.old sums.old records.old work.old) }
+    requires { plan_fault plan.now n t ≡ 0 }
+    ensures { drawn_outcome result (drawn_buffers pairs.new sums.new records.new work.new) ≡
+        drawn_loads plan.now n t (units g h)
+        (drawn_buffers pairs.old sums.old records.old work.old) }
 {
     let CallCheck::Refused(fault) = calls::terms_call(g, h) else {
         return drawn_loads_asked(pairs, sums, records, work, plan, n, t, g, h);
@@ -127,9 +128,9 @@ pub fn drawn_loads(
     records: &mut [u8],
     work: &mut [u64],
 ) -> LoadsAnswer
-    ensures { drawnOutcome result (drawnBuffers pairs.new sums.new records.new work.new) ≡
-        drawnLoads plan.now n t (units g h)
-        (drawnBuffers pairs.old sums.old records.old work.old) }
+    ensures { drawn_outcome result (drawn_buffers pairs.new sums.new records.new work.new) ≡
+        drawn_loads plan.now n t (units g h)
+        (drawn_buffers pairs.old sums.old records.old work.old) }
 {
     let CheckAnswer::Refused(fault) = plan::check(plan, n, t) else {
         return drawn_loads_accepted(pairs, sums, records, work, plan, n, t, g, h);

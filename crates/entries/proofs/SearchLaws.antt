@@ -13,16 +13,16 @@ module _ (f : ℕ → Bool) (j k : ℕ) where
   any_found h e = let more : k - j ≡ suc (k - (j + 1)) = omega arith in rw (more, e)
 
   -- one that does not is passed over
-  pub any-pass : j < k → f j ≡ false → any f (from j (k - j)) ≡ any f (from (j + 1) (k - (j + 1)))
+  pub any_pass : j < k → f j ≡ false → any f (from j (k - j)) ≡ any f (from (j + 1) (k - (j + 1)))
   unfolding any from
-  any-pass h e = let more : k - j ≡ suc (k - (j + 1)) = omega arith in rw (more, e, add-one j)
+  any_pass h e = let more : k - j ≡ suc (k - (j + 1)) = omega arith in rw (more, e, add-one j)
 
   -- past the last none passes
-  pub any-end : k ≤ j → any f (from j (k - j)) ≡ false
+  pub any_end : k ≤ j → any f (from j (k - j)) ≡ false
   unfolding any from
-  any-end h = let none : k - j ≡ 0 = omega arith in rw none
+  any_end h = let none : k - j ≡ 0 = omega arith in rw none
 
 -- all numbers below k are those from 0 on
-pub any-start : (f : ℕ → Bool) (k : ℕ) → any f (below k) ≡ any f (from 0 (k - 0))
+pub any_start : (f : ℕ → Bool) (k : ℕ) → any f (below k) ≡ any f (from 0 (k - 0))
 unfolding below
-any-start f k = let same : k - 0 ≡ k = omega arith in rw same
+any_start f k = let same : k - 0 ≡ k = omega arith in rw same

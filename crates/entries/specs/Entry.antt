@@ -8,12 +8,12 @@ unfoldable pub stored : ℕ → ℕ
 stored c = cond (ltb 18446744073709551615 c) 0 c
 
 -- the sum of two counts; one over 2^64 - 1 stays so
-unfoldable pub addCounts : ℕ → ℕ → ℕ
-addCounts a b = cond (eqb a 0 || eqb b 0) 0 (cond (ltb (18446744073709551615 - a) b) 0 (a + b))
+unfoldable pub add_counts : ℕ → ℕ → ℕ
+add_counts a b = cond (eqb a 0 || eqb b 0) 0 (cond (ltb (18446744073709551615 - a) b) 0 (a + b))
 
 -- the count beside the fewer of two hops; both counts where the hops are equal
-unfoldable pub mergedCount : ℕ → ℕ → ℕ → ℕ → ℕ
-mergedCount h c l d = cond (ltb l h) d (cond (eqb l h) (addCounts c d) c)
+unfoldable pub merged_count : ℕ → ℕ → ℕ → ℕ → ℕ
+merged_count h c l d = cond (ltb l h) d (cond (eqb l h) (add_counts c d) c)
 
 -- whether h hops and a count say "too many", document 01's cause 9: a count over 2^64 - 1
 unfoldable pub overflows : ℕ → ℕ → Bool

@@ -1,10 +1,11 @@
 // The arithmetic of entries, hops and a count, that reach and the forward pass share. None of these is an operation.
+#![tactic(auto)]
 ghost use Rattle.std.specs.Prelude.{◌≡◌};
-ghost use Rattle.entries.specs.Entry.{addCounts, overflows};
+ghost use Rattle.entries.specs.Entry.{add_counts, overflows};
 
 // The sum of two counts. 0 stands for a count over 2^64 - 1 and stays.
 pub fn add_counts(a: u64, b: u64) -> u64
-    ensures { result ≡ addCounts a b }
+    ensures { result ≡ add_counts a b }
 {
     if a == 0 {
         return 0;

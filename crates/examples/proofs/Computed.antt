@@ -8,70 +8,70 @@ use lib.Dec.{eqb}
 use lib.ListN.{length, get_or}
 use Rattle.temporal.specs.Lists.{below, select}
 use Rattle.temporal.specs.Plan.{Plan}
-use Rattle.temporal.specs.Walk.{isPath}
-use Rattle.temporal.specs.Shortest.{hops, count, throughIn, through}
-use Rattle.temporal.specs.Load.{pairsBy, loadBy, load}
+use Rattle.temporal.specs.Walk.{is_path}
+use Rattle.temporal.specs.Shortest.{hops, count, through_in, through}
+use Rattle.temporal.specs.Load.{pairs_by, load_by, load}
 use Rattle.temporal.specs.Bytes.{plan_of}
-use Rattle.temporal.specs.Cause.{cause, first, termsCauses, wrongSources, planCauses, pairCauses, stationCauses}
-use Rattle.temporal.specs.Outcome.{ReachTables, entered, over, short, places, workSize, appearanceTable, stationTable, reached, reach}
-use Rattle.temporal.specs.OutcomePair.{paired, pair, partlyLoaded, partialLoads}
-use Rattle.temporal.specs.Cursor.{Reply, same_numbers, Operation, indexIn, move}
-use Rattle.temporal.specs.FirstNext.{list_of, wayCauses, overflow, wayWork, wayAnswer}
-use Rattle.walks.proofs.EnteredLaws.{unless-none}
-use Rattle.walks.proofs.FewLaws.{mostLists, few-walks, few-anywhere}
-use Rattle.walks.proofs.GrownLaws.{grownWalks, grownWalksTo, walks-grown, walks-to-grown, pairs-by, load-by}
-use Rattle.examples.specs.Questions.{PlanBytes, station, appearance, walks, complete, throughs, gives, loadsOf, sevens}
-use Rattle.examples.specs.Questions.{termsOf, questionOf, reachedFrom, same_lists, sameReply}
+use Rattle.temporal.specs.Cause.{cause, first, terms_causes, wrong_sources, plan_causes, pair_causes, station_causes}
+use Rattle.temporal.specs.Outcome.{ReachTables, entered, over, short, places, work_size, appearance_table, station_table, reached, reach}
+use Rattle.temporal.specs.OutcomePair.{paired, pair, partly_loaded, partial_loads}
+use Rattle.temporal.specs.Cursor.{Reply, same_numbers, Operation, index_in, move}
+use Rattle.temporal.specs.FirstNext.{list_of, way_causes, overflow, way_work, way_answer}
+use Rattle.walks.proofs.EnteredLaws.{unless_none}
+use Rattle.walks.proofs.FewLaws.{most_lists, few_walks, few_anywhere}
+use Rattle.walks.proofs.GrownLaws.{grown_walks, grown_walks_to, walks_grown, walks_to_grown, pairs_by_law, load_by_law}
+use Rattle.examples.specs.Questions.{PlanBytes, station, appearance, walks, complete, throughs, gives, loads_of, sevens}
+use Rattle.examples.specs.Questions.{terms_of, question_of, reached_from, same_lists, same_reply}
 use Rattle.examples.specs.Table.{right}
 
 module _ (g : PlanBytes) where
   abbrev p : Plan
-  p = plan_of g.bytes g.stations g.slots (termsOf g)
+  p = plan_of g.bytes g.stations g.slots (terms_of g)
 
-  module _ (few : mostLists p ≤ 18446744073709551615) where
+  module _ (few : most_lists p ≤ 18446744073709551615) where
     -- ---- reach
 
     module _ (s v : ℕ)
-        (free : first (planCauses g.bytes g.stations g.slots ++ (termsCauses (termsOf g) ++ stationCauses g.stations s
+        (free : first (plan_causes g.bytes g.stations g.slots ++ (terms_causes (terms_of g) ++ station_causes g.stations s
         (short (places g.stations g.slots) (sevens (places g.stations g.slots)) ||
         short (places g.stations g.slots) (sevens (places g.stations g.slots)) ||
         (short g.stations (sevens g.stations) || short g.stations (sevens g.stations))))) ≡ 0)
       where
         -- the tables that reach leaves
-        reached-is :
-            reachedFrom g s ≡ record {
-              hopsTable = over (appearanceTable p s hops) (sevens (places g.stations g.slots));
-              countTable = over (appearanceTable p s count) (sevens (places g.stations g.slots));
-              stationHops = over (stationTable p s hops) (sevens g.stations);
-              stationCounts = over (stationTable p s count) (sevens g.stations);
+        reached_is :
+            reached_from g s ≡ record {
+              hops_table = over (appearance_table p s hops) (sevens (places g.stations g.slots));
+              count_table = over (appearance_table p s count) (sevens (places g.stations g.slots));
+              station_hops = over (station_table p s hops) (sevens g.stations);
+              station_counts = over (station_table p s count) (sevens g.stations);
             }
-        unfolding reachedFrom reach entered reached
-        reached-is =
-            ap (λ o. o.buffers) (unless-none (first _) _ (reached p s old) free) ∙ rw (few-walks p few s)
+        unfolding reached_from reach entered reached
+        reached_is =
+            ap (λ o. o.buffers) (unless_none (first _) _ (reached p s old) free) ∙ rw (few_walks p few s)
           where
             old : ReachTables
             old =
                 record {
-                  hopsTable = sevens (places g.stations g.slots);
-                  countTable = sevens (places g.stations g.slots);
-                  stationHops = sevens g.stations;
-                  stationCounts = sevens g.stations;
+                  hops_table = sevens (places g.stations g.slots);
+                  count_table = sevens (places g.stations g.slots);
+                  station_hops = sevens g.stations;
+                  station_counts = sevens g.stations;
                 }
 
-        abbrev stationTest : (ℕ → ℕ → List (List ℕ)) → ℕ → ℕ → Bool
-        stationTest P h c =
+        abbrev station_test : (ℕ → ℕ → List (List ℕ)) → ℕ → ℕ → Bool
+        station_test P h c =
             eqb (get_or (over (map (λ v. hops (P s v)) (below g.stations)) (sevens g.stations)) v 7) h &&
             eqb (get_or (over (map (λ v. count (P s v)) (below g.stations)) (sevens g.stations)) v 7) c
 
-        pub station-right : (h c : ℕ) → stationTest (grownWalksTo p) h c ≡ true → right (station g s v h c) ≡ true
-        unfolding right stationTable plan_of
-        station-right h c e =
-            ap (λ b. eqb (get_or b.stationHops v 7) h && eqb (get_or b.stationCounts v 7) c) reached-is ∙
-            ap (λ P. stationTest P h c) (walks-to-grown p) ∙ e
+        pub station_right : (h c : ℕ) → station_test (grown_walks_to p) h c ≡ true → right (station g s v h c) ≡ true
+        unfolding right station_table plan_of
+        station_right h c e =
+            ap (λ b. eqb (get_or b.station_hops v 7) h && eqb (get_or b.station_counts v 7) c) reached_is ∙
+            ap (λ P. station_test P h c) (walks_to_grown p) ∙ e
 
         module _ (u : ℕ) where
-          abbrev appearanceTest : (ℕ → ℕ → ℕ → List (List ℕ)) → ℕ → ℕ → Bool
-          appearanceTest W h c =
+          abbrev appearance_test : (ℕ → ℕ → ℕ → List (List ℕ)) → ℕ → ℕ → Bool
+          appearance_test W h c =
               eqb
               (get_or
               (over
@@ -85,75 +85,75 @@ module _ (g : PlanBytes) where
               (sevens (places g.stations g.slots)))
               (v * (g.slots + 1) + u) 7) c
 
-          pub appearance-right : (h c : ℕ) → appearanceTest (grownWalks p) h c ≡ true → right (appearance g s v u h c) ≡ true
-          unfolding right appearanceTable plan_of
-          appearance-right h c e =
-              ap (λ b. eqb (get_or b.hopsTable (v * (g.slots + 1) + u) 7) h &&
-              eqb (get_or b.countTable (v * (g.slots + 1) + u) 7) c) reached-is ∙
-              ap (λ W. appearanceTest W h c) (walks-grown p) ∙ e
+          pub appearance_right : (h c : ℕ) → appearance_test (grown_walks p) h c ≡ true → right (appearance g s v u h c) ≡ true
+          unfolding right appearance_table plan_of
+          appearance_right h c e =
+              ap (λ b. eqb (get_or b.hops_table (v * (g.slots + 1) + u) 7) h &&
+              eqb (get_or b.count_table (v * (g.slots + 1) + u) 7) c) reached_is ∙
+              ap (λ W. appearance_test W h c) (walks_grown p) ∙ e
 
     -- ---- pair
 
-    pub throughs-right :
+    pub throughs_right :
         (s z : ℕ) (l : List ℕ) →
-        first (planCauses g.bytes g.stations g.slots ++ pairCauses (termsOf g) g.stations s z
+        first (plan_causes g.bytes g.stations g.slots ++ pair_causes (terms_of g) g.stations s z
         (short g.stations (sevens g.stations) ||
-        short (workSize g.stations g.slots) (sevens (workSize g.stations g.slots)))) ≡ 0 →
-        same_numbers (over (map (throughIn p s z (grownWalksTo p s z)) (below g.stations)) (sevens g.stations)) l ≡ true →
+        short (work_size g.stations g.slots) (sevens (work_size g.stations g.slots)))) ≡ 0 →
+        same_numbers (over (map (through_in p s z (grown_walks_to p s z)) (below g.stations)) (sevens g.stations)) l ≡ true →
         right (throughs g s z l) ≡ true
     unfolding right pair entered paired through plan_of
-    throughs-right s z l free e =
-        rw (unless-none _ _ _ free, few-walks p few s)
-        (ap (λ P. same_numbers (over (map (throughIn p s z (P s z)) (below g.stations)) (sevens g.stations)) l)
-        (walks-to-grown p) ∙ e)
+    throughs_right s z l free e =
+        rw (unless_none _ _ _ free, few_walks p few s)
+        (ap (λ P. same_numbers (over (map (through_in p s z (P s z)) (below g.stations)) (sevens g.stations)) l)
+        (walks_to_grown p) ∙ e)
 
     -- ---- first way and next way
 
     module _ (o : Operation) (s z : ℕ) (way : List ℕ) (r : Reply) (after : List ℕ) where
-      abbrev givesTest : (ℕ → ℕ → List (List ℕ)) → Bool
-      givesTest P =
-          let m = move o 0 (P s z) (indexIn (P s z) way) way in
-          sameReply m.reply r && same_numbers m.buffer after
+      abbrev gives_test : (ℕ → ℕ → List (List ℕ)) → Bool
+      gives_test P =
+          let m = move o 0 (P s z) (index_in (P s z) way) way in
+          same_reply m.reply r && same_numbers m.buffer after
 
-      pub gives-right :
-          first (wayCauses (questionOf g s z) (length way) (length (sevens (workSize g.stations g.slots)))) ≡ 0 →
-          givesTest (grownWalksTo p) ≡ true → right (gives o g s z way r after) ≡ true
-      unfolding right wayAnswer wayWork list_of overflow cause plan_of
-      gives-right free e =
-          rw (unless-none _ _ _ free, few-walks p few s) (ap givesTest (walks-to-grown p) ∙ e)
+      pub gives_right :
+          first (way_causes (question_of g s z) (length way) (length (sevens (work_size g.stations g.slots)))) ≡ 0 →
+          gives_test (grown_walks_to p) ≡ true → right (gives o g s z way r after) ≡ true
+      unfolding right way_answer way_work list_of overflow cause plan_of
+      gives_right free e =
+          rw (unless_none _ _ _ free, few_walks p few s) (ap gives_test (walks_to_grown p) ∙ e)
 
     -- ---- loads
 
-    pub loads-right :
+    pub loads_right :
         (ps ls : List ℕ) →
-        first (planCauses g.bytes g.stations g.slots ++ (termsCauses (termsOf g) ++
-        cause 13 (wrongSources g.stations g.stations) ∷ cause 8
+        first (plan_causes g.bytes g.stations g.slots ++ (terms_causes (terms_of g) ++
+        cause 13 (wrong_sources g.stations g.stations) ∷ cause 8
         (short g.stations (sevens g.stations) || (short g.stations (sevens g.stations) ||
-        short (workSize g.stations g.slots) (sevens (workSize g.stations g.slots)))) ∷ [])) ≡ 0 →
+        short (work_size g.stations g.slots) (sevens (work_size g.stations g.slots)))) ∷ [])) ≡ 0 →
         (same_numbers
-        (over (map (λ v. length (pairsBy p (grownWalksTo p) v)) (below g.stations)) (sevens g.stations)) ps &&
-        same_numbers (over (map (loadBy p (grownWalksTo p)) (below g.stations)) (sevens g.stations)) ls) ≡ true →
-        right (loadsOf g ps ls) ≡ true
-    unfolding right partialLoads entered partlyLoaded plan_of
-    loads-right ps ls free e =
-        rw (unless-none _ _ _ free, few-anywhere p few)
+        (over (map (λ v. length (pairs_by p (grown_walks_to p) v)) (below g.stations)) (sevens g.stations)) ps &&
+        same_numbers (over (map (load_by p (grown_walks_to p)) (below g.stations)) (sevens g.stations)) ls) ≡ true →
+        right (loads_of g ps ls) ≡ true
+    unfolding right partial_loads entered partly_loaded plan_of
+    loads_right ps ls free e =
+        rw (unless_none _ _ _ free, few_anywhere p few)
         (ap (λ f. same_numbers (over (map f (below g.stations)) (sevens g.stations)) ps &&
-        same_numbers (over (map (load p) (below g.stations)) (sevens g.stations)) ls) (fun_ext (pairs-by p)) ∙
+        same_numbers (over (map (load p) (below g.stations)) (sevens g.stations)) ls) (fun_ext (pairs_by_law p)) ∙
         ap (λ f. same_numbers
-        (over (map (λ v. length (pairsBy p (grownWalksTo p) v)) (below g.stations)) (sevens g.stations)) ps &&
-        same_numbers (over (map f (below g.stations)) (sevens g.stations)) ls) (fun_ext (load-by p)) ∙ e)
+        (over (map (λ v. length (pairs_by p (grown_walks_to p) v)) (below g.stations)) (sevens g.stations)) ps &&
+        same_numbers (over (map f (below g.stations)) (sevens g.stations)) ls) (fun_ext (load_by_law p)) ∙ e)
 
   -- ---- the lists themselves
 
-  pub walks-right :
+  pub walks_right :
       (s v u : ℕ) (l paths : List (List ℕ)) →
-      (same_lists (grownWalks p s v u) l && same_lists (select (isPath p s v) l) paths) ≡ true →
+      (same_lists (grown_walks p s v u) l && same_lists (select (is_path p s v) l) paths) ≡ true →
       right (walks g s v u l paths) ≡ true
   unfolding right
-  walks-right s v u l paths e =
-      ap (λ W. same_lists (W s v u) l && same_lists (select (isPath p s v) l) paths) (walks-grown p) ∙ e
+  walks_right s v u l paths e =
+      ap (λ W. same_lists (W s v u) l && same_lists (select (is_path p s v) l) paths) (walks_grown p) ∙ e
 
-  pub complete-right :
-      (s z : ℕ) (l : List (List ℕ)) → same_lists (grownWalksTo p s z) l ≡ true → right (complete g s z l) ≡ true
+  pub complete_right :
+      (s z : ℕ) (l : List (List ℕ)) → same_lists (grown_walks_to p s z) l ≡ true → right (complete g s z l) ≡ true
   unfolding right list_of
-  complete-right s z l e = ap (λ P. same_lists (P s z) l) (walks-to-grown p) ∙ e
+  complete_right s z l e = ap (λ P. same_lists (P s z) l) (walks_to_grown p) ∙ e

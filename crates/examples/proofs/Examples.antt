@@ -8,197 +8,197 @@ use mathlib.Core.Bool.{true, and-eq-true_iff}
 use mathlib.Core.List.{List, [], ◌∷◌, flat_map}
 use mathlib.Core.Option.{bind}
 use Rattle.temporal.specs.Lists.{from, below, sum, select, any, member, distinct, tuples}
-use Rattle.temporal.specs.Plan.{leadsTo, mayFollow}
-use Rattle.temporal.specs.Walk.{along, step, run, last_or, holds, endsIn, isWalk, isPath, isInterior}
-use Rattle.temporal.specs.Shortest.{or_else, firstNonempty, hops}
-use Rattle.temporal.specs.Load.{pairsBy, loadBy, endsBelow}
-use Rattle.temporal.specs.Bytes.{word_at, contactAt, records, plan_of}
-use Rattle.temporal.specs.Cause.{cause, first, unless, outside, wrongLength, wrongSlot, wrongEnds, isAbove, wrongOrder}
-use Rattle.temporal.specs.Cause.{recordCauses, planCauses, planFault, wrongTurnaround, wrongKeeping, termsCauses, endsCauses, pairCauses, stationCauses}
+use Rattle.temporal.specs.Plan.{leads_to, may_follow}
+use Rattle.temporal.specs.Walk.{along, step, run, last_or, holds, ends_in, is_walk, is_path, is_interior}
+use Rattle.temporal.specs.Shortest.{or_else, first_nonempty, hops}
+use Rattle.temporal.specs.Load.{pairs_by, load_by, ends_below}
+use Rattle.temporal.specs.Bytes.{word_at, contact_at, records, plan_of}
+use Rattle.temporal.specs.Cause.{cause, first, unless, outside, wrong_length, wrong_slot, wrong_ends, is_above, wrong_order}
+use Rattle.temporal.specs.Cause.{record_causes, plan_causes, plan_fault, wrong_turnaround, wrong_keeping, terms_causes, ends_causes, pair_causes, station_causes}
 use Rattle.temporal.specs.Outcome.{over}
-use Rattle.temporal.specs.Cursor.{same_numbers, indexIn, stay, give, goFirst, goNext, go, move}
-use Rattle.temporal.specs.FirstNext.{wayCauses, wayAnswer}
-use Rattle.walks.proofs.FewLaws.{mostLists}
-use Rattle.walks.proofs.GrownLaws.{grown, grownShortest, onward, grownWalks, grownWalksTo}
-use Rattle.temporal.specs.Cursor.{path, no-path, last-path, refused, first_way, next_Way}
-use Rattle.examples.specs.Questions.{planA, emptyPlan, repeated, withItself, sameSlot, single, slowA, slowest, without, tooSlow, termsOf}
+use Rattle.temporal.specs.Cursor.{same_numbers, index_in, stay, give, go_first, go_next, go, move}
+use Rattle.temporal.specs.FirstNext.{way_causes, way_answer}
+use Rattle.walks.proofs.FewLaws.{most_lists}
+use Rattle.walks.proofs.GrownLaws.{grown, grown_shortest, onward, grown_walks, grown_walks_to}
+use Rattle.temporal.specs.Cursor.{path, no_path, last_path, refused, first_way, next_Way}
+use Rattle.examples.specs.Questions.{plan_a, empty_plan, repeated, with_itself, same_slot, single, slow_a, slowest, without, too_slow, terms_of}
 use Rattle.examples.specs.Questions.{Example, checks, station, appearance}
-use Rattle.examples.specs.Questions.{walks, complete, throughs, gives, loadsOf, same_lists, sameReply}
-use Rattle.examples.specs.Table.{right, allRight, table}
-use Rattle.examples.proofs.Computed.{station-right, appearance-right, throughs-right}
-use Rattle.examples.proofs.Computed.{gives-right, loads-right, walks-right, complete-right}
+use Rattle.examples.specs.Questions.{walks, complete, throughs, gives, loads_of, same_lists, same_reply}
+use Rattle.examples.specs.Table.{right, all_right, table}
+use Rattle.examples.proofs.Computed.{station_right, appearance_right, throughs_right}
+use Rattle.examples.proofs.Computed.{gives_right, loads_right, walks_right, complete_right}
 
 -- ---- few walks
 
-few-empty : mostLists (plan_of emptyPlan.bytes emptyPlan.stations emptyPlan.slots (termsOf emptyPlan)) ≤ 18446744073709551615
-unfolding mostLists from below sum tuples word_at contactAt records plan_of flat_map
-few-empty = leb-true _ _ refl
+few_empty : most_lists (plan_of empty_plan.bytes empty_plan.stations empty_plan.slots (terms_of empty_plan)) ≤ 18446744073709551615
+unfolding most_lists from below sum tuples word_at contact_at records plan_of flat_map
+few_empty = leb-true _ _ refl
 
-few-a : mostLists (plan_of planA.bytes planA.stations planA.slots (termsOf planA)) ≤ 18446744073709551615
-unfolding mostLists from below sum tuples word_at contactAt records plan_of flat_map
-few-a = leb-true _ _ refl
+few_a : most_lists (plan_of plan_a.bytes plan_a.stations plan_a.slots (terms_of plan_a)) ≤ 18446744073709551615
+unfolding most_lists from below sum tuples word_at contact_at records plan_of flat_map
+few_a = leb-true _ _ refl
 
-few-same : mostLists (plan_of sameSlot.bytes sameSlot.stations sameSlot.slots (termsOf sameSlot)) ≤ 18446744073709551615
-unfolding mostLists from below sum tuples word_at contactAt records plan_of flat_map
-few-same = leb-true _ _ refl
+few_same : most_lists (plan_of same_slot.bytes same_slot.stations same_slot.slots (terms_of same_slot)) ≤ 18446744073709551615
+unfolding most_lists from below sum tuples word_at contact_at records plan_of flat_map
+few_same = leb-true _ _ refl
 
-few-single : mostLists (plan_of single.bytes single.stations single.slots (termsOf single)) ≤ 18446744073709551615
-unfolding mostLists from below sum tuples word_at contactAt records plan_of flat_map
-few-single = leb-true _ _ refl
+few_single : most_lists (plan_of single.bytes single.stations single.slots (terms_of single)) ≤ 18446744073709551615
+unfolding most_lists from below sum tuples word_at contact_at records plan_of flat_map
+few_single = leb-true _ _ refl
 
-few-slow : mostLists (plan_of slowA.bytes slowA.stations slowA.slots (termsOf slowA)) ≤ 18446744073709551615
-unfolding mostLists from below sum tuples word_at contactAt records plan_of flat_map
-few-slow = leb-true _ _ refl
+few_slow : most_lists (plan_of slow_a.bytes slow_a.stations slow_a.slots (terms_of slow_a)) ≤ 18446744073709551615
+unfolding most_lists from below sum tuples word_at contact_at records plan_of flat_map
+few_slow = leb-true _ _ refl
 
-few-slowest : mostLists (plan_of slowest.bytes slowest.stations slowest.slots (termsOf slowest)) ≤ 18446744073709551615
-unfolding mostLists from below sum tuples word_at contactAt records plan_of flat_map
-few-slowest = leb-true _ _ refl
+few_slowest : most_lists (plan_of slowest.bytes slowest.stations slowest.slots (terms_of slowest)) ≤ 18446744073709551615
+unfolding most_lists from below sum tuples word_at contact_at records plan_of flat_map
+few_slowest = leb-true _ _ refl
 
 -- ---- the entries, each by itself
 
-empty-source : right (station emptyPlan 0 0 0 1) ≡ true
-unfolding from below sum select any member distinct leadsTo mayFollow along step run last_or holds endsIn isWalk isPath isInterior or_else firstNonempty hops endsBelow word_at contactAt records plan_of cause first outside wrongLength wrongSlot wrongEnds isAbove wrongOrder recordCauses planCauses planFault wrongTurnaround wrongKeeping termsCauses endsCauses pairCauses stationCauses unless over same_numbers indexIn stay give goFirst goNext go move wayCauses same_lists sameReply flat_map bind grown grownShortest onward grownWalks grownWalksTo pairsBy loadBy
-empty-source = station-right emptyPlan few-empty 0 0 refl 0 1 refl
+empty_source : right (station empty_plan 0 0 0 1) ≡ true
+unfolding from below sum select any member distinct leads_to may_follow along step run last_or holds ends_in is_walk is_path is_interior or_else first_nonempty hops ends_below word_at contact_at records plan_of cause first outside wrong_length wrong_slot wrong_ends is_above wrong_order record_causes plan_causes plan_fault wrong_turnaround wrong_keeping terms_causes ends_causes pair_causes station_causes unless over same_numbers index_in stay give go_first go_next go move way_causes same_lists same_reply flat_map bind grown grown_shortest onward grown_walks grown_walks_to pairs_by load_by
+empty_source = station_right empty_plan few_empty 0 0 refl 0 1 refl
 
-station-three : right (station planA 0 3 2 3) ≡ true
-unfolding from below sum select any member distinct leadsTo mayFollow along step run last_or holds endsIn isWalk isPath isInterior or_else firstNonempty hops endsBelow word_at contactAt records plan_of cause first outside wrongLength wrongSlot wrongEnds isAbove wrongOrder recordCauses planCauses planFault wrongTurnaround wrongKeeping termsCauses endsCauses pairCauses stationCauses unless over same_numbers indexIn stay give goFirst goNext go move wayCauses same_lists sameReply flat_map bind grown grownShortest onward grownWalks grownWalksTo pairsBy loadBy
-station-three = station-right planA few-a 0 3 refl 2 3 refl
+station_three : right (station plan_a 0 3 2 3) ≡ true
+unfolding from below sum select any member distinct leads_to may_follow along step run last_or holds ends_in is_walk is_path is_interior or_else first_nonempty hops ends_below word_at contact_at records plan_of cause first outside wrong_length wrong_slot wrong_ends is_above wrong_order record_causes plan_causes plan_fault wrong_turnaround wrong_keeping terms_causes ends_causes pair_causes station_causes unless over same_numbers index_in stay give go_first go_next go move way_causes same_lists same_reply flat_map bind grown grown_shortest onward grown_walks grown_walks_to pairs_by load_by
+station_three = station_right plan_a few_a 0 3 refl 2 3 refl
 
-station-four : right (station planA 0 4 3 3) ≡ true
-unfolding from below sum select any member distinct leadsTo mayFollow along step run last_or holds endsIn isWalk isPath isInterior or_else firstNonempty hops endsBelow word_at contactAt records plan_of cause first outside wrongLength wrongSlot wrongEnds isAbove wrongOrder recordCauses planCauses planFault wrongTurnaround wrongKeeping termsCauses endsCauses pairCauses stationCauses unless over same_numbers indexIn stay give goFirst goNext go move wayCauses same_lists sameReply flat_map bind grown grownShortest onward grownWalks grownWalksTo pairsBy loadBy
-station-four = station-right planA few-a 0 4 refl 3 3 refl
+station_four : right (station plan_a 0 4 3 3) ≡ true
+unfolding from below sum select any member distinct leads_to may_follow along step run last_or holds ends_in is_walk is_path is_interior or_else first_nonempty hops ends_below word_at contact_at records plan_of cause first outside wrong_length wrong_slot wrong_ends is_above wrong_order record_causes plan_causes plan_fault wrong_turnaround wrong_keeping terms_causes ends_causes pair_causes station_causes unless over same_numbers index_in stay give go_first go_next go move way_causes same_lists same_reply flat_map bind grown grown_shortest onward grown_walks grown_walks_to pairs_by load_by
+station_four = station_right plan_a few_a 0 4 refl 3 3 refl
 
-back-home : right (appearance planA 0 2 3 3 2) ≡ true
-unfolding from below sum select any member distinct leadsTo mayFollow along step run last_or holds endsIn isWalk isPath isInterior or_else firstNonempty hops endsBelow word_at contactAt records plan_of cause first outside wrongLength wrongSlot wrongEnds isAbove wrongOrder recordCauses planCauses planFault wrongTurnaround wrongKeeping termsCauses endsCauses pairCauses stationCauses unless over same_numbers indexIn stay give goFirst goNext go move wayCauses same_lists sameReply flat_map bind grown grownShortest onward grownWalks grownWalksTo pairsBy loadBy
-back-home = appearance-right planA few-a 0 2 refl 3 3 2 refl
+back_home : right (appearance plan_a 0 2 3 3 2) ≡ true
+unfolding from below sum select any member distinct leads_to may_follow along step run last_or holds ends_in is_walk is_path is_interior or_else first_nonempty hops ends_below word_at contact_at records plan_of cause first outside wrong_length wrong_slot wrong_ends is_above wrong_order record_causes plan_causes plan_fault wrong_turnaround wrong_keeping terms_causes ends_causes pair_causes station_causes unless over same_numbers index_in stay give go_first go_next go move way_causes same_lists same_reply flat_map bind grown grown_shortest onward grown_walks grown_walks_to pairs_by load_by
+back_home = appearance_right plan_a few_a 0 2 refl 3 3 2 refl
 
-its-walks : right (walks planA 0 2 3 ((0 ∷ 4 ∷ 9 ∷ []) ∷ (1 ∷ 5 ∷ 9 ∷ []) ∷ []) ((0 ∷ 4 ∷ 9 ∷ []) ∷ [])) ≡ true
-unfolding from below sum select any member distinct leadsTo mayFollow along step run last_or holds endsIn isWalk isPath isInterior or_else firstNonempty hops endsBelow word_at contactAt records plan_of cause first outside wrongLength wrongSlot wrongEnds isAbove wrongOrder recordCauses planCauses planFault wrongTurnaround wrongKeeping termsCauses endsCauses pairCauses stationCauses unless over same_numbers indexIn stay give goFirst goNext go move wayCauses same_lists sameReply flat_map bind grown grownShortest onward grownWalks grownWalksTo pairsBy loadBy
-its-walks = walks-right planA 0 2 3 _ _ refl
+its_walks : right (walks plan_a 0 2 3 ((0 ∷ 4 ∷ 9 ∷ []) ∷ (1 ∷ 5 ∷ 9 ∷ []) ∷ []) ((0 ∷ 4 ∷ 9 ∷ []) ∷ [])) ≡ true
+unfolding from below sum select any member distinct leads_to may_follow along step run last_or holds ends_in is_walk is_path is_interior or_else first_nonempty hops ends_below word_at contact_at records plan_of cause first outside wrong_length wrong_slot wrong_ends is_above wrong_order record_causes plan_causes plan_fault wrong_turnaround wrong_keeping terms_causes ends_causes pair_causes station_causes unless over same_numbers index_in stay give go_first go_next go move way_causes same_lists same_reply flat_map bind grown grown_shortest onward grown_walks grown_walks_to pairs_by load_by
+its_walks = walks_right plan_a 0 2 3 _ _ refl
 
-station-two : right (station planA 0 2 1 1) ≡ true
-unfolding from below sum select any member distinct leadsTo mayFollow along step run last_or holds endsIn isWalk isPath isInterior or_else firstNonempty hops endsBelow word_at contactAt records plan_of cause first outside wrongLength wrongSlot wrongEnds isAbove wrongOrder recordCauses planCauses planFault wrongTurnaround wrongKeeping termsCauses endsCauses pairCauses stationCauses unless over same_numbers indexIn stay give goFirst goNext go move wayCauses same_lists sameReply flat_map bind grown grownShortest onward grownWalks grownWalksTo pairsBy loadBy
-station-two = station-right planA few-a 0 2 refl 1 1 refl
+station_two : right (station plan_a 0 2 1 1) ≡ true
+unfolding from below sum select any member distinct leads_to may_follow along step run last_or holds ends_in is_walk is_path is_interior or_else first_nonempty hops ends_below word_at contact_at records plan_of cause first outside wrong_length wrong_slot wrong_ends is_above wrong_order record_causes plan_causes plan_fault wrong_turnaround wrong_keeping terms_causes ends_causes pair_causes station_causes unless over same_numbers index_in stay give go_first go_next go move way_causes same_lists same_reply flat_map bind grown grown_shortest onward grown_walks grown_walks_to pairs_by load_by
+station_two = station_right plan_a few_a 0 2 refl 1 1 refl
 
-complete-list : right (complete planA 0 4 ((0 ∷ 4 ∷ 10 ∷ []) ∷ (1 ∷ 5 ∷ 10 ∷ []) ∷ (1 ∷ 8 ∷ 10 ∷ []) ∷ [])) ≡ true
-unfolding from below sum select any member distinct leadsTo mayFollow along step run last_or holds endsIn isWalk isPath isInterior or_else firstNonempty hops endsBelow word_at contactAt records plan_of cause first outside wrongLength wrongSlot wrongEnds isAbove wrongOrder recordCauses planCauses planFault wrongTurnaround wrongKeeping termsCauses endsCauses pairCauses stationCauses unless over same_numbers indexIn stay give goFirst goNext go move wayCauses same_lists sameReply flat_map bind grown grownShortest onward grownWalks grownWalksTo pairsBy loadBy
-complete-list = complete-right planA 0 4 _ refl
+complete_list : right (complete plan_a 0 4 ((0 ∷ 4 ∷ 10 ∷ []) ∷ (1 ∷ 5 ∷ 10 ∷ []) ∷ (1 ∷ 8 ∷ 10 ∷ []) ∷ [])) ≡ true
+unfolding from below sum select any member distinct leads_to may_follow along step run last_or holds ends_in is_walk is_path is_interior or_else first_nonempty hops ends_below word_at contact_at records plan_of cause first outside wrong_length wrong_slot wrong_ends is_above wrong_order record_causes plan_causes plan_fault wrong_turnaround wrong_keeping terms_causes ends_causes pair_causes station_causes unless over same_numbers index_in stay give go_first go_next go move way_causes same_lists same_reply flat_map bind grown grown_shortest onward grown_walks grown_walks_to pairs_by load_by
+complete_list = complete_right plan_a 0 4 _ refl
 
-first-given : right (gives first_way planA 0 4 (9 ∷ 9 ∷ 9 ∷ 9 ∷ []) (path 3) (0 ∷ 4 ∷ 10 ∷ 9 ∷ [])) ≡ true
-unfolding from below sum select any member distinct leadsTo mayFollow along step run last_or holds endsIn isWalk isPath isInterior or_else firstNonempty hops endsBelow word_at contactAt records plan_of cause first outside wrongLength wrongSlot wrongEnds isAbove wrongOrder recordCauses planCauses planFault wrongTurnaround wrongKeeping termsCauses endsCauses pairCauses stationCauses unless over same_numbers indexIn stay give goFirst goNext go move wayCauses same_lists sameReply flat_map bind grown grownShortest onward grownWalks grownWalksTo pairsBy loadBy
-first-given = gives-right planA few-a first_way 0 4 (9 ∷ 9 ∷ 9 ∷ 9 ∷ []) (path 3) (0 ∷ 4 ∷ 10 ∷ 9 ∷ []) refl refl
+first_given : right (gives first_way plan_a 0 4 (9 ∷ 9 ∷ 9 ∷ 9 ∷ []) (path 3) (0 ∷ 4 ∷ 10 ∷ 9 ∷ [])) ≡ true
+unfolding from below sum select any member distinct leads_to may_follow along step run last_or holds ends_in is_walk is_path is_interior or_else first_nonempty hops ends_below word_at contact_at records plan_of cause first outside wrong_length wrong_slot wrong_ends is_above wrong_order record_causes plan_causes plan_fault wrong_turnaround wrong_keeping terms_causes ends_causes pair_causes station_causes unless over same_numbers index_in stay give go_first go_next go move way_causes same_lists same_reply flat_map bind grown grown_shortest onward grown_walks grown_walks_to pairs_by load_by
+first_given = gives_right plan_a few_a first_way 0 4 (9 ∷ 9 ∷ 9 ∷ 9 ∷ []) (path 3) (0 ∷ 4 ∷ 10 ∷ 9 ∷ []) refl refl
 
-second-given : right (gives next_Way planA 0 4 (0 ∷ 4 ∷ 10 ∷ 9 ∷ []) (path 3) (1 ∷ 5 ∷ 10 ∷ 9 ∷ [])) ≡ true
-unfolding from below sum select any member distinct leadsTo mayFollow along step run last_or holds endsIn isWalk isPath isInterior or_else firstNonempty hops endsBelow word_at contactAt records plan_of cause first outside wrongLength wrongSlot wrongEnds isAbove wrongOrder recordCauses planCauses planFault wrongTurnaround wrongKeeping termsCauses endsCauses pairCauses stationCauses unless over same_numbers indexIn stay give goFirst goNext go move wayCauses same_lists sameReply flat_map bind grown grownShortest onward grownWalks grownWalksTo pairsBy loadBy
-second-given = gives-right planA few-a next_Way 0 4 (0 ∷ 4 ∷ 10 ∷ 9 ∷ []) (path 3) (1 ∷ 5 ∷ 10 ∷ 9 ∷ []) refl refl
+second_given : right (gives next_Way plan_a 0 4 (0 ∷ 4 ∷ 10 ∷ 9 ∷ []) (path 3) (1 ∷ 5 ∷ 10 ∷ 9 ∷ [])) ≡ true
+unfolding from below sum select any member distinct leads_to may_follow along step run last_or holds ends_in is_walk is_path is_interior or_else first_nonempty hops ends_below word_at contact_at records plan_of cause first outside wrong_length wrong_slot wrong_ends is_above wrong_order record_causes plan_causes plan_fault wrong_turnaround wrong_keeping terms_causes ends_causes pair_causes station_causes unless over same_numbers index_in stay give go_first go_next go move way_causes same_lists same_reply flat_map bind grown grown_shortest onward grown_walks grown_walks_to pairs_by load_by
+second_given = gives_right plan_a few_a next_Way 0 4 (0 ∷ 4 ∷ 10 ∷ 9 ∷ []) (path 3) (1 ∷ 5 ∷ 10 ∷ 9 ∷ []) refl refl
 
-third-given : right (gives next_Way planA 0 4 (1 ∷ 5 ∷ 10 ∷ 9 ∷ []) (path 3) (1 ∷ 8 ∷ 10 ∷ 9 ∷ [])) ≡ true
-unfolding from below sum select any member distinct leadsTo mayFollow along step run last_or holds endsIn isWalk isPath isInterior or_else firstNonempty hops endsBelow word_at contactAt records plan_of cause first outside wrongLength wrongSlot wrongEnds isAbove wrongOrder recordCauses planCauses planFault wrongTurnaround wrongKeeping termsCauses endsCauses pairCauses stationCauses unless over same_numbers indexIn stay give goFirst goNext go move wayCauses same_lists sameReply flat_map bind grown grownShortest onward grownWalks grownWalksTo pairsBy loadBy
-third-given = gives-right planA few-a next_Way 0 4 (1 ∷ 5 ∷ 10 ∷ 9 ∷ []) (path 3) (1 ∷ 8 ∷ 10 ∷ 9 ∷ []) refl refl
+third_given : right (gives next_Way plan_a 0 4 (1 ∷ 5 ∷ 10 ∷ 9 ∷ []) (path 3) (1 ∷ 8 ∷ 10 ∷ 9 ∷ [])) ≡ true
+unfolding from below sum select any member distinct leads_to may_follow along step run last_or holds ends_in is_walk is_path is_interior or_else first_nonempty hops ends_below word_at contact_at records plan_of cause first outside wrong_length wrong_slot wrong_ends is_above wrong_order record_causes plan_causes plan_fault wrong_turnaround wrong_keeping terms_causes ends_causes pair_causes station_causes unless over same_numbers index_in stay give go_first go_next go move way_causes same_lists same_reply flat_map bind grown grown_shortest onward grown_walks grown_walks_to pairs_by load_by
+third_given = gives_right plan_a few_a next_Way 0 4 (1 ∷ 5 ∷ 10 ∷ 9 ∷ []) (path 3) (1 ∷ 8 ∷ 10 ∷ 9 ∷ []) refl refl
 
-through-table : right (throughs planA 0 4 (0 ∷ 1 ∷ 2 ∷ 3 ∷ 0 ∷ [])) ≡ true
-unfolding from below sum select any member distinct leadsTo mayFollow along step run last_or holds endsIn isWalk isPath isInterior or_else firstNonempty hops endsBelow word_at contactAt records plan_of cause first outside wrongLength wrongSlot wrongEnds isAbove wrongOrder recordCauses planCauses planFault wrongTurnaround wrongKeeping termsCauses endsCauses pairCauses stationCauses unless over same_numbers indexIn stay give goFirst goNext go move wayCauses same_lists sameReply flat_map bind grown grownShortest onward grownWalks grownWalksTo pairsBy loadBy
-through-table = throughs-right planA few-a 0 4 _ refl refl
+through_table_law : right (throughs plan_a 0 4 (0 ∷ 1 ∷ 2 ∷ 3 ∷ 0 ∷ [])) ≡ true
+unfolding from below sum select any member distinct leads_to may_follow along step run last_or holds ends_in is_walk is_path is_interior or_else first_nonempty hops ends_below word_at contact_at records plan_of cause first outside wrong_length wrong_slot wrong_ends is_above wrong_order record_causes plan_causes plan_fault wrong_turnaround wrong_keeping terms_causes ends_causes pair_causes station_causes unless over same_numbers index_in stay give go_first go_next go move way_causes same_lists same_reply flat_map bind grown grown_shortest onward grown_walks grown_walks_to pairs_by load_by
+through_table_law = throughs_right plan_a few_a 0 4 _ refl refl
 
-none-given : right (gives first_way planA 2 1 (9 ∷ 9 ∷ 9 ∷ 9 ∷ []) no-path (9 ∷ 9 ∷ 9 ∷ 9 ∷ [])) ≡ true
-unfolding from below sum select any member distinct leadsTo mayFollow along step run last_or holds endsIn isWalk isPath isInterior or_else firstNonempty hops endsBelow word_at contactAt records plan_of cause first outside wrongLength wrongSlot wrongEnds isAbove wrongOrder recordCauses planCauses planFault wrongTurnaround wrongKeeping termsCauses endsCauses pairCauses stationCauses unless over same_numbers indexIn stay give goFirst goNext go move wayCauses same_lists sameReply flat_map bind grown grownShortest onward grownWalks grownWalksTo pairsBy loadBy
-none-given = gives-right planA few-a first_way 2 1 (9 ∷ 9 ∷ 9 ∷ 9 ∷ []) no-path (9 ∷ 9 ∷ 9 ∷ 9 ∷ []) refl refl
+none_given : right (gives first_way plan_a 2 1 (9 ∷ 9 ∷ 9 ∷ 9 ∷ []) no_path (9 ∷ 9 ∷ 9 ∷ 9 ∷ [])) ≡ true
+unfolding from below sum select any member distinct leads_to may_follow along step run last_or holds ends_in is_walk is_path is_interior or_else first_nonempty hops ends_below word_at contact_at records plan_of cause first outside wrong_length wrong_slot wrong_ends is_above wrong_order record_causes plan_causes plan_fault wrong_turnaround wrong_keeping terms_causes ends_causes pair_causes station_causes unless over same_numbers index_in stay give go_first go_next go move way_causes same_lists same_reply flat_map bind grown grown_shortest onward grown_walks grown_walks_to pairs_by load_by
+none_given = gives_right plan_a few_a first_way 2 1 (9 ∷ 9 ∷ 9 ∷ 9 ∷ []) no_path (9 ∷ 9 ∷ 9 ∷ 9 ∷ []) refl refl
 
-last-told : right (gives next_Way planA 0 4 (1 ∷ 8 ∷ 10 ∷ 9 ∷ []) last-path (1 ∷ 8 ∷ 10 ∷ 9 ∷ [])) ≡ true
-unfolding from below sum select any member distinct leadsTo mayFollow along step run last_or holds endsIn isWalk isPath isInterior or_else firstNonempty hops endsBelow word_at contactAt records plan_of cause first outside wrongLength wrongSlot wrongEnds isAbove wrongOrder recordCauses planCauses planFault wrongTurnaround wrongKeeping termsCauses endsCauses pairCauses stationCauses unless over same_numbers indexIn stay give goFirst goNext go move wayCauses same_lists sameReply flat_map bind grown grownShortest onward grownWalks grownWalksTo pairsBy loadBy
-last-told = gives-right planA few-a next_Way 0 4 (1 ∷ 8 ∷ 10 ∷ 9 ∷ []) last-path (1 ∷ 8 ∷ 10 ∷ 9 ∷ []) refl refl
+last_told : right (gives next_Way plan_a 0 4 (1 ∷ 8 ∷ 10 ∷ 9 ∷ []) last_path (1 ∷ 8 ∷ 10 ∷ 9 ∷ [])) ≡ true
+unfolding from below sum select any member distinct leads_to may_follow along step run last_or holds ends_in is_walk is_path is_interior or_else first_nonempty hops ends_below word_at contact_at records plan_of cause first outside wrong_length wrong_slot wrong_ends is_above wrong_order record_causes plan_causes plan_fault wrong_turnaround wrong_keeping terms_causes ends_causes pair_causes station_causes unless over same_numbers index_in stay give go_first go_next go move way_causes same_lists same_reply flat_map bind grown grown_shortest onward grown_walks grown_walks_to pairs_by load_by
+last_told = gives_right plan_a few_a next_Way 0 4 (1 ∷ 8 ∷ 10 ∷ 9 ∷ []) last_path (1 ∷ 8 ∷ 10 ∷ 9 ∷ []) refl refl
 
-ten-told : right (gives next_Way planA 0 4 (0 ∷ 5 ∷ 10 ∷ 9 ∷ []) (refused 10) (0 ∷ 5 ∷ 10 ∷ 9 ∷ [])) ≡ true
-unfolding from below sum select any member distinct leadsTo mayFollow along step run last_or holds endsIn isWalk isPath isInterior or_else firstNonempty hops endsBelow word_at contactAt records plan_of cause first outside wrongLength wrongSlot wrongEnds isAbove wrongOrder recordCauses planCauses planFault wrongTurnaround wrongKeeping termsCauses endsCauses pairCauses stationCauses unless over same_numbers indexIn stay give goFirst goNext go move wayCauses same_lists sameReply flat_map bind grown grownShortest onward grownWalks grownWalksTo pairsBy loadBy
-ten-told = gives-right planA few-a next_Way 0 4 (0 ∷ 5 ∷ 10 ∷ 9 ∷ []) (refused 10) (0 ∷ 5 ∷ 10 ∷ 9 ∷ []) refl refl
+ten_told : right (gives next_Way plan_a 0 4 (0 ∷ 5 ∷ 10 ∷ 9 ∷ []) (refused 10) (0 ∷ 5 ∷ 10 ∷ 9 ∷ [])) ≡ true
+unfolding from below sum select any member distinct leads_to may_follow along step run last_or holds ends_in is_walk is_path is_interior or_else first_nonempty hops ends_below word_at contact_at records plan_of cause first outside wrong_length wrong_slot wrong_ends is_above wrong_order record_causes plan_causes plan_fault wrong_turnaround wrong_keeping terms_causes ends_causes pair_causes station_causes unless over same_numbers index_in stay give go_first go_next go move way_causes same_lists same_reply flat_map bind grown grown_shortest onward grown_walks grown_walks_to pairs_by load_by
+ten_told = gives_right plan_a few_a next_Way 0 4 (0 ∷ 5 ∷ 10 ∷ 9 ∷ []) (refused 10) (0 ∷ 5 ∷ 10 ∷ 9 ∷ []) refl refl
 
-accepted : right (checks planA 0) ≡ true
-unfolding from below sum select any member distinct leadsTo mayFollow along step run last_or holds endsIn isWalk isPath isInterior or_else firstNonempty hops endsBelow word_at contactAt records plan_of cause first outside wrongLength wrongSlot wrongEnds isAbove wrongOrder recordCauses planCauses planFault wrongTurnaround wrongKeeping termsCauses endsCauses pairCauses stationCauses unless over same_numbers indexIn stay give goFirst goNext go move wayCauses same_lists sameReply flat_map bind grown grownShortest onward grownWalks grownWalksTo pairsBy loadBy right
+accepted : right (checks plan_a 0) ≡ true
+unfolding from below sum select any member distinct leads_to may_follow along step run last_or holds ends_in is_walk is_path is_interior or_else first_nonempty hops ends_below word_at contact_at records plan_of cause first outside wrong_length wrong_slot wrong_ends is_above wrong_order record_causes plan_causes plan_fault wrong_turnaround wrong_keeping terms_causes ends_causes pair_causes station_causes unless over same_numbers index_in stay give go_first go_next go move way_causes same_lists same_reply flat_map bind grown grown_shortest onward grown_walks grown_walks_to pairs_by load_by right
 accepted = refl
 
-repeated-refused : right (checks repeated 5) ≡ true
-unfolding from below sum select any member distinct leadsTo mayFollow along step run last_or holds endsIn isWalk isPath isInterior or_else firstNonempty hops endsBelow word_at contactAt records plan_of cause first outside wrongLength wrongSlot wrongEnds isAbove wrongOrder recordCauses planCauses planFault wrongTurnaround wrongKeeping termsCauses endsCauses pairCauses stationCauses unless over same_numbers indexIn stay give goFirst goNext go move wayCauses same_lists sameReply flat_map bind grown grownShortest onward grownWalks grownWalksTo pairsBy loadBy right
-repeated-refused = refl
+repeated_refused : right (checks repeated 5) ≡ true
+unfolding from below sum select any member distinct leads_to may_follow along step run last_or holds ends_in is_walk is_path is_interior or_else first_nonempty hops ends_below word_at contact_at records plan_of cause first outside wrong_length wrong_slot wrong_ends is_above wrong_order record_causes plan_causes plan_fault wrong_turnaround wrong_keeping terms_causes ends_causes pair_causes station_causes unless over same_numbers index_in stay give go_first go_next go move way_causes same_lists same_reply flat_map bind grown grown_shortest onward grown_walks grown_walks_to pairs_by load_by right
+repeated_refused = refl
 
-itself-refused : right (checks withItself 4) ≡ true
-unfolding from below sum select any member distinct leadsTo mayFollow along step run last_or holds endsIn isWalk isPath isInterior or_else firstNonempty hops endsBelow word_at contactAt records plan_of cause first outside wrongLength wrongSlot wrongEnds isAbove wrongOrder recordCauses planCauses planFault wrongTurnaround wrongKeeping termsCauses endsCauses pairCauses stationCauses unless over same_numbers indexIn stay give goFirst goNext go move wayCauses same_lists sameReply flat_map bind grown grownShortest onward grownWalks grownWalksTo pairsBy loadBy right
-itself-refused = refl
+itself_refused : right (checks with_itself 4) ≡ true
+unfolding from below sum select any member distinct leads_to may_follow along step run last_or holds ends_in is_walk is_path is_interior or_else first_nonempty hops ends_below word_at contact_at records plan_of cause first outside wrong_length wrong_slot wrong_ends is_above wrong_order record_causes plan_causes plan_fault wrong_turnaround wrong_keeping terms_causes ends_causes pair_causes station_causes unless over same_numbers index_in stay give go_first go_next go move way_causes same_lists same_reply flat_map bind grown grown_shortest onward grown_walks grown_walks_to pairs_by load_by right
+itself_refused = refl
 
-loads-of-a : right (loadsOf planA (0 ∷ 2 ∷ 2 ∷ 4 ∷ 0 ∷ []) (0 ∷ 2863311530 ∷ 5726623060 ∷ 17179869184 ∷ 0 ∷ [])) ≡ true
-unfolding from below sum select any member distinct leadsTo mayFollow along step run last_or holds endsIn isWalk isPath isInterior or_else firstNonempty hops endsBelow word_at contactAt records plan_of cause first outside wrongLength wrongSlot wrongEnds isAbove wrongOrder recordCauses planCauses planFault wrongTurnaround wrongKeeping termsCauses endsCauses pairCauses stationCauses unless over same_numbers indexIn stay give goFirst goNext go move wayCauses same_lists sameReply flat_map bind grown grownShortest onward grownWalks grownWalksTo pairsBy loadBy
-loads-of-a = loads-right planA few-a _ _ refl refl
+loads_of_a : right (loads_of plan_a (0 ∷ 2 ∷ 2 ∷ 4 ∷ 0 ∷ []) (0 ∷ 2863311530 ∷ 5726623060 ∷ 17179869184 ∷ 0 ∷ [])) ≡ true
+unfolding from below sum select any member distinct leads_to may_follow along step run last_or holds ends_in is_walk is_path is_interior or_else first_nonempty hops ends_below word_at contact_at records plan_of cause first outside wrong_length wrong_slot wrong_ends is_above wrong_order record_causes plan_causes plan_fault wrong_turnaround wrong_keeping terms_causes ends_causes pair_causes station_causes unless over same_numbers index_in stay give go_first go_next go move way_causes same_lists same_reply flat_map bind grown grown_shortest onward grown_walks grown_walks_to pairs_by load_by
+loads_of_a = loads_right plan_a few_a _ _ refl refl
 
-same-slot : right (gives first_way sameSlot 0 2 (9 ∷ 9 ∷ []) no-path (9 ∷ 9 ∷ [])) ≡ true
-unfolding from below sum select any member distinct leadsTo mayFollow along step run last_or holds endsIn isWalk isPath isInterior or_else firstNonempty hops endsBelow word_at contactAt records plan_of cause first outside wrongLength wrongSlot wrongEnds isAbove wrongOrder recordCauses planCauses planFault wrongTurnaround wrongKeeping termsCauses endsCauses pairCauses stationCauses unless over same_numbers indexIn stay give goFirst goNext go move wayCauses same_lists sameReply flat_map bind grown grownShortest onward grownWalks grownWalksTo pairsBy loadBy
-same-slot = gives-right sameSlot few-same first_way 0 2 (9 ∷ 9 ∷ []) no-path (9 ∷ 9 ∷ []) refl refl
+same_slot_law : right (gives first_way same_slot 0 2 (9 ∷ 9 ∷ []) no_path (9 ∷ 9 ∷ [])) ≡ true
+unfolding from below sum select any member distinct leads_to may_follow along step run last_or holds ends_in is_walk is_path is_interior or_else first_nonempty hops ends_below word_at contact_at records plan_of cause first outside wrong_length wrong_slot wrong_ends is_above wrong_order record_causes plan_causes plan_fault wrong_turnaround wrong_keeping terms_causes ends_causes pair_causes station_causes unless over same_numbers index_in stay give go_first go_next go move way_causes same_lists same_reply flat_map bind grown grown_shortest onward grown_walks grown_walks_to pairs_by load_by
+same_slot_law = gives_right same_slot few_same first_way 0 2 (9 ∷ 9 ∷ []) no_path (9 ∷ 9 ∷ []) refl refl
 
 one_way : right (gives first_way single 0 1 (9 ∷ []) (path 1) (0 ∷ [])) ≡ true
-unfolding from below sum select any member distinct leadsTo mayFollow along step run last_or holds endsIn isWalk isPath isInterior or_else firstNonempty hops endsBelow word_at contactAt records plan_of cause first outside wrongLength wrongSlot wrongEnds isAbove wrongOrder recordCauses planCauses planFault wrongTurnaround wrongKeeping termsCauses endsCauses pairCauses stationCauses unless over same_numbers indexIn stay give goFirst goNext go move wayCauses same_lists sameReply flat_map bind grown grownShortest onward grownWalks grownWalksTo pairsBy loadBy
-one_way = gives-right single few-single first_way 0 1 (9 ∷ []) (path 1) (0 ∷ []) refl refl
+unfolding from below sum select any member distinct leads_to may_follow along step run last_or holds ends_in is_walk is_path is_interior or_else first_nonempty hops ends_below word_at contact_at records plan_of cause first outside wrong_length wrong_slot wrong_ends is_above wrong_order record_causes plan_causes plan_fault wrong_turnaround wrong_keeping terms_causes ends_causes pair_causes station_causes unless over same_numbers index_in stay give go_first go_next go move way_causes same_lists same_reply flat_map bind grown grown_shortest onward grown_walks grown_walks_to pairs_by load_by
+one_way = gives_right single few_single first_way 0 1 (9 ∷ []) (path 1) (0 ∷ []) refl refl
 
-no_way_back : right (gives first_way single 1 0 (9 ∷ []) no-path (9 ∷ [])) ≡ true
-unfolding from below sum select any member distinct leadsTo mayFollow along step run last_or holds endsIn isWalk isPath isInterior or_else firstNonempty hops endsBelow word_at contactAt records plan_of cause first outside wrongLength wrongSlot wrongEnds isAbove wrongOrder recordCauses planCauses planFault wrongTurnaround wrongKeeping termsCauses endsCauses pairCauses stationCauses unless over same_numbers indexIn stay give goFirst goNext go move wayCauses same_lists sameReply flat_map bind grown grownShortest onward grownWalks grownWalksTo pairsBy loadBy
-no_way_back = gives-right single few-single first_way 1 0 (9 ∷ []) no-path (9 ∷ []) refl refl
+no_way_back : right (gives first_way single 1 0 (9 ∷ []) no_path (9 ∷ [])) ≡ true
+unfolding from below sum select any member distinct leads_to may_follow along step run last_or holds ends_in is_walk is_path is_interior or_else first_nonempty hops ends_below word_at contact_at records plan_of cause first outside wrong_length wrong_slot wrong_ends is_above wrong_order record_causes plan_causes plan_fault wrong_turnaround wrong_keeping terms_causes ends_causes pair_causes station_causes unless over same_numbers index_in stay give go_first go_next go move way_causes same_lists same_reply flat_map bind grown grown_shortest onward grown_walks grown_walks_to pairs_by load_by
+no_way_back = gives_right single few_single first_way 1 0 (9 ∷ []) no_path (9 ∷ []) refl refl
 
-no-time : right (gives first_way slowA 0 4 (9 ∷ 9 ∷ 9 ∷ 9 ∷ []) no-path (9 ∷ 9 ∷ 9 ∷ 9 ∷ [])) ≡ true
-unfolding from below sum select any member distinct leadsTo mayFollow along step run last_or holds endsIn isWalk isPath isInterior or_else firstNonempty hops endsBelow word_at contactAt records plan_of cause first outside wrongLength wrongSlot wrongEnds isAbove wrongOrder recordCauses planCauses planFault wrongTurnaround wrongKeeping termsCauses endsCauses pairCauses stationCauses unless over same_numbers indexIn stay give goFirst goNext go move wayCauses same_lists sameReply flat_map bind grown grownShortest onward grownWalks grownWalksTo pairsBy loadBy
-no-time = gives-right slowA few-slow first_way 0 4 (9 ∷ 9 ∷ 9 ∷ 9 ∷ []) no-path (9 ∷ 9 ∷ 9 ∷ 9 ∷ []) refl refl
+no_time : right (gives first_way slow_a 0 4 (9 ∷ 9 ∷ 9 ∷ 9 ∷ []) no_path (9 ∷ 9 ∷ 9 ∷ 9 ∷ [])) ≡ true
+unfolding from below sum select any member distinct leads_to may_follow along step run last_or holds ends_in is_walk is_path is_interior or_else first_nonempty hops ends_below word_at contact_at records plan_of cause first outside wrong_length wrong_slot wrong_ends is_above wrong_order record_causes plan_causes plan_fault wrong_turnaround wrong_keeping terms_causes ends_causes pair_causes station_causes unless over same_numbers index_in stay give go_first go_next go move way_causes same_lists same_reply flat_map bind grown grown_shortest onward grown_walks grown_walks_to pairs_by load_by
+no_time = gives_right slow_a few_slow first_way 0 4 (9 ∷ 9 ∷ 9 ∷ 9 ∷ []) no_path (9 ∷ 9 ∷ 9 ∷ 9 ∷ []) refl refl
 
-in-time : right (complete slowA 0 3 ((1 ∷ 8 ∷ []) ∷ [])) ≡ true
-unfolding from below sum select any member distinct leadsTo mayFollow along step run last_or holds endsIn isWalk isPath isInterior or_else firstNonempty hops endsBelow word_at contactAt records plan_of cause first outside wrongLength wrongSlot wrongEnds isAbove wrongOrder recordCauses planCauses planFault wrongTurnaround wrongKeeping termsCauses endsCauses pairCauses stationCauses unless over same_numbers indexIn stay give goFirst goNext go move wayCauses same_lists sameReply flat_map bind grown grownShortest onward grownWalks grownWalksTo pairsBy loadBy
-in-time = complete-right slowA 0 3 _ refl
+in_time : right (complete slow_a 0 3 ((1 ∷ 8 ∷ []) ∷ [])) ≡ true
+unfolding from below sum select any member distinct leads_to may_follow along step run last_or holds ends_in is_walk is_path is_interior or_else first_nonempty hops ends_below word_at contact_at records plan_of cause first outside wrong_length wrong_slot wrong_ends is_above wrong_order record_causes plan_causes plan_fault wrong_turnaround wrong_keeping terms_causes ends_causes pair_causes station_causes unless over same_numbers index_in stay give go_first go_next go move way_causes same_lists same_reply flat_map bind grown grown_shortest onward grown_walks grown_walks_to pairs_by load_by
+in_time = complete_right slow_a 0 3 _ refl
 
-loads-of-slow : right (loadsOf slowA (0 ∷ 0 ∷ 1 ∷ 2 ∷ 0 ∷ []) (0 ∷ 0 ∷ 4294967296 ∷ 8589934592 ∷ 0 ∷ [])) ≡ true
-unfolding from below sum select any member distinct leadsTo mayFollow along step run last_or holds endsIn isWalk isPath isInterior or_else firstNonempty hops endsBelow word_at contactAt records plan_of cause first outside wrongLength wrongSlot wrongEnds isAbove wrongOrder recordCauses planCauses planFault wrongTurnaround wrongKeeping termsCauses endsCauses pairCauses stationCauses unless over same_numbers indexIn stay give goFirst goNext go move wayCauses same_lists sameReply flat_map bind grown grownShortest onward grownWalks grownWalksTo pairsBy loadBy
-loads-of-slow = loads-right slowA few-slow _ _ refl refl
+loads_of_slow : right (loads_of slow_a (0 ∷ 0 ∷ 1 ∷ 2 ∷ 0 ∷ []) (0 ∷ 0 ∷ 4294967296 ∷ 8589934592 ∷ 0 ∷ [])) ≡ true
+unfolding from below sum select any member distinct leads_to may_follow along step run last_or holds ends_in is_walk is_path is_interior or_else first_nonempty hops ends_below word_at contact_at records plan_of cause first outside wrong_length wrong_slot wrong_ends is_above wrong_order record_causes plan_causes plan_fault wrong_turnaround wrong_keeping terms_causes ends_causes pair_causes station_causes unless over same_numbers index_in stay give go_first go_next go move way_causes same_lists same_reply flat_map bind grown grown_shortest onward grown_walks grown_walks_to pairs_by load_by
+loads_of_slow = loads_right slow_a few_slow _ _ refl refl
 
-first-leg : right (gives first_way slowest 0 1 (9 ∷ []) (path 1) (0 ∷ [])) ≡ true
-unfolding from below sum select any member distinct leadsTo mayFollow along step run last_or holds endsIn isWalk isPath isInterior or_else firstNonempty hops endsBelow word_at contactAt records plan_of cause first outside wrongLength wrongSlot wrongEnds isAbove wrongOrder recordCauses planCauses planFault wrongTurnaround wrongKeeping termsCauses endsCauses pairCauses stationCauses unless over same_numbers indexIn stay give goFirst goNext go move wayCauses same_lists sameReply flat_map bind grown grownShortest onward grownWalks grownWalksTo pairsBy loadBy
-first-leg = gives-right slowest few-slowest first_way 0 1 (9 ∷ []) (path 1) (0 ∷ []) refl refl
+first_leg : right (gives first_way slowest 0 1 (9 ∷ []) (path 1) (0 ∷ [])) ≡ true
+unfolding from below sum select any member distinct leads_to may_follow along step run last_or holds ends_in is_walk is_path is_interior or_else first_nonempty hops ends_below word_at contact_at records plan_of cause first outside wrong_length wrong_slot wrong_ends is_above wrong_order record_causes plan_causes plan_fault wrong_turnaround wrong_keeping terms_causes ends_causes pair_causes station_causes unless over same_numbers index_in stay give go_first go_next go move way_causes same_lists same_reply flat_map bind grown grown_shortest onward grown_walks grown_walks_to pairs_by load_by
+first_leg = gives_right slowest few_slowest first_way 0 1 (9 ∷ []) (path 1) (0 ∷ []) refl refl
 
-none-refused : right (gives first_way without 0 9 [] (refused 12) []) ≡ true
-unfolding from below sum select any member distinct leadsTo mayFollow along step run last_or holds endsIn isWalk isPath isInterior or_else firstNonempty hops endsBelow word_at contactAt records plan_of cause first outside wrongLength wrongSlot wrongEnds isAbove wrongOrder recordCauses planCauses planFault wrongTurnaround wrongKeeping termsCauses endsCauses pairCauses stationCauses unless over same_numbers indexIn stay give goFirst goNext go move wayCauses same_lists sameReply flat_map bind grown grownShortest onward grownWalks grownWalksTo pairsBy loadBy right wayAnswer
-none-refused = refl
+none_refused : right (gives first_way without 0 9 [] (refused 12) []) ≡ true
+unfolding from below sum select any member distinct leads_to may_follow along step run last_or holds ends_in is_walk is_path is_interior or_else first_nonempty hops ends_below word_at contact_at records plan_of cause first outside wrong_length wrong_slot wrong_ends is_above wrong_order record_causes plan_causes plan_fault wrong_turnaround wrong_keeping terms_causes ends_causes pair_causes station_causes unless over same_numbers index_in stay give go_first go_next go move way_causes same_lists same_reply flat_map bind grown grown_shortest onward grown_walks grown_walks_to pairs_by load_by right way_answer
+none_refused = refl
 
-seventeen-refused : right (gives next_Way tooSlow 0 9 [] (refused 12) []) ≡ true
-unfolding from below sum select any member distinct leadsTo mayFollow along step run last_or holds endsIn isWalk isPath isInterior or_else firstNonempty hops endsBelow word_at contactAt records plan_of cause first outside wrongLength wrongSlot wrongEnds isAbove wrongOrder recordCauses planCauses planFault wrongTurnaround wrongKeeping termsCauses endsCauses pairCauses stationCauses unless over same_numbers indexIn stay give goFirst goNext go move wayCauses same_lists sameReply flat_map bind grown grownShortest onward grownWalks grownWalksTo pairsBy loadBy right wayAnswer
-seventeen-refused = refl
+seventeen_refused : right (gives next_Way too_slow 0 9 [] (refused 12) []) ≡ true
+unfolding from below sum select any member distinct leads_to may_follow along step run last_or holds ends_in is_walk is_path is_interior or_else first_nonempty hops ends_below word_at contact_at records plan_of cause first outside wrong_length wrong_slot wrong_ends is_above wrong_order record_causes plan_causes plan_fault wrong_turnaround wrong_keeping terms_causes ends_causes pair_causes station_causes unless over same_numbers index_in stay give go_first go_next go move way_causes same_lists same_reply flat_map bind grown grown_shortest onward grown_walks grown_walks_to pairs_by load_by right way_answer
+seventeen_refused = refl
 
 -- a right entry before right ones
-next-right : (e : Example) (l : List Example) → right e ≡ true → allRight l ≡ true → allRight (e ∷ l) ≡ true
-unfolding allRight
-next-right e l here rest = (and-eq-true_iff (right e) (allRight l)).1 (here, rest)
+next_right : (e : Example) (l : List Example) → right e ≡ true → all_right l ≡ true → all_right (e ∷ l) ≡ true
+unfolding all_right
+next_right e l here rest = (and-eq-true_iff (right e) (all_right l)).1 (here, rest)
 
-none_right : allRight [] ≡ true
-unfolding allRight
+none_right : all_right [] ≡ true
+unfolding all_right
 none_right = refl
 
-pub examples : allRight table ≡ true
+pub examples : all_right table ≡ true
 examples =
-    next-right _ _ empty-source
-    (next-right _ _ station-three
-    (next-right _ _ station-four
-    (next-right _ _ back-home
-    (next-right _ _ its-walks
-    (next-right _ _ station-two
-    (next-right _ _ complete-list
-    (next-right _ _ first-given
-    (next-right _ _ second-given
-    (next-right _ _ third-given
-    (next-right _ _ through-table
-    (next-right _ _ none-given
-    (next-right _ _ last-told
-    (next-right _ _ ten-told
-    (next-right _ _ accepted
-    (next-right _ _ repeated-refused
-    (next-right _ _ itself-refused
-    (next-right _ _ loads-of-a
-    (next-right _ _ same-slot
-    (next-right _ _ one_way
-    (next-right _ _ no_way_back
-    (next-right _ _ no-time
-    (next-right _ _ in-time
-    (next-right _ _ loads-of-slow
-    (next-right _ _ first-leg
-    (next-right _ _ none-refused
-    (next-right _ _ seventeen-refused none_right))))))))))))))))))))))))))
+    next_right _ _ empty_source
+    (next_right _ _ station_three
+    (next_right _ _ station_four
+    (next_right _ _ back_home
+    (next_right _ _ its_walks
+    (next_right _ _ station_two
+    (next_right _ _ complete_list
+    (next_right _ _ first_given
+    (next_right _ _ second_given
+    (next_right _ _ third_given
+    (next_right _ _ through_table_law
+    (next_right _ _ none_given
+    (next_right _ _ last_told
+    (next_right _ _ ten_told
+    (next_right _ _ accepted
+    (next_right _ _ repeated_refused
+    (next_right _ _ itself_refused
+    (next_right _ _ loads_of_a
+    (next_right _ _ same_slot_law
+    (next_right _ _ one_way
+    (next_right _ _ no_way_back
+    (next_right _ _ no_time
+    (next_right _ _ in_time
+    (next_right _ _ loads_of_slow
+    (next_right _ _ first_leg
+    (next_right _ _ none_refused
+    (next_right _ _ seventeen_refused none_right))))))))))))))))))))))))))

@@ -4,7 +4,7 @@
 use Rattle.std.specs.Prelude.{ℕ, Bool, true, false, ◌&&◌, List, [], ◌∷◌, eqb, replicate}
 use Rattle.temporal.specs.Plan.{Terms, turning}
 use Rattle.temporal.specs.Outcome.{ReachTables, places, reach}
-use Rattle.temporal.specs.Cursor.{Reply, path, no-path, last-path, refused, same_numbers, Operation}
+use Rattle.temporal.specs.Cursor.{Reply, path, no_path, last_path, refused, same_numbers, Operation}
 use Rattle.temporal.specs.FirstNext.{Question}
 
 -- a plan's bytes with its numbers of stations and slots, and the turnaround (document 02, C-17); its units keep a reading until the plan
@@ -17,8 +17,8 @@ pub record PlanBytes : Type 0 where
 
 -- plan A of document 01, doubled (document 02, C-16): each contact is a record for each direction, in the plan's order. Its units
 -- turn round in one slot, as P1 to P10 have it
-abbrev pub planA : PlanBytes
-planA =
+abbrev pub plan_a : PlanBytes
+plan_a =
     record {
       bytes =
           0x00 ∷ 0x01 ∷ 0x00 ∷ 0x00 ∷ 0x00 ∷ 0x01 ∷ 0x00 ∷ 0x01 ∷ 0x00 ∷ 0x00 ∷ 0x00 ∷ 0x02 ∷
@@ -33,11 +33,11 @@ planA =
     }
 
 -- plan A where a station needs two slots between hearing and sending on (document 02, C-17 and C-20)
-abbrev pub slowA : PlanBytes
-slowA = record { bytes = planA.bytes; stations = 5; slots = 4; turnaround = 2 }
+abbrev pub slow_a : PlanBytes
+slow_a = record { bytes = plan_a.bytes; stations = 5; slots = 4; turnaround = 2 }
 
-abbrev pub emptyPlan : PlanBytes
-emptyPlan = record { bytes = []; stations = 1; slots = 1; turnaround = 1 }
+abbrev pub empty_plan : PlanBytes
+empty_plan = record { bytes = []; stations = 1; slots = 1; turnaround = 1 }
 
 -- the record (1, 0, 1) twice
 abbrev pub repeated : PlanBytes
@@ -45,12 +45,12 @@ repeated =
     record { bytes = 0 ∷ 1 ∷ 0 ∷ 0 ∷ 0 ∷ 1 ∷ 0 ∷ 1 ∷ 0 ∷ 0 ∷ 0 ∷ 1 ∷ []; stations = 2; slots = 1; turnaround = 1 }
 
 -- the record (1, 1, 1)
-abbrev pub withItself : PlanBytes
-withItself = record { bytes = 0 ∷ 1 ∷ 0 ∷ 1 ∷ 0 ∷ 1 ∷ []; stations = 2; slots = 1; turnaround = 1 }
+abbrev pub with_itself : PlanBytes
+with_itself = record { bytes = 0 ∷ 1 ∷ 0 ∷ 1 ∷ 0 ∷ 1 ∷ []; stations = 2; slots = 1; turnaround = 1 }
 
 -- the contacts (1, 0, 1) and (1, 1, 2), doubled; two slots, so that two hops are tried
-abbrev pub sameSlot : PlanBytes
-sameSlot =
+abbrev pub same_slot : PlanBytes
+same_slot =
     record {
       bytes =
           0 ∷ 1 ∷ 0 ∷ 0 ∷ 0 ∷ 1 ∷ 0 ∷ 1 ∷ 0 ∷ 1 ∷ 0 ∷ 0 ∷
@@ -72,11 +72,11 @@ slowest = record { bytes = single.bytes; stations = 2; slots = 1; turnaround = 1
 abbrev pub without : PlanBytes
 without = record { bytes = single.bytes; stations = 2; slots = 1; turnaround = 0 }
 
-abbrev pub tooSlow : PlanBytes
-tooSlow = record { bytes = single.bytes; stations = 2; slots = 1; turnaround = 17 }
+abbrev pub too_slow : PlanBytes
+too_slow = record { bytes = single.bytes; stations = 2; slots = 1; turnaround = 17 }
 
-abbrev pub termsOf : PlanBytes → Terms
-termsOf g = turning g.turnaround
+abbrev pub terms_of : PlanBytes → Terms
+terms_of g = turning g.turnaround
 
 -- A question with its answer, for each operation; the comment says what the numbers are.
 pub data Example : Type 0 where
@@ -87,24 +87,24 @@ pub data Example : Type 0 where
   complete : PlanBytes → ℕ → ℕ → List (List ℕ) → Example  -- source, destination, the complete list
   throughs : PlanBytes → ℕ → ℕ → List ℕ → Example  -- source, destination, the through table
   gives : Operation → PlanBytes → ℕ → ℕ → List ℕ → Reply → List ℕ → Example  -- source, destination, buffer, answer, buffer after
-  loadsOf : PlanBytes → List ℕ → List ℕ → Example  -- the tables of pairs and of loads
+  loads_of : PlanBytes → List ℕ → List ℕ → Example  -- the tables of pairs and of loads
 
 -- a buffer of k entries as it is lent, all 7 in place of anything
 abbrev pub sevens : ℕ → List ℕ
 sevens k = replicate k 7
 
-abbrev pub questionOf : PlanBytes → ℕ → ℕ → Question
-questionOf g s z =
-    record { bytes = g.bytes; stations = g.stations; slots = g.slots; terms = termsOf g; source = s; destination = z }
+abbrev pub question_of : PlanBytes → ℕ → ℕ → Question
+question_of g s z =
+    record { bytes = g.bytes; stations = g.stations; slots = g.slots; terms = terms_of g; source = s; destination = z }
 
-unfoldable pub reachedFrom : PlanBytes → ℕ → ReachTables
-reachedFrom g s =
-    (reach g.bytes g.stations g.slots (termsOf g) s
+unfoldable pub reached_from : PlanBytes → ℕ → ReachTables
+reached_from g s =
+    (reach g.bytes g.stations g.slots (terms_of g) s
     (record {
-      hopsTable = sevens (places g.stations g.slots);
-      countTable = sevens (places g.stations g.slots);
-      stationHops = sevens g.stations;
-      stationCounts = sevens g.stations;
+      hops_table = sevens (places g.stations g.slots);
+      count_table = sevens (places g.stations g.slots);
+      station_hops = sevens g.stations;
+      station_counts = sevens g.stations;
     })).buffers
 
 unfoldable pub same_lists : List (List ℕ) → List (List ℕ) → Bool
@@ -113,20 +113,20 @@ same_lists [] (y ∷ m) = false
 same_lists (x ∷ l) [] = false
 same_lists (x ∷ l) (y ∷ m) = same_numbers x y && same_lists l m
 
-unfoldable pub sameReply : Reply → Reply → Bool
-sameReply (path h) (path k) = eqb h k
-sameReply (path h) no-path = false
-sameReply (path h) last-path = false
-sameReply (path h) (refused k) = false
-sameReply no-path (path k) = false
-sameReply no-path no-path = true
-sameReply no-path last-path = false
-sameReply no-path (refused k) = false
-sameReply last-path (path k) = false
-sameReply last-path no-path = false
-sameReply last-path last-path = true
-sameReply last-path (refused k) = false
-sameReply (refused j) (path k) = false
-sameReply (refused j) no-path = false
-sameReply (refused j) last-path = false
-sameReply (refused j) (refused k) = eqb j k
+unfoldable pub same_reply : Reply → Reply → Bool
+same_reply (path h) (path k) = eqb h k
+same_reply (path h) no_path = false
+same_reply (path h) last_path = false
+same_reply (path h) (refused k) = false
+same_reply no_path (path k) = false
+same_reply no_path no_path = true
+same_reply no_path last_path = false
+same_reply no_path (refused k) = false
+same_reply last_path (path k) = false
+same_reply last_path no_path = false
+same_reply last_path last_path = true
+same_reply last_path (refused k) = false
+same_reply (refused j) (path k) = false
+same_reply (refused j) no_path = false
+same_reply (refused j) last_path = false
+same_reply (refused j) (refused k) = eqb j k

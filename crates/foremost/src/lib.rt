@@ -1,21 +1,22 @@
 // Document 02's operation on the shortest foremost paths of a pair (C-14), over the pass: the earliest slot in which a reading
 // arrives, the fewest hops of a path that arrives then, how many there are, and how many have each station inside.
+#![tactic(auto)]
 ghost use Rattle.std.specs.Prelude.{◌≡◌};
 ghost use Rattle.temporal.specs.Plan.{turning};
 ghost use Rattle.temporal.specs.Bytes.{plan_of};
-ghost use Rattle.temporal.specs.Cause.{planFault};
-ghost use Rattle.temporal.specs.OutcomeForemost.{foremostPaired, foremost};
-ghost use Rattle.pair.specs.Answer.{pairBuffers};
+ghost use Rattle.temporal.specs.Cause.{plan_fault};
+ghost use Rattle.temporal.specs.OutcomeForemost.{foremost_paired, foremost};
+ghost use Rattle.pair.specs.Answer.{pair_buffers};
 ghost use Rattle.pair.specs.Throughs.{PairReady};
-ghost use Rattle.foremost.specs.Answer.{foremostOutcome};
-ghost use Rattle.foremost.specs.Work.{metAppearance, AppearancesReady, Appearances, Foremosts, slotValue};
+ghost use Rattle.foremost.specs.Answer.{foremost_outcome};
+ghost use Rattle.foremost.specs.Work.{met_appearance, AppearancesReady, Appearances, Foremosts, slot_value};
 
 use calls::CallCheck;
 use pass::{Columns, Ended};
 use plan::{CallFault, CheckAnswer, Fault};
 
 // What the operation answers: slot, hops and count.
-#[derive(Drop)]
+#[derive(Clone, Copy)]
 pub enum ForemostAnswer {
     Counted(u64, u64, u64),
     Refused(Fault),
@@ -23,7 +24,7 @@ pub enum ForemostAnswer {
 
 // Whether a pass met an appearance with over 2^64 - 1 shortest walks, or a count too wide for its lane.
 fn met_appearance(ended: Ended) -> bool
-    ensures { result ≡ metAppearance ended }
+    ensures { result ≡ met_appearance ended }
 {
     match ended {
         Ended::Settled(_) => {
@@ -96,7 +97,7 @@ fn foremost_throughs(
 
 // The slot of arrival, from the slot in which the pass ended: 65535 where there is no path.
 fn slot_value(slot: usize, hops: u64) -> u64
-    ensures { result ≡ slotValue slot hops }
+    ensures { result ≡ slot_value slot hops }
 {
     if hops == 65535 {
         return 65535;
@@ -116,8 +117,8 @@ fn foremost_work(
     z: usize,
 ) -> ForemostAnswer
     requires { PairReady plan.now n t (turning g) s z through.old work.old }
-    ensures { foremostOutcome result (pairBuffers through.new work.new) ≡
-        foremostPaired (plan_of plan.now n t (turning g)) s z (pairBuffers through.old work.old) }
+    ensures { foremost_outcome result (pair_buffers through.new work.new) ≡
+        foremost_paired (plan_of plan.now n t (turning g)) s z (pair_buffers through.old work.old) }
 {
     let slot = foremost_throughs(through, work, plan, n, t, g, s, z);
     if slot == 0 {
@@ -142,9 +143,9 @@ fn foremost_accepted(
     s: usize,
     z: usize,
 ) -> ForemostAnswer
-    requires { planFault plan.now n t ≡ 0 }
-    ensures { foremostOutcome result (pairBuffers through.new work.new) ≡
-        foremost plan.now n t (turning g) s z (pairBuffers through.old work.old) }
+    requires { plan_fault plan.now n t ≡ 0 }
+    ensures { foremost_outcome result (pair_buffers through.new work.new) ≡
+        foremost plan.now n t (turning g) s z (pair_buffers through.old work.old) }
 {
     let CallCheck::Refused(fault) = calls::pair_call(
         n,
@@ -174,8 +175,8 @@ pub fn foremost(
     through: &mut [u64],
     work: &mut [u64],
 ) -> ForemostAnswer
-    ensures { foremostOutcome result (pairBuffers through.new work.new) ≡
-        foremost plan.now n t (turning g) s z (pairBuffers through.old work.old) }
+    ensures { foremost_outcome result (pair_buffers through.new work.new) ≡
+        foremost plan.now n t (turning g) s z (pair_buffers through.old work.old) }
 {
     let CheckAnswer::Refused(fault) = plan::check(plan, n, t) else {
         return foremost_accepted(through, work, plan, n, t, g, s, z);

@@ -10,48 +10,48 @@ use borrow.Author.Tests.{le-leb, lt-leb}
 use lib.ListN.{length, drop}
 use Rattle.temporal.specs.Plan.{Terms, units, Keeps}
 use Rattle.walks.proofs.Accepted.{accepted}
-use Rattle.lists.proofs.BufferLaws.{later-drop}
-use Rattle.pass.specs.Row.{partSize}
-use Rattle.pass.specs.PassedColumns.{waiting, areaSize}
+use Rattle.lists.proofs.BufferLaws.{later_drop}
+use Rattle.pass.specs.Row.{part_size}
+use Rattle.pass.specs.PassedColumns.{waiting, area_size}
 use Rattle.stale.proofs.SizeLaws.{parts_within}
-use Rattle.widths.specs.Found.{widthsSize, Narrow, WidthsReady, WidthsFound}
-use Rattle.widths.proofs.NarrowLaws.{narrow-none}
+use Rattle.widths.specs.Found.{widths_size, Narrow, WidthsReady, WidthsFound}
+use Rattle.widths.proofs.NarrowLaws.{narrow_none}
 use Rattle.forward.specs.declared.Splits.{Splits}
-use Rattle.forward.specs.Passed.{pass_size, widthsPart, GroupAsked, GroupFits, WidthsAsked, WidthsKnown, Known, Knows}
-use Rattle.forward.specs.Passed.{noSplits, nextSplit, laterSplits, RefillReady, Refilled}
-use Rattle.forward.proofs.SizeLaws.{size-kept}
+use Rattle.forward.specs.Passed.{pass_size, widths_part, GroupAsked, GroupFits, WidthsAsked, WidthsKnown, Known, Knows}
+use Rattle.forward.specs.Passed.{no_splits, next_split, later_splits, RefillReady, Refilled}
+use Rattle.forward.proofs.SizeLaws.{size_kept}
 
 -- ---- how much of the work area it takes
 
 module _ (n t : ℕ) (terms : Terms) (many : ℕ) where
-  pub part-kept : Keeps t terms → widthsPart n t terms many ≡ widthsSize n (waiting t terms) many
-  unfolding widthsPart
-  part-kept h = rw (le-leb t (terms.keeping + 1) h)
+  pub part_kept : Keeps t terms → widths_part n t terms many ≡ widths_size n (waiting t terms) many
+  unfolding widths_part
+  part_kept h = rw (le-leb t (terms.keeping + 1) h)
 
-  pub part-stale : terms.keeping + 1 < t → widthsPart n t terms many ≡ 0
-  unfolding widthsPart
-  part-stale h = rw (lt-leb t (terms.keeping + 1) h)
+  pub part_stale : terms.keeping + 1 < t → widths_part n t terms many ≡ 0
+  unfolding widths_part
+  part_stale h = rw (lt-leb t (terms.keeping + 1) h)
 
 -- where a pass for one source with rows fits, one source fits
-pub one-fits : (n t : ℕ) (terms : Terms) (d block base : ℕ) → 0 < n → pass_size n t terms d block ≤ base → widthsPart n t terms 1 ≤ base
-one-fits n t terms d block base some fits =
+pub one_fits : (n t : ℕ) (terms : Terms) (d block base : ℕ) → 0 < n → pass_size n t terms d block ≤ base → widths_part n t terms 1 ≤ base
+one_fits n t terms d block base some fits =
     by_cases (dec_le t (terms.keeping + 1))
     (λ h.
-    let size = size-kept n t terms d block h in
-    let least : n + 1 ≤ partSize n block = omega arith in
-    let all : (1 + waiting t terms) * (n + 1) ≤ areaSize n (waiting t terms) block = mul-le-mul_left (1 + waiting t terms) least in
-    rw (part-kept n t terms 1 h) (omega arith))
-    (λ h. rw (part-stale n t terms 1 (omega arith)) (omega arith))
+    let size = size_kept n t terms d block h in
+    let least : n + 1 ≤ part_size n block = omega arith in
+    let all : (1 + waiting t terms) * (n + 1) ≤ area_size n (waiting t terms) block = mul-le-mul_left (1 + waiting t terms) least in
+    rw (part_kept n t terms 1 h) (omega arith))
+    (λ h. rw (part_stale n t terms 1 (omega arith)) (omega arith))
 
 -- ---- how many sources it takes at once
 
 module _ (n t g h base left : ℕ) (asked : GroupAsked n t (units g h) base left) where
-  pub group-kept : (few q size r : ℕ) → t ≤ h + 1 → few ≡ min left 32 → q ≡ min g t → size ≡ (1 + q) * n + 1
+  pub group_kept : (few q size r : ℕ) → t ≤ h + 1 → few ≡ min left 32 → q ≡ min g t → size ≡ (1 + q) * n + 1
       → r ≡ min few (base / size) → GroupFits n t (units g h) base left r
-  group-kept few q size r keeps is-few is-q is-size is =
+  group_kept few q size r keeps is-few is-q is-size is =
       let one = asked.one in
       let some = asked.some in
-      let part = part-kept n t (units g h) 1 keeps in
+      let part = part_kept n t (units g h) 1 keeps in
       let there : size ≡ (1 + min g t) * n + 1 = is-size ∙ ap (λ k. (1 + k) * n + 1) is-q in
       let enough : 1 * size ≤ base = omega arith in
       let parts = parts_within 1 size base (omega arith) enough in
@@ -63,51 +63,51 @@ module _ (n t g h base left : ℕ) (asked : GroupAsked n t (units g h) base left
         some = omega arith;
         most = omega arith;
         few = omega arith;
-        fits = rw (part-kept n t (units g h) r keeps) (subst (λ k. k * r ≤ base) there within);
+        fits = rw (part_kept n t (units g h) r keeps) (subst (λ k. k * r ≤ base) there within);
       }
 
-  pub group-stale : (few : ℕ) → h + 1 < t → few ≡ min left 32 → GroupFits n t (units g h) base left few
-  group-stale few stale is =
+  pub group_stale : (few : ℕ) → h + 1 < t → few ≡ min left 32 → GroupFits n t (units g h) base left few
+  group_stale few stale is =
       let some = asked.some in
       record {
         some = omega arith;
         most = omega arith;
         few = omega arith;
-        fits = rw (part-stale n t (units g h) few stale) (omega arith);
+        fits = rw (part_stale n t (units g h) few stale) (omega arith);
       }
 
 -- ---- the pass
 
 module _ (bs : List ℕ) (n t : ℕ) (terms : Terms) (first many : ℕ) (old : List ℕ) (asked : WidthsAsked bs n t terms first many old) where
-  pub widths-ready : Keeps t terms → WidthsReady bs n t terms first many old
-  widths-ready keeps =
+  pub widths_ready : Keeps t terms → WidthsReady bs n t terms first many old
+  widths_ready keeps =
       record {
         accepted = asked.accepted;
         units = record { turns = asked.units.turns; keeps = keeps };
         sources = asked.sources;
         few = asked.few;
-        fits = subst (λ k. k ≤ length old) (part-kept n t terms many keeps) asked.fits;
+        fits = subst (λ k. k ≤ length old) (part_kept n t terms many keeps) asked.fits;
       }
 
-  pub widths-known : Keeps t terms → (new : List ℕ) (r : ℕ) → WidthsFound bs n t terms first many old new r
+  pub widths_known : Keeps t terms → (new : List ℕ) (r : ℕ) → WidthsFound bs n t terms first many old new r
       → WidthsKnown bs n t terms first many old new r
-  widths-known keeps new r x =
+  widths_known keeps new r x =
       record {
         narrow = x.narrow;
-        beyond = subst (λ k. drop k new ≡ drop k old) (sym (part-kept n t terms many keeps)) x.beyond;
+        beyond = subst (λ k. drop k new ≡ drop k old) (sym (part_kept n t terms many keeps)) x.beyond;
         same_length = x.same_length;
       }
 
   -- where readings go stale nothing is known
-  pub widths-unknown : WidthsKnown bs n t terms first many old old 0
-  widths-unknown = record { narrow = narrow-none bs n t terms first many; beyond = refl; same_length = refl }
+  pub widths_unknown : WidthsKnown bs n t terms first many old old 0
+  widths_unknown = record { narrow = narrow_none bs n t terms first many; beyond = refl; same_length = refl }
 
 -- ---- what is known of the next sources
 
 module _ (bs : List ℕ) (n t : ℕ) (terms : Terms) (s end : ℕ) where
   -- nothing
-  pub knows-none : s ≤ end → Knows bs n t terms s end noSplits
-  knows-none h = record { within = omega arith; narrow = narrow-none bs n t terms s 0 }
+  pub knows_none : s ≤ end → Knows bs n t terms s end no_splits
+  knows_none h = record { within = omega arith; narrow = narrow_none bs n t terms s 0 }
 
   module _ (splits : Splits) (x : Knows bs n t terms s end splits) (some : 0 < splits.left) where
     one_more : splits.left ≡ suc (splits.left - 1)
@@ -117,31 +117,31 @@ module _ (bs : List ℕ) (n t : ℕ) (terms : Terms) (s end : ℕ) where
     parted = subst (λ k. Narrow bs n t terms s k splits.word) one_more x.narrow
 
     -- of the first of them
-    pub knows-next : Known bs n t terms s (nextSplit splits)
+    pub knows_next : Known bs n t terms s (next_split splits)
     unfolding Narrow
-    knows-next = record { few = omega arith; few-walks = parted.0 }
+    knows_next = record { few = omega arith; few_walks = parted.0 }
 
     -- and of the others
-    pub knows-later : Knows bs n t terms (s + 1) end (laterSplits splits)
+    pub knows_later : Knows bs n t terms (s + 1) end (later_splits splits)
     unfolding Narrow
-    knows-later = record { within = let w = x.within in omega arith; narrow = parted.1 }
+    knows_later = record { within = let w = x.within in omega arith; narrow = parted.1 }
 
 module _ (bs : List ℕ) (n t : ℕ) (terms : Terms) (base s end : ℕ) (splits : Splits) (old : List ℕ)
     (pre : RefillReady bs n t terms base s end splits old) where
   -- some are known still
-  pub refill-same : 0 < splits.left → Refilled bs n t terms base s end old old splits
-  refill-same some = record { some = some; knows = pre.knows; beyond = refl; same_length = refl }
+  pub refill_same : 0 < splits.left → Refilled bs n t terms base s end old old splits
+  refill_same some = record { some = some; knows = pre.knows; beyond = refl; same_length = refl }
 
   -- else more are looked at
-  pub refill-asked : GroupAsked n t terms base (end - s)
-  refill-asked =
+  pub refill_asked : GroupAsked n t terms base (end - s)
+  refill_asked =
       let a = accepted bs n t pre.accepted in
       let source = pre.source in
       record { stations = a.stations; slots = a.slots; units = pre.units; some = omega arith; one = pre.room }
 
   module _ (left : ℕ) (fits : GroupFits n t terms base (end - s) left) where
-    pub refill-ready : WidthsAsked bs n t terms s left old
-    refill-ready =
+    pub refill_ready : WidthsAsked bs n t terms s left old
+    refill_ready =
         let few = fits.most in
         let within = fits.fits in
         let source = pre.source in
@@ -155,14 +155,14 @@ module _ (bs : List ℕ) (n t : ℕ) (terms : Terms) (base s end : ℕ) (splits 
           fits = omega arith;
         }
 
-    pub refill-more : (new : List ℕ) (word : ℕ) → WidthsKnown bs n t terms s left old new word
+    pub refill_more : (new : List ℕ) (word : ℕ) → WidthsKnown bs n t terms s left old new word
         → Refilled bs n t terms base s end old new (record { left = left; word = word })
-    refill-more new word x =
+    refill_more new word x =
         let few = fits.most in
         let source = pre.source in
         record {
           some = fits.some;
           knows = record { within = omega arith; narrow = x.narrow };
-          beyond = later-drop (widthsPart n t terms left) base new old fits.fits x.beyond;
+          beyond = later_drop (widths_part n t terms left) base new old fits.fits x.beyond;
           same_length = x.same_length;
         }

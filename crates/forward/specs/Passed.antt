@@ -5,16 +5,16 @@
 use Rattle.std.specs.Prelude.{ℕ, ◌+◌, ◌-◌, ◌*◌, ◌/◌, ◌%◌, ◌^◌, ◌<◌, ◌≤◌, min, ◌≡◌, Bool, true, false, cond, List, ◌⊎◌, ◌≢◌, leb, eqb, length, get_or, drop}
 use Rattle.temporal.specs.Plan.{Terms, Keeps, Allowed}
 use Rattle.temporal.specs.Bytes.{plan_of}
-use Rattle.temporal.specs.Cause.{planFault, tooMany}
-use Rattle.temporal.specs.Shortest.{shortestWalksTo, hops, count, through}
+use Rattle.temporal.specs.Cause.{plan_fault, is_too_many}
+use Rattle.temporal.specs.Shortest.{shortest_walks_to, hops, count, through}
 use Rattle.temporal.specs.Set.{touched}
 use Rattle.pass.specs.declared.Ended.{Ended}
 use Rattle.pass.specs.declared.Ended.TheVariants as ended
-use Rattle.pass.specs.Column.{lanesBy, columnsIn, columnAt}
-use Rattle.pass.specs.PassedColumns.{waiting, areaSize}
-use Rattle.widths.specs.Found.{widthsSize, Narrow}
+use Rattle.pass.specs.Column.{lanes_by, columns_in, column_at}
+use Rattle.pass.specs.PassedColumns.{waiting, area_size}
+use Rattle.widths.specs.Found.{widths_size, Narrow}
 use Rattle.stale.specs.Depth.{Deep}
-use Rattle.stale.specs.Size.{windowSize, windowColumns}
+use Rattle.stale.specs.Size.{window_size, window_columns}
 use Rattle.forward.specs.declared.Packed.{Packed}
 use Rattle.forward.specs.declared.Packed.TheVariants as packed
 use Rattle.forward.specs.declared.Splits.{Splits}
@@ -23,16 +23,16 @@ use Rattle.forward.specs.declared.Splits.{Splits}
 -- stale.
 unfoldable pub pass_size : ℕ → ℕ → Terms → ℕ → ℕ → ℕ
 pass_size n t terms d block =
-    cond (leb t (terms.keeping + 1)) (areaSize n (waiting t terms) block) (windowSize n d block)
+    cond (leb t (terms.keeping + 1)) (area_size n (waiting t terms) block) (window_size n d block)
 
 -- the most columns of a row for which the pass fits e entries a station where nothing goes stale, with q parts of what waits; no more
 -- than there are stations
-unfoldable pub keptColumns : ℕ → ℕ → ℕ → ℕ
-keptColumns n e q = min n (e / (1 + q) - 2)
+unfoldable pub kept_columns : ℕ → ℕ → ℕ → ℕ
+kept_columns n e q = min n (e / (1 + q) - 2)
 
 -- the most columns for which it fits
-unfoldable pub mostColumns : ℕ → ℕ → Terms → ℕ → ℕ → ℕ
-mostColumns n t terms d e = cond (leb t (terms.keeping + 1)) (keptColumns n e (waiting t terms)) (windowColumns n e d)
+unfoldable pub most_columns : ℕ → ℕ → Terms → ℕ → ℕ → ℕ
+most_columns n t terms d e = cond (leb t (terms.keeping + 1)) (kept_columns n e (waiting t terms)) (window_columns n e d)
 
 -- e entries a station are enough for one column: all of the work area but 2 are
 pub record Lent (t : ℕ) (terms : Terms) (d e : ℕ) : Type 0 where
@@ -44,7 +44,7 @@ pub record Lent (t : ℕ) (terms : Terms) (d e : ℕ) : Type 0 where
 
 -- what finding how many appearances are kept asks
 pub record DepthReady (bs : List ℕ) (n t h : ℕ) (work : List ℕ) : Type 0 where
-  pub accepted : planFault bs n t ≡ 0
+  pub accepted : plan_fault bs n t ≡ 0
   pub some : 0 < h
   pub most : h ≤ 255
   pub fits : n ≤ length work
@@ -52,7 +52,7 @@ pub record DepthReady (bs : List ℕ) (n t h : ℕ) (work : List ℕ) : Type 0 w
 -- What the pass for any columns asks: an accepted plan, units that no cause refuses, a source that the pass does not wait for, and a work
 -- area that is long enough. It waits for a station only where nothing goes stale.
 pub record UntilReady (bs : List ℕ) (n t : ℕ) (terms : Terms) (d s until block : ℕ) (work : List ℕ) : Type 0 where
-  pub accepted : planFault bs n t ≡ 0
+  pub accepted : plan_fault bs n t ≡ 0
   pub units : Allowed terms
   pub deep : Deep bs n terms.keeping d
   pub source : s < n
@@ -62,7 +62,7 @@ pub record UntilReady (bs : List ℕ) (n t : ℕ) (terms : Terms) (d s until blo
 
 -- what the pass asks: an accepted plan, units that no cause refuses, a source and a block of stations, and a work area that is long enough
 pub record PassReady (bs : List ℕ) (n t : ℕ) (terms : Terms) (d s low block : ℕ) (work : List ℕ) : Type 0 where
-  pub accepted : planFault bs n t ≡ 0
+  pub accepted : plan_fault bs n t ≡ 0
   pub units : Allowed terms
   pub deep : Deep bs n terms.keeping d
   pub source : s < n
@@ -72,16 +72,16 @@ pub record PassReady (bs : List ℕ) (n t : ℕ) (terms : Terms) (d s low block 
 -- Station z has its hops at z and its count at n + z. At 2 n + z block + j stands how many of its shortest walks do not
 -- have station low + j inside; nothing is said there of z itself, nor where there is no walk.
 pub record Counted (bs : List ℕ) (n t : ℕ) (terms : Terms) (s low block : ℕ) (work : List ℕ) : Type 0 where
-  pub station-hops : (z : ℕ) → z < n → get_or work z 0 ≡ hops (shortestWalksTo (plan_of bs n t terms) s z)
-  pub station-counts : (z : ℕ) → z < n → get_or work (n + z) 0 ≡ count (shortestWalksTo (plan_of bs n t terms) s z)
-  pub rows : (z j : ℕ) → z < n → j < block → low + j ≢ z → hops (shortestWalksTo (plan_of bs n t terms) s z) < 65535
+  pub station_hops_law : (z : ℕ) → z < n → get_or work z 0 ≡ hops (shortest_walks_to (plan_of bs n t terms) s z)
+  pub station_counts_law : (z : ℕ) → z < n → get_or work (n + z) 0 ≡ count (shortest_walks_to (plan_of bs n t terms) s z)
+  pub rows : (z j : ℕ) → z < n → j < block → low + j ≢ z → hops (shortest_walks_to (plan_of bs n t terms) s z) < 65535
       → get_or work (2 * n + z * block + j) 0 + through (plan_of bs n t terms) s z (low + j)
-      ≡ count (shortestWalksTo (plan_of bs n t terms) s z)
+      ≡ count (shortest_walks_to (plan_of bs n t terms) s z)
 
 -- What the pass promises: whether a count is over 2^64 - 1, exactly; where none is, the entries above; and that nothing
 -- past its part of the work area is touched.
 pub record Passed (bs : List ℕ) (n t : ℕ) (terms : Terms) (d s low block : ℕ) (old new : List ℕ) (r : Bool) : Type 0 where
-  pub too_many : r ≡ tooMany (plan_of bs n t terms) s
+  pub too_many : r ≡ is_too_many (plan_of bs n t terms) s
   pub counted : r ≡ false → Counted bs n t terms s low block new
   pub beyond : drop (pass_size n t terms d block) new ≡ drop (pass_size n t terms d block) old
   pub same_length : length new ≡ length old
@@ -91,7 +91,7 @@ pub record Passed (bs : List ℕ) (n t : ℕ) (terms : Terms) (d s low block : �
 -- what the pass over a set asks: an accepted plan, units that no cause refuses, a source and a destination in it, and a work area that is
 -- long enough
 pub record SetReady (bs : List ℕ) (n t : ℕ) (terms : Terms) (s z : ℕ) (work : List ℕ) : Type 0 where
-  pub accepted : planFault bs n t ≡ 0
+  pub accepted : plan_fault bs n t ≡ 0
   pub units : Allowed terms
   pub source : s < n
   pub destination : z < n
@@ -101,26 +101,26 @@ pub record SetReady (bs : List ℕ) (n t : ℕ) (terms : Terms) (s z : ℕ) (wor
 -- empty block), and at 2 n + z how many shortest walks to the destination z have no member inside (nothing is said of it
 -- where there is no walk); and that nothing past its part of the work area is touched. A member's byte in the set is 1.
 pub record SetPassed (bs : List ℕ) (n t : ℕ) (terms : Terms) (s z : ℕ) (set old new : List ℕ) (r : Bool) : Type 0 where
-  pub too_many : r ≡ tooMany (plan_of bs n t terms) s
+  pub too_many : r ≡ is_too_many (plan_of bs n t terms) s
   pub counted : r ≡ false → Counted bs n t terms s 0 0 new
-  pub members : r ≡ false → hops (shortestWalksTo (plan_of bs n t terms) s z) < 65535
+  pub members : r ≡ false → hops (shortest_walks_to (plan_of bs n t terms) s z) < 65535
       → get_or new (2 * n + z) 0 + touched (plan_of bs n t terms) s z (λ v. eqb (get_or set v 0) 1)
-      ≡ count (shortestWalksTo (plan_of bs n t terms) s z)
+      ≡ count (shortest_walks_to (plan_of bs n t terms) s z)
   pub beyond : drop (pass_size n t terms terms.keeping 1) new ≡ drop (pass_size n t terms terms.keeping 1) old
   pub same_length : length new ≡ length old
 
 -- ---- several stations to an entry
 
 -- what the end of a pass says
-unfoldable pub packedAs : Ended → Packed
-packedAs (ended.Settled e) = packed.Counted
-packedAs ended.StationTooMany = packed.TooMany
-packedAs ended.AppearanceTooMany = packed.TooMany
-packedAs ended.TooWide = packed.TooWide
+unfoldable pub packed_as : Ended → Packed
+packed_as (ended.Settled e) = packed.Counted
+packed_as ended.StationTooMany = packed.TooMany
+packed_as ended.AppearanceTooMany = packed.TooMany
+packed_as ended.TooWide = packed.TooWide
 
 -- what the pass asks then: as for a block, with rows of so many entries, 2^split stations to each
 pub record PackedReady (bs : List ℕ) (n t : ℕ) (terms : Terms) (d s block split : ℕ) (work : List ℕ) : Type 0 where
-  pub accepted : planFault bs n t ≡ 0
+  pub accepted : plan_fault bs n t ≡ 0
   pub units : Allowed terms
   pub deep : Deep bs n terms.keeping d
   pub source : s < n
@@ -131,18 +131,18 @@ pub record PackedReady (bs : List ℕ) (n t : ℕ) (terms : Terms) (d s block sp
 -- A count fits its lane, where an entry has several.
 pub record PackedCounted (bs : List ℕ) (n t : ℕ) (terms : Terms) (s low block split : ℕ) (work : List ℕ) : Type 0 where
   pub stations : Counted bs n t terms s 0 0 work
-  pub rows : (z j : ℕ) → z < n → j < columnsIn (lanesBy split) block → low + j < n → low + j ≢ z
-      → hops (shortestWalksTo (plan_of bs n t terms) s z) < 65535
-      → columnAt (lanesBy split) work (2 * n + z * block) j + through (plan_of bs n t terms) s z (low + j)
-      ≡ count (shortestWalksTo (plan_of bs n t terms) s z)
-  pub thin : (z : ℕ) → z < n → hops (shortestWalksTo (plan_of bs n t terms) s z) < 65535
-      → (2 ^ split ≡ 1) ⊎ (count (shortestWalksTo (plan_of bs n t terms) s z) < 2 ^ (64 / 2 ^ split))
+  pub rows : (z j : ℕ) → z < n → j < columns_in (lanes_by split) block → low + j < n → low + j ≢ z
+      → hops (shortest_walks_to (plan_of bs n t terms) s z) < 65535
+      → column_at (lanes_by split) work (2 * n + z * block) j + through (plan_of bs n t terms) s z (low + j)
+      ≡ count (shortest_walks_to (plan_of bs n t terms) s z)
+  pub thin : (z : ℕ) → z < n → hops (shortest_walks_to (plan_of bs n t terms) s z) < 65535
+      → (2 ^ split ≡ 1) ⊎ (count (shortest_walks_to (plan_of bs n t terms) s z) < 2 ^ (64 / 2 ^ split))
 
 -- how it ends
 unfoldable pub PackedAs : List ℕ → ℕ → ℕ → Terms → ℕ → ℕ → ℕ → ℕ → List ℕ → Packed → Type 0
 PackedAs bs n t terms s low block split work packed.Counted =
-    (tooMany (plan_of bs n t terms) s ≡ false) × PackedCounted bs n t terms s low block split work
-PackedAs bs n t terms s low block split work packed.TooMany = tooMany (plan_of bs n t terms) s ≡ true
+    (is_too_many (plan_of bs n t terms) s ≡ false) × PackedCounted bs n t terms s low block split work
+PackedAs bs n t terms s low block split work packed.TooMany = is_too_many (plan_of bs n t terms) s ≡ true
 PackedAs bs n t terms s low block split work packed.TooWide = split ≢ 0
 
 -- what it promises
@@ -154,8 +154,8 @@ pub record PackedPassed (bs : List ℕ) (n t : ℕ) (terms : Terms) (d s low blo
 -- ---- the pass without rows, for several sources at once
 
 -- how many entries of the work area it uses for so many sources; none where readings go stale
-unfoldable pub widthsPart : ℕ → ℕ → Terms → ℕ → ℕ
-widthsPart n t terms many = cond (leb t (terms.keeping + 1)) (widthsSize n (waiting t terms) many) 0
+unfoldable pub widths_part : ℕ → ℕ → Terms → ℕ → ℕ
+widths_part n t terms many = cond (leb t (terms.keeping + 1)) (widths_size n (waiting t terms) many) 0
 
 -- what finding how many sources it takes at once asks: some are left, and one fits base entries
 pub record GroupAsked (n t : ℕ) (terms : Terms) (base left : ℕ) : Type 0 where
@@ -163,33 +163,33 @@ pub record GroupAsked (n t : ℕ) (terms : Terms) (base left : ℕ) : Type 0 whe
   pub slots : t ≤ 255
   pub units : Allowed terms
   pub some : 0 < left
-  pub one : widthsPart n t terms 1 ≤ base
+  pub one : widths_part n t terms 1 ≤ base
 
 -- so many of them fit
 pub record GroupFits (n t : ℕ) (terms : Terms) (base left r : ℕ) : Type 0 where
   pub some : 0 < r
   pub most : r ≤ left
   pub few : r ≤ 32
-  pub fits : widthsPart n t terms r ≤ base
+  pub fits : widths_part n t terms r ≤ base
 
 -- what it asks: an accepted plan, units that no cause refuses, sources in it, and a work area that is long enough
 pub record WidthsAsked (bs : List ℕ) (n t : ℕ) (terms : Terms) (first many : ℕ) (work : List ℕ) : Type 0 where
-  pub accepted : planFault bs n t ≡ 0
+  pub accepted : plan_fault bs n t ≡ 0
   pub units : Allowed terms
   pub sources : first + many ≤ n
   pub few : many ≤ 32
-  pub fits : widthsPart n t terms many ≤ length work
+  pub fits : widths_part n t terms many ≤ length work
 
 -- what it promises: the splits, and that nothing past its part of the work area is touched
 pub record WidthsKnown (bs : List ℕ) (n t : ℕ) (terms : Terms) (first many : ℕ) (old new : List ℕ) (r : ℕ) : Type 0 where
   pub narrow : Narrow bs n t terms first many r
-  pub beyond : drop (widthsPart n t terms many) new ≡ drop (widthsPart n t terms many) old
+  pub beyond : drop (widths_part n t terms many) new ≡ drop (widths_part n t terms many) old
   pub same_length : length new ≡ length old
 
 -- what is known of source s: a split of its rows, and that cause 9 does not hold; 0 where nothing is
 pub record Known (bs : List ℕ) (n t : ℕ) (terms : Terms) (s width : ℕ) : Type 0 where
   pub few : width ≤ 3
-  pub few-walks : width ≢ 0 → tooMany (plan_of bs n t terms) s ≡ false
+  pub few_walks : width ≢ 0 → is_too_many (plan_of bs n t terms) s ≡ false
 
 -- what is known of the sources from s on: the splits of some that are below end
 pub record Knows (bs : List ℕ) (n t : ℕ) (terms : Terms) (s end : ℕ) (splits : Splits) : Type 0 where
@@ -197,23 +197,23 @@ pub record Knows (bs : List ℕ) (n t : ℕ) (terms : Terms) (s end : ℕ) (spli
   pub narrow : Narrow bs n t terms s splits.left splits.word
 
 -- of no source
-abbrev pub noSplits : Splits
-noSplits = record { left = 0; word = 0 }
+abbrev pub no_splits : Splits
+no_splits = record { left = 0; word = 0 }
 
 -- the split of the first of them, and the splits of the others
-abbrev pub nextSplit : Splits → ℕ
-nextSplit splits = splits.word % 4
+abbrev pub next_split : Splits → ℕ
+next_split splits = splits.word % 4
 
-abbrev pub laterSplits : Splits → Splits
-laterSplits splits = record { left = splits.left - 1; word = splits.word / 4 }
+abbrev pub later_splits : Splits → Splits
+later_splits splits = record { left = splits.left - 1; word = splits.word / 4 }
 
 -- what knowing some asks: room for one source before base, and a source that is left
 pub record RefillReady (bs : List ℕ) (n t : ℕ) (terms : Terms) (base s end : ℕ) (splits : Splits) (work : List ℕ) : Type 0 where
-  pub accepted : planFault bs n t ≡ 0
+  pub accepted : plan_fault bs n t ≡ 0
   pub units : Allowed terms
   pub source : s < end
   pub sources : end ≤ n
-  pub room : widthsPart n t terms 1 ≤ base
+  pub room : widths_part n t terms 1 ≤ base
   pub fits : base ≤ length work
   pub knows : Knows bs n t terms s end splits
 

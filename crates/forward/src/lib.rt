@@ -1,18 +1,19 @@
 // The forward pass, as the operations call it: where nothing goes stale in the slots of the plan, the pass that carries what may be sent
 // on; else the pass that gathers a sender's window. What either leaves in the work area is read in one way.
+#![tactic(auto)]
 ghost use Rattle.std.specs.Prelude.{◌≡◌, true, false, ◌+◌, ◌*◌, ◌^◌, ◌<◌, ◌≤◌};
 ghost use Rattle.temporal.specs.Plan.{units};
 ghost use Rattle.temporal.specs.Bytes.{plan_of};
-ghost use Rattle.temporal.specs.Cause.{tooMany};
-ghost use Rattle.temporal.specs.Struck.{lackingRecord};
-ghost use Rattle.pass.specs.Column.{blockColumn, columnOf, whole, lanesBy, splitOf};
-ghost use Rattle.pass.specs.PassedColumns.{areaSize, Spared, ColumnsPassed, overOf, slot_of};
+ghost use Rattle.temporal.specs.Cause.{is_too_many};
+ghost use Rattle.temporal.specs.Struck.{lacking_record};
+ghost use Rattle.pass.specs.Column.{block_column, column_of, whole, lanes_by, split_of};
+ghost use Rattle.pass.specs.PassedColumns.{area_size, Spared, ColumnsPassed, over_of, slot_of};
 ghost use Rattle.stale.specs.Depth.{DepthOf};
-ghost use Rattle.stale.specs.Size.{windowSize};
+ghost use Rattle.stale.specs.Size.{window_size};
 ghost use Rattle.forward.specs.Passed.{
   pass_size,
-  keptColumns,
-  mostColumns,
+  kept_columns,
+  most_columns,
   Lent,
   DepthReady,
   UntilReady,
@@ -20,7 +21,7 @@ ghost use Rattle.forward.specs.Passed.{
   Passed,
   SetReady,
   SetPassed,
-  packedAs,
+  packed_as,
   PackedReady,
   PackedPassed,
   GroupAsked,
@@ -29,15 +30,15 @@ ghost use Rattle.forward.specs.Passed.{
   WidthsKnown,
   RefillReady,
   Refilled,
-  noSplits,
-  nextSplit,
-  laterSplits,
+  no_splits,
+  next_split,
+  later_splits,
 };
 
 use pass::{Columns, Ended};
 
 // How a pass ends whose rows hold several counts to an entry: with every count, with one over 2^64 - 1, or with one that does not fit.
-#[derive(Drop)]
+#[derive(Clone, Copy)]
 pub enum Packed {
     Counted,
     TooMany,
@@ -45,7 +46,7 @@ pub enum Packed {
 }
 
 // What is known of the next sources that are worked on: how many they are, and the split of each, two bits each, the first lowest.
-#[derive(Drop)]
+#[derive(Clone, Copy)]
 pub struct Splits {
     pub left: usize,
     pub word: u64,
@@ -65,15 +66,15 @@ pub fn depth(work: &mut [u64], plan: &[u8], n: usize, t: usize, h: usize) -> usi
 // The most columns of a row for which the pass fits e entries a station where nothing goes stale, with q parts of what waits.
 fn kept_columns(n: usize, e: usize, q: usize) -> usize
     requires { (q < 18446744073709551615) × (2 * (1 + q) ≤ e) }
-    ensures { result ≡ keptColumns n e q }
+    ensures { result ≡ kept_columns n e q }
 {
     pass::smaller(n, e / (1 + q) - 2)
 }
 
 // How many entries it uses then, with blocks of so many columns.
 fn kept_size(n: usize, q: usize, block: usize) -> usize
-    requires { (q ≤ 256) × (areaSize n q block < 18446744073709551616) }
-    ensures { result ≡ areaSize n q block }
+    requires { (q ≤ 256) × (area_size n q block < 18446744073709551616) }
+    ensures { result ≡ area_size n q block }
 {
     (1 + q) * (2 * n + n * block)
 }
@@ -81,7 +82,7 @@ fn kept_size(n: usize, q: usize, block: usize) -> usize
 // The most columns of a row for which the pass fits e entries a station.
 pub fn most_columns(n: usize, t: usize, g: usize, h: usize, depth: usize, e: usize) -> usize
     requires { Lent t (units g h) depth e }
-    ensures { result ≡ mostColumns n t (units g h) depth e }
+    ensures { result ≡ most_columns n t (units g h) depth e }
 {
     if t <= h + 1 {
         let q = pass::smaller(g, t);
@@ -92,8 +93,8 @@ pub fn most_columns(n: usize, t: usize, g: usize, h: usize, depth: usize, e: usi
 
 // How many entries it uses where readings go stale.
 fn window_size(n: usize, depth: usize, block: usize) -> usize
-    requires { (depth ≤ 255) × (windowSize n depth block < 18446744073709551616) }
-    ensures { result ≡ windowSize n depth block }
+    requires { (depth ≤ 255) × (window_size n depth block < 18446744073709551616) }
+    ensures { result ≡ window_size n depth block }
 {
     (3 + depth) * (2 * n + n * block) + (depth + 1) * n
 }
@@ -128,10 +129,10 @@ fn pass_slots(
     block: usize,
     until: usize,
 ) -> Ended
-    requires { UntilReady (lackingRecord plan.now out) n t (units g h) depth source until block work.old × (splitOf columns ≤ 3) ×
-        Spared known (lackingRecord plan.now out) n t (units g h) source }
-    ensures { ColumnsPassed (lackingRecord plan.now out) n t (units g h) source until (lanesBy (splitOf columns))
-        (columnOf columns set.now (block * 2 ^ splitOf columns)) block
+    requires { UntilReady (lacking_record plan.now out) n t (units g h) depth source until block work.old × (split_of columns ≤ 3) ×
+        Spared known (lacking_record plan.now out) n t (units g h) source }
+    ensures { ColumnsPassed (lacking_record plan.now out) n t (units g h) source until (lanes_by (split_of columns))
+        (column_of columns set.now (block * 2 ^ split_of columns)) block
         (pass_size n t (units g h) depth block) work.old work.new result }
 {
     if t <= h + 1 {
@@ -162,8 +163,8 @@ pub fn pass_until(
     until: usize,
 ) -> Ended
     requires { UntilReady plan.now n t (units g h) depth source until block work.old ×
-        (known ≡ true → tooMany (plan_of plan.now n t (units g h)) source ≡ false) }
-    ensures { ColumnsPassed plan.now n t (units g h) source until whole (blockColumn low block) block
+        (known ≡ true → is_too_many (plan_of plan.now n t (units g h)) source ≡ false) }
+    ensures { ColumnsPassed plan.now n t (units g h) source until whole (block_column low block) block
         (pass_size n t (units g h) depth block) work.old work.new result }
 {
     pass_slots(
@@ -186,7 +187,7 @@ pub fn pass_until(
 
 // Whether a pass met a count over 2^64 - 1, or too wide for its lane.
 fn over(ended: Ended) -> bool
-    ensures { result ≡ overOf ended }
+    ensures { result ≡ over_of ended }
 {
     match ended {
         Ended::Settled(_) => {
@@ -226,7 +227,7 @@ pub fn settled_slot(ended: Ended) -> usize
 
 // What the end of a pass through every slot says.
 fn packed_of(ended: Ended) -> Packed
-    ensures { result ≡ packedAs ended }
+    ensures { result ≡ packed_as ended }
 {
     match ended {
         Ended::Settled(_) => {
@@ -262,9 +263,9 @@ pub fn pass_packed(
     block: usize,
     split: usize,
 ) -> Packed
-    requires { PackedReady (lackingRecord plan.now out) n t (units g h) depth source block split work.old ×
-        (known ≡ true → tooMany (plan_of (lackingRecord plan.now out) n t (units g h)) source ≡ false) }
-    ensures { PackedPassed (lackingRecord plan.now out) n t (units g h) depth source low block split
+    requires { PackedReady (lacking_record plan.now out) n t (units g h) depth source block split work.old ×
+        (known ≡ true → is_too_many (plan_of (lacking_record plan.now out) n t (units g h)) source ≡ false) }
+    ensures { PackedPassed (lacking_record plan.now out) n t (units g h) depth source low block split
         work.old work.new result }
 {
     let ended = pass_slots(
@@ -301,8 +302,8 @@ pub fn pass_without(
     low: usize,
     block: usize,
 ) -> bool
-    requires { PassReady (lackingRecord plan.now out) n t (units g h) depth source low block work.old }
-    ensures { Passed (lackingRecord plan.now out) n t (units g h) depth source low block
+    requires { PassReady (lacking_record plan.now out) n t (units g h) depth source low block work.old }
+    ensures { Passed (lacking_record plan.now out) n t (units g h) depth source low block
         work.old work.new result }
 {
     let ended = pass_slots(
@@ -426,8 +427,8 @@ pub fn widths(
     first: usize,
     many: usize,
 ) -> u64
-    requires { WidthsAsked (lackingRecord plan.now out) n t (units g h) first many work.old }
-    ensures { WidthsKnown (lackingRecord plan.now out) n t (units g h) first many
+    requires { WidthsAsked (lacking_record plan.now out) n t (units g h) first many work.old }
+    ensures { WidthsKnown (lacking_record plan.now out) n t (units g h) first many
         work.old work.new result }
 {
     if t <= h + 1 {
@@ -451,8 +452,8 @@ pub fn refilled(
     end: usize,
     splits: Splits,
 ) -> Splits
-    requires { RefillReady (lackingRecord plan.now out) n t (units g h) base source end splits work.old }
-    ensures { Refilled (lackingRecord plan.now out) n t (units g h) base source end
+    requires { RefillReady (lacking_record plan.now out) n t (units g h) base source end splits work.old }
+    ensures { Refilled (lacking_record plan.now out) n t (units g h) base source end
         work.old work.new result }
 {
     if 0 < splits.left {
@@ -468,14 +469,14 @@ pub fn refilled(
 
 // Nothing is known of any source.
 pub fn no_splits() -> Splits
-    ensures { result ≡ noSplits }
+    ensures { result ≡ no_splits }
 {
     Splits { left: 0, word: 0 }
 }
 
 // The split of the next source; 0 where nothing is known of it.
 pub fn next_split(splits: Splits) -> usize
-    ensures { result ≡ nextSplit splits }
+    ensures { result ≡ next_split splits }
 {
     (splits.word % 4) as usize
 }
@@ -483,7 +484,7 @@ pub fn next_split(splits: Splits) -> usize
 // What is known of the sources after it.
 pub fn later_splits(splits: Splits) -> Splits
     requires { 0 < splits.left }
-    ensures { result ≡ laterSplits splits }
+    ensures { result ≡ later_splits splits }
 {
     Splits {
         left: splits.left - 1,

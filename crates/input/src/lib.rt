@@ -1,11 +1,12 @@
 // Reading a descriptor to the end of its input. A failed read is told, and never taken for the end.
+#![tactic(auto)]
 ghost use Rattle.std.specs.Prelude.{◌≡◌, length};
 ghost use Rattle.input.specs.Input.{part_of, PartWithin, InputWithin};
 
 use libc::EINTR;
 
 // What one read gave: a number of bytes, 0 at the end of the input; or it failed, by a signal or otherwise.
-#[derive(Drop)]
+#[derive(Clone, Copy)]
 enum Part {
     Got(usize),
     Interrupted,
@@ -13,7 +14,7 @@ enum Part {
 }
 
 // What reading gave: the number of bytes, which stand at the beginning of the buffer, or that a read failed.
-#[derive(Drop)]
+#[derive(Clone, Copy)]
 pub enum Input {
     Read(usize),
     Failed,

@@ -6,36 +6,36 @@ use mathlib.Core.Path.{◌≡◌, sym, ap, ◌∙◌}
 use mathlib.Core.Logic.{◌≢◌}
 use mathlib.Core.List.{List, []}
 use lib.ListN.{length, take, drop, length-take, length-drop}
-use Rattle.temporal.specs.Outcome.{rowNumber, row}
-use Rattle.walks.proofs.EnteredLaws.{unless-some, unless-none}
-use Rattle.rows.proofs.RowLaws.{row-refused, row-part, row_within, row-end}
+use Rattle.temporal.specs.Outcome.{row_number, row}
+use Rattle.walks.proofs.EnteredLaws.{unless_some, unless_none}
+use Rattle.rows.proofs.RowLaws.{row_refused, row_part, row_within, row_end}
 use Rattle.joftaki_c.specs.Slots.{RowGiven}
 
-module _ (n t v : ℕ) (table part : List ℕ) (k : ℕ) (is_row : part ≡ row n t v table) (is_number : k ≡ rowNumber n t v table) where
+module _ (n t v : ℕ) (table part : List ℕ) (k : ℕ) (is_row : part ≡ row n t v table) (is_number : k ≡ row_number n t v table) where
   -- on refusal the part is empty
-  pub row-given-refused : k ≢ 0 → RowGiven n t v table k 0 (length part)
-  row-given-refused refused =
+  pub row_given_refused : k ≢ 0 → RowGiven n t v table k 0 (length part)
+  row_given_refused refused =
       let some = pos_of_ne-zero refused in
-      let empty : part ≡ [] = is_row ∙ row-refused n t v table (omega arith) in
+      let empty : part ≡ [] = is_row ∙ row_refused n t v table (omega arith) in
       let none : length part ≡ 0 = ap length empty in
       record {
         number = is_number;
-        place = sym (unless-some _ _ _ (omega arith));
-        entries = none ∙ sym (unless-some _ _ _ (omega arith));
-        part = rw none (sym (row-refused n t v table (omega arith)));
+        place = sym (unless_some _ _ _ (omega arith));
+        entries = none ∙ sym (unless_some _ _ _ (omega arith));
+        part = rw none (sym (row_refused n t v table (omega arith)));
       }
 
   -- on acceptance it is a station's entries, within the table
-  pub row-given-accepted : k ≡ 0 → RowGiven n t v table 0 (v * (t + 1)) (length part)
-  row-given-accepted accepted =
-      let none : rowNumber n t v table ≡ 0 = sym is_number ∙ accepted in
+  pub row_given_accepted : k ≡ 0 → RowGiven n t v table 0 (v * (t + 1)) (length part)
+  row_given_accepted accepted =
+      let none : row_number n t v table ≡ 0 = sym is_number ∙ accepted in
       let inside = row_within n t v table none in
-      let fits = row-end v n (t + 1) (length table) inside.0 inside.2 in
-      let entries : part ≡ take (t + 1) (drop (v * (t + 1)) table) = is_row ∙ row-part n t v table none in
+      let fits = row_end v n (t + 1) (length table) inside.0 inside.2 in
+      let entries : part ≡ take (t + 1) (drop (v * (t + 1)) table) = is_row ∙ row_part n t v table none in
       let size : length part ≡ t + 1 = ap length entries ∙ simp (length-take, length-drop) (omega arith) in
       record {
         number = sym none;
-        place = sym (unless-none _ _ _ none);
-        entries = size ∙ sym (unless-none _ _ _ none);
-        part = rw size (sym (row-part n t v table none));
+        place = sym (unless_none _ _ _ none);
+        entries = size ∙ sym (unless_none _ _ _ none);
+        part = rw size (sym (row_part n t v table none));
       }

@@ -12,61 +12,61 @@ use Rattle.temporal.specs.Cause.{first, unless}
 use Rattle.temporal.specs.Cursor.{
   Reply,
   path,
-  no-path,
-  last-path,
+  no_path,
+  last_path,
   refused,
   Operation,
   first_way,
   next_Way,
-  indexIn,
+  index_in,
   stay,
   give,
-  goFirst,
-  goNext,
+  go_first,
+  go_next,
   go,
   move,
 }
-use Rattle.temporal.specs.FirstNext.{Question, list_of, wayCauses, overflow, wayWork, wayAnswer}
-use Rattle.walks.proofs.NumberLaws.{way-other, overflow-other}
-use Rattle.joftaki_c.specs.Code.{replyCode, replyHops}
+use Rattle.temporal.specs.FirstNext.{Question, list_of, way_causes, overflow, way_work, way_answer}
+use Rattle.walks.proofs.NumberLaws.{way_other, overflow_other}
+use Rattle.joftaki_c.specs.Code.{reply_code, reply_hops}
 
 -- a reply is read off its number and its hops slot
 pub record Told (r : Reply) : Type 0 where
-  pub way : replyCode r ≡ 0 → r ≡ path (replyHops r)
-  pub none : replyCode r ≡ 100 → r ≡ no-path
-  pub last : replyCode r ≡ 101 → r ≡ last-path
-  pub refusal : 0 < replyCode r → replyCode r < 100 → r ≡ refused (replyCode r)
+  pub way : reply_code r ≡ 0 → r ≡ path (reply_hops r)
+  pub none : reply_code r ≡ 100 → r ≡ no_path
+  pub last : reply_code r ≡ 101 → r ≡ last_path
+  pub refusal : 0 < reply_code r → reply_code r < 100 → r ≡ refused (reply_code r)
 
 -- a refusal has one of the papers' numbers, 1 to 17
 abbrev Numbered : Reply → Type 0
 Numbered (path h) = Unit {0}
-Numbered no-path = Unit {0}
-Numbered last-path = Unit {0}
+Numbered no_path = Unit {0}
+Numbered last_path = Unit {0}
 Numbered (refused k) = (0 < k) × (k ≤ 17)
 
-numbered-told : (r : Reply) → Numbered r → Told r
-numbered-told (path h) s =
+numbered_told : (r : Reply) → Numbered r → Told r
+numbered_told (path h) s =
     record {
       way = λ e. refl;
       none = λ e. absurd (omega arith);
       last = λ e. absurd (omega arith);
       refusal = λ a b. absurd (omega arith);
     }
-numbered-told no-path s =
+numbered_told no_path s =
     record {
       way = λ e. absurd (omega arith);
       none = λ e. refl;
       last = λ e. absurd (omega arith);
       refusal = λ a b. absurd (omega arith);
     }
-numbered-told last-path s =
+numbered_told last_path s =
     record {
       way = λ e. absurd (omega arith);
       none = λ e. absurd (omega arith);
       last = λ e. refl;
       refusal = λ a b. absurd (omega arith);
     }
-numbered-told (refused k) s =
+numbered_told (refused k) s =
     record {
       way = λ e. absurd (omega arith);
       none = λ e. absurd (omega arith);
@@ -75,45 +75,45 @@ numbered-told (refused k) s =
     }
 
 -- what holds of the refusal and of the work holds of what is done
-unless-either :
+unless_either :
     {A : Type 0} (P : A → Type 0) (k : ℕ) (refusal : ℕ → A) (work : A) → (0 < k → P (refusal k)) → P work →
     P (unless k refusal work)
 unfolding unless
-unless-either P zero refusal work a b = b
-unless-either P (suc k) refusal work a b = a (omega arith)
+unless_either P zero refusal work a b = b
+unless_either P (suc k) refusal work a b = a (omega arith)
 
 -- the cursor's moves
-first-numbered : (l : List (List ℕ)) (at : Option ℕ) (b : List ℕ) → Numbered (goFirst l at b).reply
-unfolding goFirst stay give
-first-numbered [] at b = tt
-first-numbered (w ∷ l) at b = tt
+first_numbered : (l : List (List ℕ)) (at : Option ℕ) (b : List ℕ) → Numbered (go_first l at b).reply
+unfolding go_first stay give
+first_numbered [] at b = tt
+first_numbered (w ∷ l) at b = tt
 
-next-numbered : (l : List (List ℕ)) (at : Option ℕ) (b : List ℕ) → Numbered (goNext l at b).reply
-unfolding goNext stay give
-next-numbered l none b = (omega arith, omega arith)
-next-numbered l (some i) b = either (ltb (i + 1) (length l))
+next_numbered : (l : List (List ℕ)) (at : Option ℕ) (b : List ℕ) → Numbered (go_next l at b).reply
+unfolding go_next stay give
+next_numbered l none b = (omega arith, omega arith)
+next_numbered l (some i) b = either (ltb (i + 1) (length l))
   where
-    either : (t : Bool) → Numbered (cond t (give l (i + 1) b) (stay last-path (some i) b)).reply
+    either : (t : Bool) → Numbered (cond t (give l (i + 1) b) (stay last_path (some i) b)).reply
     either true = tt
     either false = tt
 
-go-numbered : (o : Operation) (l : List (List ℕ)) (at : Option ℕ) (b : List ℕ) → Numbered (go o l at b).reply
+go_numbered : (o : Operation) (l : List (List ℕ)) (at : Option ℕ) (b : List ℕ) → Numbered (go o l at b).reply
 unfolding go
-go-numbered first_way l at b = first-numbered l at b
-go-numbered next_Way l at b = next-numbered l at b
+go_numbered first_way l at b = first_numbered l at b
+go_numbered next_Way l at b = next_numbered l at b
 
-move-numbered :
+move_numbered :
     (o : Operation) (k : ℕ) (l : List (List ℕ)) (at : Option ℕ) (b : List ℕ) → k ≤ 17 → Numbered (move o k l at b).reply
 unfolding move stay
-move-numbered o k l at b h =
-    unless-either (λ m. Numbered m.reply) k (λ j. stay (refused j) at b) (go o l at b) (λ some. (some, h))
-    (go-numbered o l at b)
+move_numbered o k l at b h =
+    unless_either (λ m. Numbered m.reply) k (λ j. stay (refused j) at b) (go o l at b) (λ some. (some, h))
+    (go_numbered o l at b)
 
 -- every answer of first way and next way is told
-pub told : (o : Operation) (q : Question) (way work : List ℕ) → Told (wayAnswer o q way work).reply
-unfolding wayAnswer wayWork
+pub told : (o : Operation) (q : Question) (way work : List ℕ) → Told (way_answer o q way work).reply
+unfolding way_answer way_work
 told o q way work =
-    numbered-told _
-    (unless-either (λ a. Numbered a.reply) (first (wayCauses q (length way) (length work))) _ (wayWork o q way work)
-    (λ some. (some, omega (arith, (way-other q (length way) (length work)).most)))
-    (move-numbered o (overflow q) (list_of q) (indexIn (list_of q) way) way (omega (arith, (overflow-other q).most))))
+    numbered_told _
+    (unless_either (λ a. Numbered a.reply) (first (way_causes q (length way) (length work))) _ (way_work o q way work)
+    (λ some. (some, omega (arith, (way_other q (length way) (length work)).most)))
+    (move_numbered o (overflow q) (list_of q) (index_in (list_of q) way) way (omega (arith, (overflow_other q).most))))

@@ -18,13 +18,13 @@ read_code foreign = 102
 read_code (station v load pairs) = 0
 
 -- the slots behind an answer: foreign writes nothing
-abbrev pub slotsAfter : ReadBack → ReadSlots → ReadSlots
-slotsAfter foreign old = old
-slotsAfter (station v load pairs) old = read_slots v load pairs
+abbrev pub slots_after : ReadBack → ReadSlots → ReadSlots
+slots_after foreign old = old
+slots_after (station v load pairs) old = read_slots v load pairs
 
 -- a number and the slots at exit are those of the answer that belongs to the bytes
 pub record ReadGiven (bytes : List ℕ) (r : ℕ) (old new : ReadSlots) : Type 0 where
   pub answer : ReadBack
   pub reads : Reads bytes answer
   pub code : r ≡ read_code answer
-  pub slots : new ≡ slotsAfter answer old
+  pub slots : new ≡ slots_after answer old

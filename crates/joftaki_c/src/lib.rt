@@ -1,41 +1,42 @@
 // The operations for C: numbers as themselves, a slice as pointer and length, the papers' number as the answer (0: accepted),
 // and the values beside it in lent slots, 0 on refusal. include/joftaki.h declares them.
+#![tactic(auto)]
 ghost use Rattle.std.specs.Prelude.{◌≡◌};
 ghost use Rattle.std.proofs.Math.Option.{some};
 ghost use Rattle.temporal.specs.Plan.{units, turning};
-ghost use Rattle.temporal.specs.Cause.{planFault};
-ghost use Rattle.temporal.specs.Outcome.{reach, rowNumber};
-ghost use Rattle.temporal.specs.OutcomePair.{pair, partialLoads, loads, busiest};
-ghost use Rattle.temporal.specs.OutcomeSet.{throughSet};
+ghost use Rattle.temporal.specs.Cause.{plan_fault};
+ghost use Rattle.temporal.specs.Outcome.{reach, row_number};
+ghost use Rattle.temporal.specs.OutcomePair.{pair, partial_loads, loads, busiest};
+ghost use Rattle.temporal.specs.OutcomeSet.{through_set};
 ghost use Rattle.temporal.specs.OutcomeForemost.{foremost};
-ghost use Rattle.temporal.specs.OutcomeDrawn.{drawnLoads};
+ghost use Rattle.temporal.specs.OutcomeDrawn.{drawn_loads};
 ghost use Rattle.temporal.specs.OutcomeStruck.{struck};
 ghost use Rattle.temporal.specs.OutcomeVerdict.{verdict};
-ghost use Rattle.temporal.specs.Band.{takeIn, takeOut};
+ghost use Rattle.temporal.specs.Band.{take_in, take_out};
 ghost use Rattle.temporal.specs.Cursor.{first_way, next_Way};
-ghost use Rattle.temporal.specs.FirstNext.{wayAnswer};
-ghost use Rattle.plan.specs.Fault.{faultNumber};
-ghost use Rattle.reach.specs.Answer.{lentTables};
-ghost use Rattle.pair.specs.Answer.{pairBuffers};
-ghost use Rattle.loads.specs.Answer.{loadsNumber, loadBuffers};
-ghost use Rattle.drawn.specs.Answer.{drawnBuffers};
-ghost use Rattle.struck.specs.Answer.{struckBuffers};
-ghost use Rattle.band.specs.Answer.{bandNumber};
-ghost use Rattle.judging.specs.Judge.{verdictOf};
-ghost use Rattle.listing.specs.Answer.{replyOf, question};
+ghost use Rattle.temporal.specs.FirstNext.{way_answer};
+ghost use Rattle.plan.specs.Fault.{fault_number};
+ghost use Rattle.reach.specs.Answer.{lent_tables};
+ghost use Rattle.pair.specs.Answer.{pair_buffers};
+ghost use Rattle.loads.specs.Answer.{loads_number, load_buffers};
+ghost use Rattle.drawn.specs.Answer.{drawn_buffers};
+ghost use Rattle.struck.specs.Answer.{struck_buffers};
+ghost use Rattle.band.specs.Answer.{band_number};
+ghost use Rattle.judging.specs.Judge.{verdict_of};
+ghost use Rattle.listing.specs.Answer.{reply_of, question};
 ghost use Rattle.joftaki_c.specs.Slots.{
   answered,
-  pairGiven,
+  pair_given,
   RowGiven,
-  busiestGiven,
-  setGiven,
-  struckGiven,
-  foremostGiven,
-  verdictCode,
-  verdictTold,
-  verdictCoded,
+  busiest_given,
+  set_given,
+  struck_given,
+  foremost_given,
+  verdict_code,
+  verdict_told,
+  verdict_coded,
 };
-ghost use Rattle.joftaki_c.specs.Code.{replyCode, replyHops, wayGiven, wayExit};
+ghost use Rattle.joftaki_c.specs.Code.{reply_code, reply_hops, way_given, way_exit};
 ghost use Rattle.joftaki_c.specs.Reading.{read_slots, ReadGiven};
 
 use band::BandAnswer;
@@ -53,7 +54,7 @@ use verdicts::VerdictAnswer;
 
 // The papers' number of a fault, in 32 bits.
 fn fault_code(fault: Fault) -> u32
-    ensures { result ≡ faultNumber fault }
+    ensures { result ≡ fault_number fault }
 {
     plan::fault_number(fault) as u32
 }
@@ -61,7 +62,7 @@ fn fault_code(fault: Fault) -> u32
 // Operation 1, check: document 01's number, 0 where the plan is accepted.
 #[unsafe(no_mangle)]
 pub extern "C" fn joftaki_check(plan: &[u8], n: usize, t: usize) -> u32
-    ensures { result ≡ planFault plan.now n t }
+    ensures { result ≡ plan_fault plan.now n t }
 {
     plan::check_number(plan::check(plan, n, t)) as u32
 }
@@ -80,10 +81,10 @@ pub extern "C" fn joftaki_reach(
     station_hops: &mut [u16],
     station_counts: &mut [u64],
 ) -> u32
-    ensures { answered result (lentTables hops.new counts.new station_hops.new
+    ensures { answered result (lent_tables hops.new counts.new station_hops.new
         station_counts.new) ≡
         reach plan.now n t (units g h) s
-        (lentTables hops.old counts.old station_hops.old station_counts.old) }
+        (lent_tables hops.old counts.old station_hops.old station_counts.old) }
 {
     match reach::reach(
         plan,
@@ -105,7 +106,7 @@ pub extern "C" fn joftaki_reach(
 // The sister of row: row's number of refusal, 0 where row is accepted.
 #[unsafe(no_mangle)]
 pub extern "C" fn joftaki_row_number(table: &[u64], n: usize, t: usize, v: usize) -> u32
-    ensures { result ≡ rowNumber n t v table.now }
+    ensures { result ≡ row_number n t v table.now }
 {
     rows::row_number(table, n, t, v) as u32
 }
@@ -148,8 +149,8 @@ pub extern "C" fn joftaki_pair(
     through: &mut [u64],
     work: &mut [u64],
 ) -> u32
-    ensures { pairGiven result hops.new count.new (pairBuffers through.new work.new) ≡
-        pair plan.now n t (units g h) s z (pairBuffers through.old work.old) }
+    ensures { pair_given result hops.new count.new (pair_buffers through.new work.new) ≡
+        pair plan.now n t (units g h) s z (pair_buffers through.old work.old) }
 {
     match pair::pair(plan, n, t, g, h, s, z, through, work) {
         PairAnswer::Counted(l, c) => {
@@ -167,7 +168,7 @@ pub extern "C" fn joftaki_pair(
 
 // The number of what loads and partial loads answer.
 fn loads_code(answer: LoadsAnswer) -> u32
-    ensures { result ≡ loadsNumber answer }
+    ensures { result ≡ loads_number answer }
 {
     match answer {
         LoadsAnswer::Loaded => 0,
@@ -188,8 +189,8 @@ pub extern "C" fn joftaki_partial_loads(
     sums: &mut [u64],
     work: &mut [u64],
 ) -> u32
-    ensures { answered result (loadBuffers pairs.new sums.new work.new) ≡
-        partialLoads plan.now n t (units g h) k (loadBuffers pairs.old sums.old work.old) }
+    ensures { answered result (load_buffers pairs.new sums.new work.new) ≡
+        partial_loads plan.now n t (units g h) k (load_buffers pairs.old sums.old work.old) }
 {
     loads_code(loads::partial_loads(plan, n, t, g, h, k, pairs, sums, work))
 }
@@ -206,8 +207,8 @@ pub extern "C" fn joftaki_loads(
     sums: &mut [u64],
     work: &mut [u64],
 ) -> u32
-    ensures { answered result (loadBuffers pairs.new sums.new work.new) ≡
-        loads plan.now n t (units g h) (loadBuffers pairs.old sums.old work.old) }
+    ensures { answered result (load_buffers pairs.new sums.new work.new) ≡
+        loads plan.now n t (units g h) (load_buffers pairs.old sums.old work.old) }
 {
     loads_code(loads::loads(plan, n, t, g, h, pairs, sums, work))
 }
@@ -225,9 +226,9 @@ pub extern "C" fn joftaki_drawn_loads(
     records: &mut [u8],
     work: &mut [u64],
 ) -> u32
-    ensures { answered result (drawnBuffers pairs.new sums.new records.new work.new) ≡
-        drawnLoads plan.now n t (units g h)
-        (drawnBuffers pairs.old sums.old records.old work.old) }
+    ensures { answered result (drawn_buffers pairs.new sums.new records.new work.new) ≡
+        drawn_loads plan.now n t (units g h)
+        (drawn_buffers pairs.old sums.old records.old work.old) }
 {
     loads_code(drawn::drawn_loads(plan, n, t, g, h, pairs, sums, records, work))
 }
@@ -266,7 +267,7 @@ pub extern "C" fn joftaki_busiest(
     station: &mut usize,
     work: &mut [u64],
 ) -> u32
-    ensures { busiestGiven result station.new work.new ≡
+    ensures { busiest_given result station.new work.new ≡
         busiest plan.now n t (units g h) work.old }
 {
     match loads::busiest(plan, n, t, g, h, work) {
@@ -295,8 +296,8 @@ pub extern "C" fn joftaki_struck_out(
     changes: &mut [i64],
     work: &mut [u64],
 ) -> u32
-    ensures { struckGiven result pairs.new (struckBuffers changes.new work.new) ≡
-        struck plan.now n t (units g h) position (struckBuffers changes.old work.old) }
+    ensures { struck_given result pairs.new (struck_buffers changes.new work.new) ≡
+        struck plan.now n t (units g h) position (struck_buffers changes.old work.old) }
 {
     match struck::struck_out(plan, n, t, g, h, position, changes, work) {
         StruckAnswer::Pairs(k) => {
@@ -324,8 +325,8 @@ pub extern "C" fn joftaki_through_set(
     set: &[u8],
     work: &mut [u64],
 ) -> u32
-    ensures { setGiven result count.new work.new ≡
-        throughSet plan.now n t (units g h) s z set.now work.old }
+    ensures { set_given result count.new work.new ≡
+        through_set plan.now n t (units g h) s z set.now work.old }
 {
     match sets::through_set(plan, n, t, g, h, s, z, set, work) {
         SetAnswer::Counted(c) => {
@@ -341,7 +342,7 @@ pub extern "C" fn joftaki_through_set(
 
 // The number behind the name of a verdict.
 fn verdict_code(judgement: Judgement) -> u32
-    ensures { result ≡ verdictCode (some (verdictOf judgement)) }
+    ensures { result ≡ verdict_code (some (verdict_of judgement)) }
 {
     match judgement {
         Judgement::Complete => 1,
@@ -364,8 +365,8 @@ pub extern "C" fn joftaki_verdict(
     list: &[u16],
     work: &mut [u64],
 ) -> u32
-    ensures { verdictTold result told.new work.new ≡
-        verdictCoded (verdict plan.now n t (units g h) s z list.now work.old) }
+    ensures { verdict_told result told.new work.new ≡
+        verdict_coded (verdict plan.now n t (units g h) s z list.now work.old) }
 {
     match verdicts::verdict(plan, n, t, g, h, s, z, list, work) {
         VerdictAnswer::Judged(judgement) => {
@@ -395,9 +396,9 @@ pub extern "C" fn joftaki_foremost(
     through: &mut [u64],
     work: &mut [u64],
 ) -> u32
-    ensures { foremostGiven result arrival.new hops.new count.new
-        (pairBuffers through.new work.new) ≡
-        foremost plan.now n t (turning g) s z (pairBuffers through.old work.old) }
+    ensures { foremost_given result arrival.new hops.new count.new
+        (pair_buffers through.new work.new) ≡
+        foremost plan.now n t (turning g) s z (pair_buffers through.old work.old) }
 {
     match foremost::foremost(plan, n, t, g, s, z, through, work) {
         ForemostAnswer::Counted(u, h, c) => {
@@ -417,7 +418,7 @@ pub extern "C" fn joftaki_foremost(
 
 // The hops of a way, 0 beside every other answer.
 fn way_hops(answer: WayAnswer) -> usize
-    ensures { result ≡ replyHops (replyOf answer) }
+    ensures { result ≡ reply_hops (reply_of answer) }
 {
     match answer {
         WayAnswer::Path(h) => h,
@@ -429,7 +430,7 @@ fn way_hops(answer: WayAnswer) -> usize
 
 // The number of an answer: 0 for a way, 100 for none, 101 for last, a fault's number.
 fn way_code(answer: WayAnswer) -> u32
-    ensures { result ≡ replyCode (replyOf answer) }
+    ensures { result ≡ reply_code (reply_of answer) }
 {
     match answer {
         WayAnswer::Path(_) => 0,
@@ -453,8 +454,8 @@ pub extern "C" fn joftaki_first_way(
     way: &mut [u16],
     work: &mut [u64],
 ) -> u32
-    ensures { wayGiven result hops.new way.new work.new ≡
-        wayExit (wayAnswer first_way (question plan.now n t g h s z) way.old work.old) }
+    ensures { way_given result hops.new way.new work.new ≡
+        way_exit (way_answer first_way (question plan.now n t g h s z) way.old work.old) }
 {
     let answer = listing::first_way(plan, n, t, g, h, s, z, way, work);
     *hops = way_hops(answer);
@@ -475,8 +476,8 @@ pub extern "C" fn joftaki_next_way(
     way: &mut [u16],
     work: &mut [u64],
 ) -> u32
-    ensures { wayGiven result hops.new way.new work.new ≡
-        wayExit (wayAnswer next_Way (question plan.now n t g h s z) way.old work.old) }
+    ensures { way_given result hops.new way.new work.new ≡
+        way_exit (way_answer next_Way (question plan.now n t g h s z) way.old work.old) }
 {
     let answer = listing::next_way(plan, n, t, g, h, s, z, way, work);
     *hops = way_hops(answer);
@@ -485,7 +486,7 @@ pub extern "C" fn joftaki_next_way(
 
 // The number of what taking in and taking out answer.
 fn band_code(answer: BandAnswer) -> u32
-    ensures { result ≡ bandNumber answer }
+    ensures { result ≡ band_number answer }
 {
     match answer {
         BandAnswer::Taken => 0,
@@ -496,7 +497,7 @@ fn band_code(answer: BandAnswer) -> u32
 // Taking a plan into a band (document 02, C-22): the number, and the table as taking in leaves it.
 #[unsafe(no_mangle)]
 pub extern "C" fn joftaki_take_in(plan: &[u8], n: usize, t: usize, c: u16, table: &mut [u16]) -> u32
-    ensures { answered result table.new ≡ takeIn plan.now n t c table.old }
+    ensures { answered result table.new ≡ take_in plan.now n t c table.old }
 {
     band_code(band::take_in(plan, n, t, c, table))
 }
@@ -504,7 +505,7 @@ pub extern "C" fn joftaki_take_in(plan: &[u8], n: usize, t: usize, c: u16, table
 // Taking a plan out (document 02, C-22): the number, and the table as taking out leaves it.
 #[unsafe(no_mangle)]
 pub extern "C" fn joftaki_take_out(plan: &[u8], n: usize, t: usize, table: &mut [u16]) -> u32
-    ensures { answered result table.new ≡ takeOut plan.now n t table.old }
+    ensures { answered result table.new ≡ take_out plan.now n t table.old }
 {
     band_code(band::take_out(plan, n, t, table))
 }

@@ -9,14 +9,14 @@ use native.Mathlib.Decide.{ℕ_discrete, dec_lt}
 use native.Mathlib.Numerals.{add-one}
 use lib.ListN.{length, get_or, take}
 use lib.Seq.{take-suc, get_or-take}
-use Rattle.lists.proofs.ListLaws.{not-both}
+use Rattle.lists.proofs.ListLaws.{not_both}
 use Rattle.judging.specs.Legs.{FirstLegs, LastLegs, Follows}
 use Rattle.judging.specs.Judge.{Tells, FirstBehind, Alike}
 
 module _ (t : List ℕ → Bool) (h : ℕ) (a b : List ℕ) where
   -- the leg at which b follows a is the first where they differ
-  the-leg : (j : ℕ) → Alike h a b j → (f : Follows t h a b) → f.leg ≡ j
-  the-leg j same f =
+  the_leg : (j : ℕ) → Alike h a b j → (f : Follows t h a b) → f.leg ≡ j
+  the_leg j same f =
       by_cases (dec_lt f.leg j)
       (λ less.
       let here : get_or a f.leg 0 ≡ get_or b f.leg 0 =
@@ -32,11 +32,11 @@ module _ (t : List ℕ → Bool) (h : ℕ) (a b : List ℕ) where
       absurd (same.differ (omega arith) here)))
 
   -- they do not differ
-  pub no-leg : (j : ℕ) → Alike h a b j → h ≤ j → Tells false (Follows t h a b)
-  no-leg j same past =
+  pub no_leg : (j : ℕ) → Alike h a b j → h ≤ j → Tells false (Follows t h a b)
+  no_leg j same past =
       record {
-        yes = λ e. absurd (not-both e refl);
-        no = λ e f. let inside = f.inside in omega (arith, the-leg j same f);
+        yes = λ e. absurd (not_both e refl);
+        no = λ e f. let inside = f.inside in omega (arith, the_leg j same f);
       }
 
   module _ (j : ℕ) where
@@ -44,20 +44,20 @@ module _ (t : List ℕ → Bool) (h : ℕ) (a b : List ℕ) where
     pub not_last : Alike h a b j → j < h → (LastLegs t h (j + 1) a → ⊥) → Tells false (Follows t h a b)
     not_last same inside some-later =
         record {
-          yes = λ e. absurd (not-both e refl);
+          yes = λ e. absurd (not_both e refl);
           no = λ e f.
               some-later
-              (subst (λ k. LastLegs t h k a) (ap suc (the-leg j same f) ∙ sym (add-one j)) f.lasts);
+              (subst (λ k. LastLegs t h k a) (ap suc (the_leg j same f) ∙ sym (add-one j)) f.lasts);
         }
 
     module _ (room-a : h ≤ length a) (room-b : h ≤ length b) (same : Alike h a b j) (inside : j < h) where
       -- the leg of b is not the next
-      pub not-next : (FirstBehind t (take j a) (get_or a j 0 + 1) (get_or b j 0) → ⊥) → Tells false (Follows t h a b)
-      not-next other =
+      pub not_next : (FirstBehind t (take j a) (get_or a j 0 + 1) (get_or b j 0) → ⊥) → Tells false (Follows t h a b)
+      not_next other =
           record {
-            yes = λ e. absurd (not-both e refl);
+            yes = λ e. absurd (not_both e refl);
             no = λ e f.
-                let leg = the-leg j same f in
+                let leg = the_leg j same f in
                 let up : get_or a j 0 < get_or b j 0 = subst (λ k. get_or a k 0 < get_or b k 0) leg f.later in
                 let there : t (take (suc j) b) ≡ true = subst (λ k. t (take (suc k) b) ≡ true) leg f.serves in
                 let split : take (suc j) b ≡ take j a ++ get_or b j 0 ∷ [] =
@@ -73,10 +73,10 @@ module _ (t : List ℕ → Bool) (h : ℕ) (a b : List ℕ) where
           }
 
       -- it is, and what is left is whether the legs of b behind it are the first ones
-      pub follows-there :
+      pub follows_there :
           FirstBehind t (take j a) (get_or a j 0 + 1) (get_or b j 0) → LastLegs t h (j + 1) a → (r : Bool) →
           Tells r (FirstLegs t h (j + 1) b) → Tells r (Follows t h a b)
-      follows-there next lasts r firsts =
+      follows_there next lasts r firsts =
           record {
             yes = λ e.
                 record {
@@ -92,5 +92,5 @@ module _ (t : List ℕ → Bool) (h : ℕ) (a b : List ℕ) where
                 };
             no = λ e f.
                 firsts.no e
-                (subst (λ k. FirstLegs t h k b) (ap suc (the-leg j same f) ∙ sym (add-one j)) f.firsts);
+                (subst (λ k. FirstLegs t h k b) (ap suc (the_leg j same f) ∙ sym (add-one j)) f.firsts);
           }

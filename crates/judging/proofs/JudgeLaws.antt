@@ -9,14 +9,14 @@ use native.Mathlib.Decide.{dec_le}
 use native.Mathlib.Nat.{suc-mul, mul-mod_left, div-add-mod', lt_of_mul-lt-mul_right, mul-le-mul_right}
 use lib.ListN.{length, get_or, take, drop, length-take, length-drop}
 use lib.Seq.{take_all, take-length, take-take, take-add, drop_at, get_or-take, length-take-le}
-use Rattle.temporal.specs.Verdict.{Verdict, complete, beginning, wrong, joined, verdictOn}
-use Rattle.walks.proofs.VerdictLaws.{joined-suc, taken-length, way-there, verdict-complete, verdict-beginning, verdict-wrong}
-use Rattle.lists.proofs.ListLaws.{length-zero}
+use Rattle.temporal.specs.Verdict.{Verdict, complete, beginning, wrong, joined, verdict_on}
+use Rattle.walks.proofs.VerdictLaws.{joined_suc, taken_length, way_there, verdict_complete, verdict_beginning, verdict_wrong}
+use Rattle.lists.proofs.ListLaws.{length_zero}
 use Rattle.ways.specs.declared.Pair.{Pair}
-use Rattle.ways.specs.Found.{listIn, begins}
+use Rattle.ways.specs.Found.{list_in, begins}
 use Rattle.judging.specs.Legs.{FirstLegs, LastLegs, Follows}
 use Rattle.judging.specs.Judge.{Tells, Judgeable, WayJudgeable, WaysJudgeable, FirstWays, NoFirstWays, Continued}
-use Rattle.judging.proofs.WayLaws.{sized, some-way, first-is, first-legs-there, next-is, next-follows, last-is, last-legs-there}
+use Rattle.judging.proofs.WayLaws.{sized, some_way, first_is, first_legs_there, next_is, next_follows, last_is, last_legs_there}
 
 -- ---- parts of a list
 
@@ -29,29 +29,29 @@ parts t h at e r low a =
     let second : at + h - at ≡ h = omega arith in
     rw (first, second) at a
 
-pub part-long : (h k at : ℕ) (e : List ℕ) → h ≤ k → at + h ≤ length e → h ≤ length (take k (drop at e))
-part-long h k at e most fits = simp (length-take, length-drop) (omega arith)
+pub part_long : (h k at : ℕ) (e : List ℕ) → h ≤ k → at + h ≤ length e → h ≤ length (take k (drop at e))
+part_long h k at e most fits = simp (length-take, length-drop) (omega arith)
 
 -- the last way
-pub last-part : (t : List ℕ → Bool) (h : ℕ) (e : List ℕ) (r : Bool)
+pub last_part : (t : List ℕ → Bool) (h : ℕ) (e : List ℕ) (r : Bool)
     → Tells r (LastLegs t h 0 (take (length e - (length e - h)) (drop (length e - h) e)))
     → Tells r (LastLegs t h 0 (drop (length e - h) e))
-last-part t h e r a =
+last_part t h e r a =
     let whole = take_all (length e - (length e - h)) (drop (length e - h) e) (simp length-drop (omega arith)) in
     rw whole at a
 
 -- a way's legs are those of its first h entries
 module _ (t : List ℕ → Bool) (h : ℕ) (e : List ℕ) where
-  pub firsts-taken : FirstLegs t h 0 e → FirstLegs t h 0 (take h e)
-  firsts-taken f =
+  pub firsts_taken : FirstLegs t h 0 e → FirstLegs t h 0 (take h e)
+  firsts_taken f =
       record {
         serves = λ k low less. rw (take-take (suc k) h e less) (f.serves k low less);
         first = λ k low less m serves.
             rw (get_or-take h e k 0 less) (f.first k low less m (rw (take-take k h e (omega arith)) at serves));
       }
 
-  pub firsts-whole : FirstLegs t h 0 (take h e) → FirstLegs t h 0 e
-  firsts-whole f =
+  pub firsts_whole : FirstLegs t h 0 (take h e) → FirstLegs t h 0 e
+  firsts_whole f =
       record {
         serves = λ k low less. rw (take-take (suc k) h e less) at (f.serves k low less);
         first = λ k low less m serves.
@@ -81,12 +81,12 @@ module _ (bs : List ℕ) (q : Pair) (l e : List ℕ) (g : WaysJudgeable bs q l e
   one_way = let whole = g.whole in omega (arith, suc-mul g.ways q.hops)
 
   -- a way begins where a way ends, unless it is the last
-  module _ (at : ℕ) (d : Through (listIn bs q) q.hops e at) where
-    pub way-before : q.hops ≤ at
-    way-before = let place = d.place in omega (arith, suc-mul d.last q.hops)
+  module _ (at : ℕ) (d : Through (list_in bs q) q.hops e at) where
+    pub way_before : q.hops ≤ at
+    way_before = let place = d.place in omega (arith, suc-mul d.last q.hops)
 
-    pub way-behind : at < length e → at + q.hops ≤ length e
-    way-behind less =
+    pub way_behind : at < length e → at + q.hops ≤ length e
+    way_behind less =
         let place = d.place in
         let whole = g.whole in
         let fewer : suc d.last < suc g.ways = lt_of_mul-lt-mul_right q.hops (omega arith) in
@@ -95,68 +95,68 @@ module _ (bs : List ℕ) (q : Pair) (l e : List ℕ) (g : WaysJudgeable bs q l e
 
 module _ (bs : List ℕ) (q : Pair) (l : List ℕ) (g : Judgeable bs q l) (e : List ℕ) where
   -- entries that are first ways have them at their places
-  there : (m i : ℕ) → i < m → m ≤ length (listIn bs q) → e ≡ joined (take m (listIn bs q))
-      → take q.hops (drop (i * q.hops) e) ≡ get_or (listIn bs q) i []
+  there : (m i : ℕ) → i < m → m ≤ length (list_in bs q) → e ≡ joined (take m (list_in bs q))
+      → take q.hops (drop (i * q.hops) e) ≡ get_or (list_in bs q) i []
   there m i less most is =
-      ap (λ x. take q.hops (drop (i * q.hops) x)) is ∙ way-there q.hops (listIn bs q) (sized bs q l g) m i less most
+      ap (λ x. take q.hops (drop (i * q.hops) x)) is ∙ way_there q.hops (list_in bs q) (sized bs q l g) m i less most
 
-  long : (m : ℕ) → m ≤ length (listIn bs q) → e ≡ joined (take m (listIn bs q)) → length e ≡ m * q.hops
-  long m most is = ap length is ∙ taken-length q.hops (listIn bs q) (sized bs q l g) m most
+  long : (m : ℕ) → m ≤ length (list_in bs q) → e ≡ joined (take m (list_in bs q)) → length e ≡ m * q.hops
+  long m most is = ap length is ∙ taken_length q.hops (list_in bs q) (sized bs q l g) m most
 
   -- the first way
-  pub through-first : q.hops ≤ length e → FirstLegs (begins bs q) q.hops 0 e → Through (listIn bs q) q.hops e q.hops
+  pub through_first : q.hops ≤ length e → FirstLegs (begins bs q) q.hops 0 e → Through (list_in bs q) q.hops e q.hops
   unfolding joined flat_map
-  through-first fits f =
-      let first : get_or (listIn bs q) 0 [] ≡ take q.hops e =
-      first-is bs q l g (take q.hops e) (length-take-le q.hops e fits) (firsts-taken (begins bs q) q.hops e f) in
+  through_first fits f =
+      let first : get_or (list_in bs q) 0 [] ≡ take q.hops e =
+      first_is bs q l g (take q.hops e) (length-take-le q.hops e fits) (firsts_taken (begins bs q) q.hops e f) in
       record {
         last = 0;
-        inside = some-way bs q l g;
+        inside = some_way bs q l g;
         place = omega (arith, suc-mul 0 q.hops);
         within = fits;
-        begun = sym first ∙ sym (joined-suc (listIn bs q) 0 (some-way bs q l g) ∙ refl-nil);
+        begun = sym first ∙ sym (joined_suc (list_in bs q) 0 (some_way bs q l g) ∙ refl_nil);
       }
     where
-      refl-nil : joined (take 0 (listIn bs q)) ++ get_or (listIn bs q) 0 [] ≡ get_or (listIn bs q) 0 []
-      refl-nil = refl
+      refl_nil : joined (take 0 (list_in bs q)) ++ get_or (list_in bs q) 0 [] ≡ get_or (list_in bs q) 0 []
+      refl_nil = refl
 
-  pub no-first : q.hops ≤ length e → (FirstLegs (begins bs q) q.hops 0 e → ⊥) → NoFirstWays (listIn bs q) e
-  no-first fits other m most is =
-      let some = g.some-hops in
+  pub no_first : q.hops ≤ length e → (FirstLegs (begins bs q) q.hops 0 e → ⊥) → NoFirstWays (list_in bs q) e
+  no_first fits other m most is =
+      let some = g.some_hops in
       let size = long m most is in
       let none : 0 * q.hops ≡ 0 = omega arith in
-      let first : take q.hops e ≡ get_or (listIn bs q) 0 [] =
+      let first : take q.hops e ≡ get_or (list_in bs q) 0 [] =
       ap (λ k. take q.hops (drop k e)) (sym none) ∙ there m 0 (positive m size) most is in
-      other (firsts-whole (begins bs q) q.hops e
-      (subst (FirstLegs (begins bs q) q.hops 0) (sym first) (first-legs-there bs q l g)))
+      other (firsts_whole (begins bs q) q.hops e
+      (subst (FirstLegs (begins bs q) q.hops 0) (sym first) (first_legs_there bs q l g)))
     where
       positive : (m : ℕ) → length e ≡ m * q.hops → 0 < m
-      positive zero size = let some = g.some-hops in omega arith
+      positive zero size = let some = g.some_hops in omega arith
       positive (suc m) size = omega arith
 
   -- the next way
-  module _ (at : ℕ) (d : Through (listIn bs q) q.hops e at) (more : at + q.hops ≤ length e) where
-    before-place : at - q.hops ≡ d.last * q.hops
-    before-place = let place = d.place in omega (arith, suc-mul d.last q.hops)
+  module _ (at : ℕ) (d : Through (list_in bs q) q.hops e at) (more : at + q.hops ≤ length e) where
+    before_place : at - q.hops ≡ d.last * q.hops
+    before_place = let place = d.place in omega (arith, suc-mul d.last q.hops)
 
     -- the way before the place
-    here : take q.hops (drop (at - q.hops) e) ≡ get_or (listIn bs q) d.last []
+    here : take q.hops (drop (at - q.hops) e) ≡ get_or (list_in bs q) d.last []
     here =
         let place = d.place in
         let start : at - q.hops + q.hops ≡ at = omega (arith, suc-mul d.last q.hops) in
         sym (cut (at - q.hops) q.hops e (let most = d.within in omega arith))
         ∙ ap (λ k. take q.hops (drop (at - q.hops) (take k e))) start
         ∙ ap (λ x. take q.hops (drop (at - q.hops) x)) d.begun
-        ∙ ap (λ k. take q.hops (drop k (joined (take (suc d.last) (listIn bs q))))) before-place
-        ∙ way-there q.hops (listIn bs q) (sized bs q l g) (suc d.last) d.last (omega arith) d.inside
+        ∙ ap (λ k. take q.hops (drop k (joined (take (suc d.last) (list_in bs q))))) before_place
+        ∙ way_there q.hops (list_in bs q) (sized bs q l g) (suc d.last) d.last (omega arith) d.inside
 
-    behind-long : length (take q.hops (drop at e)) ≡ q.hops
-    behind-long = simp (length-take, length-drop) (omega arith)
+    behind_long : length (take q.hops (drop at e)) ≡ q.hops
+    behind_long = simp (length-take, length-drop) (omega arith)
 
-    pub through-next : Follows (begins bs q) q.hops (take q.hops (drop (at - q.hops) e)) (take q.hops (drop at e))
-        → Through (listIn bs q) q.hops e (at + q.hops)
-    through-next f =
-        let (inside, is) = next-is bs q l g d.last d.inside (take q.hops (drop at e)) behind-long
+    pub through_next : Follows (begins bs q) q.hops (take q.hops (drop (at - q.hops) e)) (take q.hops (drop at e))
+        → Through (list_in bs q) q.hops e (at + q.hops)
+    through_next f =
+        let (inside, is) = next_is bs q l g d.last d.inside (take q.hops (drop at e)) behind_long
         (subst (λ w. Follows (begins bs q) q.hops w (take q.hops (drop at e))) here f) in
         let place = d.place in
         let next : suc d.last ≡ d.last + 1 = omega arith in
@@ -167,82 +167,82 @@ module _ (bs : List ℕ) (q : Pair) (l : List ℕ) (g : Judgeable bs q l) (e : L
           within = more;
           begun =
               take-add at q.hops e ∙
-              ap₂ ◌++◌ d.begun (sym is ∙ ap (λ k. get_or (listIn bs q) k []) (sym next)) ∙
-              sym (joined-suc (listIn bs q) (suc d.last) (omega arith));
+              ap₂ ◌++◌ d.begun (sym is ∙ ap (λ k. get_or (list_in bs q) k []) (sym next)) ∙
+              sym (joined_suc (list_in bs q) (suc d.last) (omega arith));
         }
 
-    pub no-next :
+    pub no_next :
         (Follows (begins bs q) q.hops (take q.hops (drop (at - q.hops) e)) (take q.hops (drop at e)) → ⊥) →
-        NoFirstWays (listIn bs q) e
-    no-next other m most is =
-        let some-hops = g.some-hops in
+        NoFirstWays (list_in bs q) e
+    no_next other m most is =
+        let some_hops = g.some_hops in
         let place = d.place in
         let size = long m most is in
         let fewer : suc d.last * q.hops < m * q.hops = omega arith in
         let further : suc d.last < m = lt_of_mul-lt-mul_right q.hops fewer in
         let next : suc d.last ≡ d.last + 1 = omega arith in
-        let behind : take q.hops (drop at e) ≡ get_or (listIn bs q) (d.last + 1) [] =
+        let behind : take q.hops (drop at e) ≡ get_or (list_in bs q) (d.last + 1) [] =
         ap (λ k. take q.hops (drop k e)) place ∙ there m (suc d.last) further most is ∙
-        ap (λ k. get_or (listIn bs q) k []) next in
+        ap (λ k. get_or (list_in bs q) k []) next in
         other
-        (rw (here, behind) (next-follows bs q l g d.last d.inside (omega arith)))
+        (rw (here, behind) (next_follows bs q l g d.last d.inside (omega arith)))
 
   -- at the end
-  pub through-all : (at : ℕ) → Through (listIn bs q) q.hops e at → length e ≤ at → FirstWays (listIn bs q) e
-  through-all at d past =
+  pub through_all : (at : ℕ) → Through (list_in bs q) q.hops e at → length e ≤ at → FirstWays (list_in bs q) e
+  through_all at d past =
       record { last = d.last; inside = d.inside; ways = sym (take_all at e past) ∙ d.begun }
 
   -- ---- the verdict
 
-  module _ (f : FirstWays (listIn bs q) e) where
+  module _ (f : FirstWays (list_in bs q) e) where
     entries : length e ≡ suc f.last * q.hops
     entries = long (suc f.last) f.inside f.ways
 
     -- the last way
-    last-there : drop (length e - q.hops) e ≡ get_or (listIn bs q) f.last []
-    last-there =
+    last_there : drop (length e - q.hops) e ≡ get_or (list_in bs q) f.last []
+    last_there =
         let start : length e - q.hops ≡ f.last * q.hops = omega (arith, entries, suc-mul f.last q.hops) in
         sym (take_all q.hops (drop (length e - q.hops) e) (simp length-drop (omega arith)))
         ∙ ap (λ k. take q.hops (drop k e)) start
         ∙ there (suc f.last) f.last (omega arith) f.inside f.ways
 
-    pub all-out : LastLegs (begins bs q) q.hops 0 (drop (length e - q.hops) e) → complete ≡ verdictOn (listIn bs q) e
-    all-out legs =
-        let end = last-is bs q l g f.last f.inside (subst (LastLegs (begins bs q) q.hops 0) last-there legs) in
+    pub all_out : LastLegs (begins bs q) q.hops 0 (drop (length e - q.hops) e) → complete ≡ verdict_on (list_in bs q) e
+    all_out legs =
+        let end = last_is bs q l g f.last f.inside (subst (LastLegs (begins bs q) q.hops 0) last_there legs) in
         let inside = f.inside in
-        let all : suc f.last ≡ length (listIn bs q) = omega arith in
-        sym (verdict-complete (listIn bs q) e
-        (f.ways ∙ ap (λ k. joined (take k (listIn bs q))) all ∙ ap joined (take-length (listIn bs q))))
+        let all : suc f.last ≡ length (list_in bs q) = omega arith in
+        sym (verdict_complete (list_in bs q) e
+        (f.ways ∙ ap (λ k. joined (take k (list_in bs q))) all ∙ ap joined (take-length (list_in bs q))))
 
-    pub some_left : (LastLegs (begins bs q) q.hops 0 (drop (length e - q.hops) e) → ⊥) → beginning ≡ verdictOn (listIn bs q) e
+    pub some_left : (LastLegs (begins bs q) q.hops 0 (drop (length e - q.hops) e) → ⊥) → beginning ≡ verdict_on (list_in bs q) e
     some_left other =
         let inside = f.inside in
-        let fewer : suc f.last < length (listIn bs q) =
-        by_cases (dec_le (length (listIn bs q)) (suc f.last))
-        (λ h. absurd (other (subst (LastLegs (begins bs q) q.hops 0) (sym last-there)
-        (last-legs-there bs q l g f.last f.inside (omega arith)))))
+        let fewer : suc f.last < length (list_in bs q) =
+        by_cases (dec_le (length (list_in bs q)) (suc f.last))
+        (λ h. absurd (other (subst (LastLegs (begins bs q) q.hops 0) (sym last_there)
+        (last_legs_there bs q l g f.last f.inside (omega arith)))))
         (λ h. omega arith) in
-        sym (verdict-beginning (listIn bs q) e q.hops g.some-hops (sized bs q l g) (suc f.last, fewer, f.ways))
+        sym (verdict_beginning (list_in bs q) e q.hops g.some_hops (sized bs q l g) (suc f.last, fewer, f.ways))
 
-  pub is-wrong : NoFirstWays (listIn bs q) e → wrong ≡ verdictOn (listIn bs q) e
-  is-wrong other = sym (verdict-wrong (listIn bs q) e other)
+  pub is_wrong : NoFirstWays (list_in bs q) e → wrong ≡ verdict_on (list_in bs q) e
+  is_wrong other = sym (verdict_wrong (list_in bs q) e other)
 
   -- no entry at all, and entries that are no whole ways
-  pub is-empty : length e ≡ 0 → beginning ≡ verdictOn (listIn bs q) e
-  is-empty none =
-      sym (verdict-beginning (listIn bs q) e q.hops g.some-hops (sized bs q l g)
-      (0, some-way bs q l g, (length-zero e).0 none ∙ sym joined-none))
+  pub is_empty : length e ≡ 0 → beginning ≡ verdict_on (list_in bs q) e
+  is_empty none =
+      sym (verdict_beginning (list_in bs q) e q.hops g.some_hops (sized bs q l g)
+      (0, some_way bs q l g, (length_zero e).0 none ∙ sym joined_none))
     where
-      joined-none : joined (take 0 (listIn bs q)) ≡ []
-      joined-none = (length-zero (joined (take 0 (listIn bs q)))).0
-          (taken-length q.hops (listIn bs q) (sized bs q l g) 0 (omega arith) ∙ omega arith)
+      joined_none : joined (take 0 (list_in bs q)) ≡ []
+      joined_none = (length_zero (joined (take 0 (list_in bs q)))).0
+          (taken_length q.hops (list_in bs q) (sized bs q l g) 0 (omega arith) ∙ omega arith)
 
-  pub not-whole : length e % q.hops ≢ 0 → NoFirstWays (listIn bs q) e
-  not-whole other m most is = other (ap (λ k. k % q.hops) (long m most is) ∙ mul-mod_left m q.hops)
+  pub not_whole : length e % q.hops ≢ 0 → NoFirstWays (list_in bs q) e
+  not_whole other m most is = other (ap (λ k. k % q.hops) (long m most is) ∙ mul-mod_left m q.hops)
 
   -- entries that are whole ways, at least one
-  pub whole-ways : 0 < length e → length e % q.hops ≡ 0 → WaysJudgeable bs q l e
-  whole-ways some-entry even =
+  pub whole_ways : 0 < length e → length e % q.hops ≡ 0 → WaysJudgeable bs q l e
+  whole_ways some-entry even =
       let split = div-add-mod' (length e) q.hops in
       record { pair = g; ways = length e / q.hops - 1; whole = go (length e / q.hops) refl }
     where
@@ -255,14 +255,14 @@ module _ (bs : List ℕ) (q : Pair) (l : List ℕ) (g : Judgeable bs q l) (e : L
 
 -- ---- where there is no walk
 
-pub none-complete : (e : List ℕ) → length e ≡ 0 → complete ≡ verdictOn [] e
+pub none_complete : (e : List ℕ) → length e ≡ 0 → complete ≡ verdict_on [] e
 unfolding joined flat_map
-none-complete e none = sym (verdict-complete [] e ((length-zero e).0 none))
+none_complete e none = sym (verdict_complete [] e ((length_zero e).0 none))
 
-pub none-wrong : (e : List ℕ) → length e ≢ 0 → wrong ≡ verdictOn [] e
+pub none_wrong : (e : List ℕ) → length e ≢ 0 → wrong ≡ verdict_on [] e
 unfolding joined flat_map
-none-wrong e some-entry =
-    sym (verdict-wrong [] e (λ i most is. some-entry (ap length is ∙ ap (λ k. length (joined (take k []))) (zero_of i most))))
+none_wrong e some-entry =
+    sym (verdict_wrong [] e (λ i most is. some-entry (ap length is ∙ ap (λ k. length (joined (take k []))) (zero_of i most))))
   where
     zero_of : (i : ℕ) → i ≤ 0 → i ≡ 0
     zero_of i h = omega arith

@@ -12,14 +12,14 @@ use borrow.Author.Tests.{eqb-true, eqb-false, eq-eqb}
 use lib.Dec.{eqb}
 use lib.ListN.{length, get_or, take, replicate, length-replicate}
 use lib.Seq.{take-suc}
-use Rattle.lists.proofs.ListLaws.{not-both}
+use Rattle.lists.proofs.ListLaws.{not_both}
 use Rattle.ways.specs.declared.Pair.{Pair}
 use Rattle.ways.specs.declared.Found.{Found}
 use Rattle.ways.specs.declared.Found.TheVariants as found
-use Rattle.ways.specs.Found.{foundOf, begins, found_at, Searchable, Placeable, Listable}
+use Rattle.ways.specs.Found.{found_of, begins, found_at, Searchable, Placeable, Listable}
 use Rattle.ways.proofs.ListingLaws.{front, rise, found_some, found_none}
 use Rattle.judging.specs.Legs.{FirstLegs, LastLegs}
-use Rattle.judging.specs.Judge.{Tells, Judgeable, LegJudgeable, FirstBehind, NoneBehind, searchFrom, Alike}
+use Rattle.judging.specs.Judge.{Tells, Judgeable, LegJudgeable, FirstBehind, NoneBehind, search_from, Alike}
 
 -- a pair that can be judged can be listed, into a buffer with an entry for each slot
 pub listable : (bs : List ℕ) (q : Pair) (l : List ℕ) → Judgeable bs q l → Listable bs q (replicate q.slots 0)
@@ -34,8 +34,8 @@ listable bs q l g =
 
 module _ (bs : List ℕ) (q : Pair) (l : List ℕ) (k : ℕ) (w : List ℕ) (g : LegJudgeable bs q l k w) where
   -- what the search asks
-  pub search-ready : Placeable bs q l k w
-  search-ready =
+  pub search_ready : Placeable bs q l k w
+  search_ready =
       record {
         searchable = record { accepted = g.pair.accepted; table = g.pair.table };
         leg = g.leg;
@@ -43,65 +43,65 @@ module _ (bs : List ℕ) (q : Pair) (l : List ℕ) (k : ℕ) (w : List ℕ) (g :
       }
 
   entry : k < length w
-  entry = search-ready.entry
+  entry = search_ready.entry
 
   -- what stands behind the first legs stands behind what leads home
   standing : (m : ℕ) → begins bs q (take k w ++ m ∷ []) ≡ true → begins bs q (take k w) ≡ true
   standing m e = front bs q (replicate q.slots 0) (listable bs q l g.pair) (take k w) m e
 
-  module _ (from : ℕ) (f : Found) (is : foundOf f ≡ found_at bs q l k from w) where
+  module _ (from : ℕ) (f : Found) (is : found_of f ≡ found_at bs q l k from w) where
     -- nothing is found
-    pub nothing-there : f ≡ found.Nothing → NoneBehind (begins bs q) (take k w) from
-    unfolding foundOf
-    nothing-there e =
+    pub nothing_there : f ≡ found.Nothing → NoneBehind (begins bs q) (take k w) from
+    unfolding found_of
+    nothing_there e =
         record {
-          no-position = λ m low serves.
+          no_position = λ m low serves.
               found_none bs q (replicate q.slots 0) (listable bs q l g.pair) l g.pair.table w k from g.leg entry
-              (standing m serves) (sym is ∙ ap foundOf e) m low serves;
+              (standing m serves) (sym is ∙ ap found_of e) m low serves;
         }
 
     -- a position is found
-    pub first-there : (j : ℕ) → f ≡ found.At j → FirstBehind (begins bs q) (take k w) from j
-    unfolding foundOf
-    first-there j e =
+    pub first_there : (j : ℕ) → f ≡ found.At j → FirstBehind (begins bs q) (take k w) from j
+    unfolding found_of
+    first_there j e =
         let r = found_some bs q (replicate q.slots 0) (listable bs q l g.pair) l g.pair.table w k from g.leg entry
-        (sym is ∙ ap foundOf e) in
+        (sym is ∙ ap found_of e) in
         record { low = r.low; serves = r.passes; first = r.sooner }
 
     -- whether it is the position asked about
-    pub tells-nothing : f ≡ found.Nothing → (i : ℕ) → Tells false (FirstBehind (begins bs q) (take k w) from i)
-    tells-nothing e i =
-        record { yes = λ h. absurd (not-both h refl); no = λ h a. (nothing-there e).no-position i a.low a.serves }
+    pub tells_nothing : f ≡ found.Nothing → (i : ℕ) → Tells false (FirstBehind (begins bs q) (take k w) from i)
+    tells_nothing e i =
+        record { yes = λ h. absurd (not_both h refl); no = λ h a. (nothing_there e).no_position i a.low a.serves }
 
     pub tells_first : (j : ℕ) → f ≡ found.At j → (i : ℕ) → Tells (eqb i j) (FirstBehind (begins bs q) (take k w) from i)
     tells_first j e i =
-        let there = first-there j e in
+        let there = first_there j e in
         record {
           yes = λ h. let same = eqb-true i j h in rw same there;
           no = λ h a.
               let up = a.first j there.low there.serves in
               let down = there.first i a.low a.serves in
-              not-both (eq-eqb i j (omega arith)) h;
+              not_both (eq-eqb i j (omega arith)) h;
         }
 
     -- whether there is none
     pub tells_none : f ≡ found.Nothing → Tells true (NoneBehind (begins bs q) (take k w) from)
-    tells_none e = record { yes = λ h. nothing-there e; no = λ h. absurd (not-both refl h) }
+    tells_none e = record { yes = λ h. nothing_there e; no = λ h. absurd (not_both refl h) }
 
-    pub tells-some : (j : ℕ) → f ≡ found.At j → Tells false (NoneBehind (begins bs q) (take k w) from)
-    tells-some j e =
-        let there = first-there j e in
-        record { yes = λ h. absurd (not-both h refl); no = λ h a. a.no-position j there.low there.serves }
+    pub tells_some : (j : ℕ) → f ≡ found.At j → Tells false (NoneBehind (begins bs q) (take k w) from)
+    tells_some j e =
+        let there = first_there j e in
+        record { yes = λ h. absurd (not_both h refl); no = λ h a. a.no_position j there.low there.serves }
 
 -- ---- where the search for a leg begins
 
 module _ (bs : List ℕ) (q : Pair) (l : List ℕ) (k : ℕ) (w : List ℕ) (g : LegJudgeable bs q l k w) where
   -- what leads home behind the first k legs stands behind the last of them
-  behind-last : (m : ℕ) → begins bs q (take k w ++ m ∷ []) ≡ true → searchFrom w k ≤ m
-  unfolding searchFrom
-  behind-last m e = go k refl
+  behind_last : (m : ℕ) → begins bs q (take k w ++ m ∷ []) ≡ true → search_from w k ≤ m
+  unfolding search_from
+  behind_last m e = go k refl
     where
-      go : (j : ℕ) → j ≡ k → searchFrom w j ≤ m
+      go : (j : ℕ) → j ≡ k → search_from w j ≤ m
       go zero same = omega arith
       go (suc j) same =
           let inside : j < length w = let h = entry bs q l k w g in omega arith in
@@ -110,21 +110,21 @@ module _ (bs : List ℕ) (q : Pair) (l : List ℕ) (k : ℕ) (w : List ℕ) (g :
           omega arith
 
   -- the first from there on is the first of all
-  pub first-of-all : (i from : ℕ) (r : Bool) → from ≡ searchFrom w k → Tells r (FirstBehind (begins bs q) (take k w) from i)
+  pub first_of_all : (i from : ℕ) (r : Bool) → from ≡ search_from w k → Tells r (FirstBehind (begins bs q) (take k w) from i)
       → Tells r (FirstBehind (begins bs q) (take k w) 0 i)
-  first-of-all i from r e a =
+  first_of_all i from r e a =
       record {
         yes = λ h.
             let there = a.yes h in
             record {
               low = omega arith;
               serves = there.serves;
-              first = λ m low serves. there.first m (let up = behind-last m serves in omega arith) serves;
+              first = λ m low serves. there.first m (let up = behind_last m serves in omega arith) serves;
             };
         no = λ h there.
             a.no h
             (record {
-              low = let up = behind-last i there.serves in omega arith;
+              low = let up = behind_last i there.serves in omega arith;
               serves = there.serves;
               first = λ m low serves. there.first m (omega arith) serves;
             });
@@ -145,29 +145,29 @@ module _ (t : List ℕ → Bool) (h from : ℕ) (w : List ℕ) (room : h ≤ len
   firsts_more k before here j low less =
       by_cases (ℕ_discrete j k) (λ e. rw e here) (λ d. before j low (omega arith))
 
-  pub lasts-more : (k : ℕ) → LastsTo t from w k → NoneBehind t (take k w) (get_or w k 0 + 1) → LastsTo t from w (k + 1)
-  lasts-more k before here j low less =
+  pub lasts_more : (k : ℕ) → LastsTo t from w k → NoneBehind t (take k w) (get_or w k 0 + 1) → LastsTo t from w (k + 1)
+  lasts_more k before here j low less =
       by_cases (ℕ_discrete j k) (λ e. rw e here) (λ d. before j low (omega arith))
 
   -- all legs
-  pub firsts-all : (k : ℕ) → h ≤ k → FirstsTo t from w k → FirstLegs t h from w
-  firsts-all k past all =
+  pub firsts_all : (k : ℕ) → h ≤ k → FirstsTo t from w k → FirstLegs t h from w
+  firsts_all k past all =
       record {
         serves = λ j low less.
             rw (take-suc w j 0 (omega arith)) (all j low (omega arith)).serves;
         first = λ j low less m serves. (all j low (omega arith)).first m (omega arith) serves;
       }
 
-  pub lasts-all : (k : ℕ) → h ≤ k → LastsTo t from w k → LastLegs t h from w
-  lasts-all k past all =
+  pub lasts_all : (k : ℕ) → h ≤ k → LastsTo t from w k → LastLegs t h from w
+  lasts_all k past all =
       record {
         last = λ j low less m serves.
-            by_cases (dec_le m (get_or w j 0)) (λ g. g) (λ g. absurd ((all j low (omega arith)).no-position m (omega arith) serves));
+            by_cases (dec_le m (get_or w j 0)) (λ g. g) (λ g. absurd ((all j low (omega arith)).no_position m (omega arith) serves));
       }
 
   -- a leg that is not
-  pub first-missing : (k : ℕ) → from ≤ k → k < h → (FirstBehind t (take k w) 0 (get_or w k 0) → ⊥) → FirstLegs t h from w → ⊥
-  first-missing k low less not_first all =
+  pub first_missing : (k : ℕ) → from ≤ k → k < h → (FirstBehind t (take k w) 0 (get_or w k 0) → ⊥) → FirstLegs t h from w → ⊥
+  first_missing k low less not_first all =
       not_first
       (record {
         low = omega arith;
@@ -175,34 +175,34 @@ module _ (t : List ℕ → Bool) (h from : ℕ) (w : List ℕ) (room : h ≤ len
         first = λ m z serves. all.first k low less m serves;
       })
 
-  pub last-missing : (k : ℕ) → from ≤ k → k < h → (NoneBehind t (take k w) (get_or w k 0 + 1) → ⊥) → LastLegs t h from w → ⊥
-  last-missing k low less later all =
-      later (record { no-position = λ m more serves. let up = all.last k low less m serves in omega arith })
+  pub last_missing : (k : ℕ) → from ≤ k → k < h → (NoneBehind t (take k w) (get_or w k 0 + 1) → ⊥) → LastLegs t h from w → ⊥
+  last_missing k low less later all =
+      later (record { no_position = λ m more serves. let up = all.last k low less m serves in omega arith })
 
 -- the search begins at the first position, or behind the leg before
-pub search-first : (w : List ℕ) (k : ℕ) → k ≡ 0 → 0 ≡ searchFrom w k
-unfolding searchFrom
-search-first w k e = rw e
+pub search_first : (w : List ℕ) (k : ℕ) → k ≡ 0 → 0 ≡ search_from w k
+unfolding search_from
+search_first w k e = rw e
 
-pub search-behind : (w : List ℕ) (k i : ℕ) → 0 < k → i ≡ get_or w (k - 1) 0 → i + 1 ≡ searchFrom w k
-unfolding searchFrom
-search-behind w k i behind e =
+pub search_behind : (w : List ℕ) (k i : ℕ) → 0 < k → i ≡ get_or w (k - 1) 0 → i + 1 ≡ search_from w k
+unfolding search_from
+search_behind w k i behind e =
     let split : k ≡ suc (k - 1) = omega arith in
-    ap (λ j. j + 1) e ∙ ap (searchFrom w) (sym split)
+    ap (λ j. j + 1) e ∙ ap (search_from w) (sym split)
 
 -- ---- how far two ways are alike
 
 module _ (a b : List ℕ) where
   -- one entry more
-  pub alike-more : (k : ℕ) → k < length a → k < length b → take k a ≡ take k b → eqb (get_or a k 0) (get_or b k 0) ≡ true
+  pub alike_more : (k : ℕ) → k < length a → k < length b → take k a ≡ take k b → eqb (get_or a k 0) (get_or b k 0) ≡ true
       → take (k + 1) a ≡ take (k + 1) b
-  alike-more k below-a below-b same e =
+  alike_more k below-a below-b same e =
       rw add-one
       (take-suc a k 0 below-a ∙ ap₂ (λ u i. u ++ i ∷ []) same (eqb-true _ _ e) ∙ sym (take-suc b k 0 below-b))
 
   -- an entry that differs
-  pub alike-ends : (h k : ℕ) → k < h → take k a ≡ take k b → eqb (get_or a k 0) (get_or b k 0) ≡ false → Alike h a b k
-  alike-ends h k less same e = record { within = omega arith; alike = same; differ = λ _. eqb-false _ _ e }
+  pub alike_ends : (h k : ℕ) → k < h → take k a ≡ take k b → eqb (get_or a k 0) (get_or b k 0) ≡ false → Alike h a b k
+  alike_ends h k less same e = record { within = omega arith; alike = same; differ = λ _. eqb-false _ _ e }
 
   -- none differs
   pub alike_all : (h k : ℕ) → k ≤ h → h ≤ k → take k a ≡ take k b → Alike h a b k

@@ -16,8 +16,8 @@ use Rattle.judging.specs.Legs.{FirstLegs, LastLegs, Follows}
 -- ---- lists that begin alike
 
 -- lists alike in their first k numbers are alike in fewer
-alike-fewer : (j k : ℕ) (u w : List ℕ) → j ≤ k → take k u ≡ take k w → take j u ≡ take j w
-alike-fewer j k u w less e = sym (take-take j k u less) ∙ ap (take j) e ∙ take-take j k w less
+alike_fewer : (j k : ℕ) (u w : List ℕ) → j ≤ k → take k u ≡ take k w → take j u ≡ take j w
+alike_fewer j k u w less e = sym (take-take j k u less) ∙ ap (take j) e ∙ take-take j k w less
 
 -- lists alike in their first k numbers have the same number at each place below k
 alike_at : (j k : ℕ) (u w : List ℕ) → j < k → take k u ≡ take k w → get_or u j 0 ≡ get_or w j 0
@@ -74,33 +74,33 @@ at_most k u w e (inr b) = go (differ u w b)
         (λ high. omega (arith, alike_at d.leg k u w (omega arith) e)))
 
 -- where a and b are alike in k numbers and u stands before b, a has a smaller number than u first at no place below k
-not-sooner : (a u b : List ℕ) (k : ℕ) → take k a ≡ take k b → (d : Differ a u) → Before u b → k ≤ d.leg
-not-sooner a u b k e d c =
+not_sooner : (a u b : List ℕ) (k : ℕ) → take k a ≡ take k b → (d : Differ a u) → Before u b → k ≤ d.leg
+not_sooner a u b k e d c =
     let less = d.less in
     by_cases (dec_le k d.leg) (λ low. low) (λ high.
-    let begin = alike-fewer d.leg k a b (omega arith) e in
+    let begin = alike_fewer d.leg k a b (omega arith) e in
     let same = alike_at d.leg k a b (omega arith) e in
     absurd (omega (arith, at_most d.leg u b (sym d.alike ∙ begin) (inr c))))
 
 -- where a and b are alike in k numbers and a stands before u, u has a smaller number than b first at no place below k
-not-sooner' : (a u b : List ℕ) (k : ℕ) → take k a ≡ take k b → Before a u → (d : Differ u b) → k ≤ d.leg
-not-sooner' a u b k e c d =
+not_sooner' : (a u b : List ℕ) (k : ℕ) → take k a ≡ take k b → Before a u → (d : Differ u b) → k ≤ d.leg
+not_sooner' a u b k e c d =
     let less = d.less in
     by_cases (dec_le k d.leg) (λ low. low) (λ high.
-    let begin = alike-fewer d.leg k a b (omega arith) e in
+    let begin = alike_fewer d.leg k a b (omega arith) e in
     let same = alike_at d.leg k a b (omega arith) e in
     absurd (omega (arith, at_most d.leg a u (begin ∙ sym d.alike) (inr c))))
 
 -- a list that does not stand before another of its length is that one or stands behind it
-not-before : (u w : List ℕ) → length u ≡ length w → (Before u w → ⊥) → (u ≡ w) ⊎ Before w u
+not_before : (u w : List ℕ) → length u ≡ length w → (Before u w → ⊥) → (u ≡ w) ⊎ Before w u
 unfolding Before
-not-before [] [] e n = inl refl
-not-before [] (j ∷ w) e n = absurd (omega arith)
-not-before (i ∷ u) [] e n = absurd (omega arith)
-not-before (i ∷ u) (j ∷ w) e n =
+not_before [] [] e n = inl refl
+not_before [] (j ∷ w) e n = absurd (omega arith)
+not_before (i ∷ u) [] e n = absurd (omega arith)
+not_before (i ∷ u) (j ∷ w) e n =
     by_cases (ℕ_discrete i j)
     (λ same. ⊎_elim (λ rest. inl (cc)) (λ b. inr (inr (sym same, b)))
-    (not-before u w (omega arith) (λ b. n (inr (same, b)))))
+    (not_before u w (omega arith) (λ b. n (inr (same, b)))))
     (λ other. by_cases (dec_le i j) (λ low. absurd (n (inl (omega arith)))) (λ high. inr (inl (omega arith))))
 
 -- a test of beginnings: it passes the empty list, the beginnings of what it passes, and what it passes of fewer than h numbers can
@@ -116,8 +116,8 @@ module _ (t : List ℕ → Bool) (h : ℕ) (None-passes : t [] ≡ true)
   beginning q (i ∷ v) e = front q i (beginning (q ++ i ∷ []) v (rw append_snoc e))
 
   -- the first k numbers of a list that passes pass
-  take-passes : (k : ℕ) (w : List ℕ) → t w ≡ true → t (take k w) ≡ true
-  take-passes k w e = beginning (take k w) (drop k w) (rw take-append-drop e)
+  take_passes : (k : ℕ) (w : List ℕ) → t w ≡ true → t (take k w) ≡ true
+  take_passes k w e = beginning (take k w) (drop k w) (rw take-append-drop e)
 
   -- a list that passes and has k numbers fewer than h begins a list of h numbers that passes
   completed : (k : ℕ) (q : List ℕ) → length q + k ≡ h → t q ≡ true
@@ -151,38 +151,38 @@ module _ (t : List ℕ → Bool) (h : ℕ) (None-passes : t [] ≡ true)
       }
 
   -- the next number of a list that passes serves behind the numbers with which it begins
-  serves-next : (w u : List ℕ) (k : ℕ) → length u ≡ h → t u ≡ true → k < h → take k u ≡ take k w
+  serves_next : (w u : List ℕ) (k : ℕ) → length u ≡ h → t u ≡ true → k < h → take k u ≡ take k w
       → t (take k w ++ get_or u k 0 ∷ []) ≡ true
-  serves-next w u k size passes inside alike =
+  serves_next w u k size passes inside alike =
       let less : k < length u = omega arith in
-      rw (← alike, ← take-suc u k 0) (take-passes (suc k) u passes)
+      rw (← alike, ← take-suc u k 0) (take_passes (suc k) u passes)
 
   -- a list of h numbers of which the first n + 1 serve, where n + 1 is h, passes
-  whole-passes : (w : List ℕ) (n : ℕ) → length w ≡ h → suc n ≡ h → t (take (suc n) w) ≡ true → t w ≡ true
-  whole-passes w n size e passes = rw (take_all (suc n) w (omega arith)) at passes
+  whole_passes : (w : List ℕ) (n : ℕ) → length w ≡ h → suc n ≡ h → t (take (suc n) w) ≡ true → t w ≡ true
+  whole_passes w n size e passes = rw (take_all (suc n) w (omega arith)) at passes
 
   -- where the legs of w from i on are the first that serve, no list that passes has a smaller number first at i or later
-  firsts-refute : (w u : List ℕ) (i : ℕ) → length u ≡ h → t u ≡ true → FirstLegs t h i w → (d : Differ u w) → i ≤ d.leg → ⊥
-  firsts-refute w u i sized passes f d low =
+  firsts_refute : (w u : List ℕ) (i : ℕ) → length u ≡ h → t u ≡ true → FirstLegs t h i w → (d : Differ u w) → i ≤ d.leg → ⊥
+  firsts_refute w u i sized passes f d low =
       let inside = d.inside in
       let less = d.less in
       omega (
         arith,
         f.first d.leg low (omega arith) (get_or u d.leg 0)
-            (serves-next w u d.leg sized passes (omega arith) d.alike),
+            (serves_next w u d.leg sized passes (omega arith) d.alike),
       )
 
   -- where the legs of w from i on are the last that serve, no list that passes has a greater number first at i or later
-  lasts-refute : (w u : List ℕ) (i : ℕ) → length w ≡ h → length u ≡ h → t u ≡ true → LastLegs t h i w → (d : Differ w u)
+  lasts_refute : (w u : List ℕ) (i : ℕ) → length w ≡ h → length u ≡ h → t u ≡ true → LastLegs t h i w → (d : Differ w u)
       → i ≤ d.leg
       → ⊥
-  lasts-refute w u i size sized passes l d low =
+  lasts_refute w u i size sized passes l d low =
       let inside = d.inside in
       let less = d.less in
       omega (
         arith,
         l.last d.leg low (omega arith) (get_or u d.leg 0)
-            (serves-next w u d.leg sized passes (omega arith) (sym d.alike)),
+            (serves_next w u d.leg sized passes (omega arith) (sym d.alike)),
       )
 
   -- ---- the least
@@ -191,7 +191,7 @@ module _ (t : List ℕ → Bool) (h : ℕ) (None-passes : t [] ≡ true)
   least_first : (w : List ℕ) → LeastOf t h w → FirstLegs t h 0 w
   least_first w l =
       record {
-        serves = λ k low inside. take-passes (suc k) w l.passes;
+        serves = λ k low inside. take_passes (suc k) w l.passes;
         first = λ k low inside m e.
             let v = branch w k m l.size inside e in
             let next = v.next in
@@ -199,28 +199,28 @@ module _ (t : List ℕ → Bool) (h : ℕ) (None-passes : t [] ≡ true)
       }
 
   -- a list whose legs are the first that serve is the least
-  first-least : (w : List ℕ) → length w ≡ h → FirstLegs t h 0 w → LeastOf t h w
-  first-least w size f =
+  first_least : (w : List ℕ) → length w ≡ h → FirstLegs t h 0 w → LeastOf t h w
+  first_least w size f =
       record {
         size = size;
         passes = go h refl;
-        least = λ u sized passes. not-before u w (omega arith)
-            (λ b. firsts-refute w u 0 sized passes f (differ u w b) (omega arith));
+        least = λ u sized passes. not_before u w (omega arith)
+            (λ b. firsts_refute w u 0 sized passes f (differ u w b) (omega arith));
       }
     where
       go : (n : ℕ) → n ≡ h → t w ≡ true
       go zero e = rw (take_all 0 w (omega arith)) at None-passes
-      go (suc n) e = whole-passes w n size e (f.serves n (omega arith) (omega arith))
+      go (suc n) e = whole_passes w n size e (f.serves n (omega arith) (omega arith))
 
   -- the least is the one whose legs are all the first that serve
-  pub least-legs : (w : List ℕ) → length w ≡ h → LeastOf t h w ↔ FirstLegs t h 0 w
-  least-legs w size = (least_first w, first-least w size)
+  pub least_legs : (w : List ℕ) → length w ≡ h → LeastOf t h w ↔ FirstLegs t h 0 w
+  least_legs w size = (least_first w, first_least w size)
 
   -- ---- the last
 
   -- the last is the one whose legs are all the last that serve
-  pub last-legs : (w : List ℕ) → length w ≡ h → NoneLater t h w ↔ LastLegs t h 0 w
-  last-legs w size = (
+  pub last_legs : (w : List ℕ) → length w ≡ h → NoneLater t h w ↔ LastLegs t h 0 w
+  last_legs w size = (
     λ n. record {
       last = λ k low inside m e. by_cases (dec_le m (get_or w k 0)) (λ less. less) (λ more.
           let v = branch w k m size inside e in
@@ -228,15 +228,15 @@ module _ (t : List ℕ → Bool) (h : ℕ) (None-passes : t [] ≡ true)
           absurd (n v.list v.size v.passes
           (before_at k w v.list (sym v.alike) (omega arith) (omega arith))));
     },
-    λ l u sized there b. lasts-refute w u 0 size sized there l (differ w u b) (omega arith),
+    λ l u sized there b. lasts_refute w u 0 size sized there l (differ w u b) (omega arith),
   )
 
   -- ---- the next
 
   module _ (a b : List ℕ) (long-a : length a ≡ h) (long-b : length b ≡ h) where
     -- the next follows
-    later-follows : Later t h a b → Follows t h a b
-    later-follows l = go (differ a b l.after)
+    later_follows : Later t h a b → Follows t h a b
+    later_follows l = go (differ a b l.after)
       where
         go : Differ a b → Follows t h a b
         go d =
@@ -248,7 +248,7 @@ module _ (t : List ℕ → Bool) (h : ℕ) (None-passes : t [] ≡ true)
               inside = omega arith;
               alike = d.alike;
               later = d.less;
-              serves = take-passes (suc leg) b l.passes;
+              serves = take_passes (suc leg) b l.passes;
               between = λ m more e.
                   let v = branch a leg m long-a (omega arith) e in
                   let next = v.next in
@@ -264,7 +264,7 @@ module _ (t : List ℕ → Bool) (h : ℕ) (None-passes : t [] ≡ true)
                     let next = v.next in
                     let behind = before_at k a v.list (sym v.alike) (omega arith) (omega arith) in
                     let same = alike_at leg k v.list a (omega arith) v.alike in
-                    let begin = alike-fewer leg k v.list a (omega arith) v.alike in
+                    let begin = alike_fewer leg k v.list a (omega arith) v.alike in
                     absurd (omega (
                       arith,
                       at_most leg b v.list (sym (begin ∙ d.alike))
@@ -272,12 +272,12 @@ module _ (t : List ℕ → Bool) (h : ℕ) (None-passes : t [] ≡ true)
                     )));
               };
               firsts = record {
-                serves = λ k low within. take-passes (suc k) b l.passes;
+                serves = λ k low within. take_passes (suc k) b l.passes;
                 first = λ k low within m e.
                     let v = branch b k m long-b within e in
                     let next = v.next in
                     let same = alike_at leg k v.list b (omega arith) v.alike in
-                    let begin = alike-fewer leg k v.list b (omega arith) v.alike in
+                    let begin = alike_fewer leg k v.list b (omega arith) v.alike in
                     let behind = before_at leg a v.list (d.alike ∙ sym begin) d.inside (omega arith) in
                     omega (
                       arith,
@@ -288,14 +288,14 @@ module _ (t : List ℕ → Bool) (h : ℕ) (None-passes : t [] ≡ true)
             }
 
     -- what follows passes
-    follows-passes : Follows t h a b → t b ≡ true
-    follows-passes f = go h refl
+    follows_passes : Follows t h a b → t b ≡ true
+    follows_passes f = go h refl
       where
         go : (n : ℕ) → n ≡ h → t b ≡ true
         go zero e = let inside = f.inside in absurd (omega arith)
         go (suc n) e =
             let inside = f.inside in
-            whole-passes b n long-b e (by_cases (ℕ_discrete n f.leg)
+            whole_passes b n long-b e (by_cases (ℕ_discrete n f.leg)
             (λ same. rw same f.serves)
             (λ other. f.firsts.serves n (omega arith) (omega arith)))
 
@@ -311,30 +311,30 @@ module _ (t : List ℕ → Bool) (h : ℕ) (None-passes : t [] ≡ true)
             omega (
               arith,
               f.between (get_or u f.leg 0) more
-                  (serves-next a u f.leg sized passes f.inside (sym alike)),
+                  (serves_next a u f.leg sized passes f.inside (sym alike)),
             )
 
         go : Differ a u → Differ u b → ⊥
         go d d' =
-            let low = not-sooner a u b f.leg f.alike d c' in
-            let low' = not-sooner' a u b f.leg f.alike c d' in
+            let low = not_sooner a u b f.leg f.alike d c' in
+            let low' = not_sooner' a u b f.leg f.alike c d' in
             by_cases (ℕ_discrete d.leg f.leg)
             (λ e. by_cases (ℕ_discrete d'.leg f.leg) (here d d' e)
-            (λ n. firsts-refute b u (suc f.leg) sized passes f.firsts d' (omega arith)))
-            (λ n. lasts-refute a u (suc f.leg) long-a sized passes f.lasts d (omega arith))
+            (λ n. firsts_refute b u (suc f.leg) sized passes f.firsts d' (omega arith)))
+            (λ n. lasts_refute a u (suc f.leg) long-a sized passes f.lasts d (omega arith))
 
     -- what follows is the next
-    follows-later : Follows t h a b → Later t h a b
-    follows-later f =
+    follows_later : Follows t h a b → Later t h a b
+    follows_later f =
         let inside = f.inside in
         record {
           size = long-b;
-          passes = follows-passes f;
+          passes = follows_passes f;
           after = before_at f.leg a b f.alike (omega arith) f.later;
-          least = λ u sized passes c. not-before u b (omega arith)
+          least = λ u sized passes c. not_before u b (omega arith)
               (none_between f u sized passes c);
         }
 
   -- the next is the one that follows
-  pub next-legs : (a b : List ℕ) → length a ≡ h → length b ≡ h → Later t h a b ↔ Follows t h a b
-  next-legs a b long-a long-b = (later-follows a b long-a long-b, follows-later a b long-a long-b)
+  pub next_legs : (a b : List ℕ) → length a ≡ h → length b ≡ h → Later t h a b ↔ Follows t h a b
+  next_legs a b long-a long-b = (later_follows a b long-a long-b, follows_later a b long-a long-b)

@@ -1,8 +1,9 @@
 // Judging a list of positions by the complete list of a pair: leg by leg, way by way. None of these is an operation: a caller has
 // excluded every cause of refusal before.
+#![tactic(auto)]
 ghost use Rattle.std.specs.Prelude.{◌≡◌, [], suc, ◌+◌, ◌-◌, ◌*◌, ◌<◌, ◌≤◌, eqb, length, get_or, take, drop};
-ghost use Rattle.temporal.specs.Verdict.{verdictOn};
-ghost use Rattle.ways.specs.Found.{listIn, begins};
+ghost use Rattle.temporal.specs.Verdict.{verdict_on};
+ghost use Rattle.ways.specs.Found.{list_in, begins};
 ghost use Rattle.judging.specs.Legs.{FirstLegs, LastLegs, Follows};
 ghost use Rattle.judging.specs.Judge.{
   Tells,
@@ -11,9 +12,9 @@ ghost use Rattle.judging.specs.Judge.{
   LegJudgeable,
   FirstBehind,
   NoneBehind,
-  searchFrom,
+  search_from,
   Alike,
-  verdictOf,
+  verdict_of,
   WaysJudgeable,
   Continued,
 };
@@ -21,7 +22,7 @@ ghost use Rattle.judging.specs.Judge.{
 use ways::{Found, Pair};
 
 // What is said of a list of positions: exactly the complete list, its first few whole ways, or neither.
-#[derive(Drop)]
+#[derive(Clone, Copy)]
 pub enum Judgement {
     Complete,
     Beginning,
@@ -63,7 +64,7 @@ fn none_found(way: &[u16], work: &[u64], plan: &[u8], q: Pair, k: usize, from: u
 // Where the search for leg k of a way begins.
 fn search_from(way: &[u16], k: usize) -> usize
     requires { k ≤ length way.now }
-    ensures { result ≡ searchFrom way.now k }
+    ensures { result ≡ search_from way.now k }
 {
     if k == 0 {
         return 0;
@@ -193,7 +194,7 @@ fn follows_at(list: &[u16], work: &[u64], plan: &[u8], q: Pair, at: usize) -> bo
 // Whether each way of a list behind the first one, which is that of the complete list, follows the one before it.
 fn ways_follow(list: &[u16], work: &[u64], plan: &[u8], q: Pair) -> bool
     requires { WaysJudgeable plan.now q work.now list.now × FirstLegs (begins plan.now q) q.hops 0 list.now }
-    ensures { Continued (listIn plan.now q) list.now result }
+    ensures { Continued (list_in plan.now q) list.now result }
 {
     let hops = q.hops;
     let entries = list.len();
@@ -221,7 +222,7 @@ fn last_way(list: &[u16], work: &[u64], plan: &[u8], q: Pair) -> bool
 // The verdict on a list of one way or more, whole ones by its length.
 fn judge_ways(list: &[u16], work: &[u64], plan: &[u8], q: Pair) -> Judgement
     requires { WaysJudgeable plan.now q work.now list.now }
-    ensures { verdictOf result ≡ verdictOn (listIn plan.now q) list.now }
+    ensures { verdict_of result ≡ verdict_on (list_in plan.now q) list.now }
 {
     if first_legs(list, work, plan, q, 0) {
         if ways_follow(list, work, plan, q) {
@@ -238,7 +239,7 @@ fn judge_ways(list: &[u16], work: &[u64], plan: &[u8], q: Pair) -> Judgement
 // The verdict on a list of positions by the complete list of a pair that has a walk.
 pub fn judge(list: &[u16], work: &[u64], plan: &[u8], q: Pair) -> Judgement
     requires { Judgeable plan.now q work.now }
-    ensures { verdictOf result ≡ verdictOn (listIn plan.now q) list.now }
+    ensures { verdict_of result ≡ verdict_on (list_in plan.now q) list.now }
 {
     let entries = list.len();
     if entries == 0 {
@@ -252,7 +253,7 @@ pub fn judge(list: &[u16], work: &[u64], plan: &[u8], q: Pair) -> Judgement
 
 // The verdict on a list of positions where there is no walk: the empty list is complete.
 pub fn judge_none(list: &[u16]) -> Judgement
-    ensures { verdictOf result ≡ verdictOn [] list.now }
+    ensures { verdict_of result ≡ verdict_on [] list.now }
 {
     if 0 < list.len() {
         return Judgement::Wrong;

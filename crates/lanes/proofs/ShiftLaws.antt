@@ -4,13 +4,13 @@ use native.Mathlib.Nat.{div-add-mod', mod-eq_of_lt}
 use mathlib.Core.Path.{◌≡◌, sym, ap, ◌∙◌}
 use native.Mathlib.Omega.{arith}
 use lib.Pow.{field, shr-shr, shl-shr, shl_exact}
-use Rattle.lanes.specs.Lane.{lane, withoutLane}
-use Rattle.lanes.proofs.LaneLaws.{lane-part, lane_below}
+use Rattle.lanes.specs.Lane.{lane, without_lane}
+use Rattle.lanes.proofs.LaneLaws.{lane_part, lane_below}
 
 -- shifted left until the lane is the highest, then right until it is the lowest
-pub lane-shifts : (x w l : ℕ) → w * l + w ≤ 64 → x * 2 ^ (64 - w - w * l) % 2 ^ 64 / 2 ^ (64 - w) ≡ lane w x l
+pub lane_shifts : (x w l : ℕ) → w * l + w ≤ 64 → x * 2 ^ (64 - w - w * l) % 2 ^ 64 / 2 ^ (64 - w) ≡ lane w x l
 unfolding lane
-lane-shifts x w l inside =
+lane_shifts x w l inside =
     let a = 64 - w - w * l in
     let total : 64 ≡ w + (64 - w) = omega arith in
     let below : 64 - w ≡ (64 - w - w * l) + w * l = omega arith in
@@ -25,13 +25,13 @@ module _ (x w l : ℕ) {r : ℕ} (inside : w * l + w ≤ 64) (read : r ≡ lane 
   shifted = rw read (shl_exact w (w * l) 64 (lane_below w x l) (omega arith))
 
   -- there it is part of the entry
-  pub shifted-part : r * 2 ^ (w * l) % 2 ^ 64 ≤ x
-  shifted-part = rw shifted (lane-part w x l)
+  pub shifted_part : r * 2 ^ (w * l) % 2 ^ 64 ≤ x
+  shifted_part = rw shifted (lane_part w x l)
 
   -- and taken from it, it is cleared
-  pub shifted-without : x - r * 2 ^ (w * l) % 2 ^ 64 ≡ withoutLane w x l
-  unfolding withoutLane
-  shifted-without = ap (λ n. x - n) shifted
+  pub shifted_without : x - r * 2 ^ (w * l) % 2 ^ 64 ≡ without_lane w x l
+  unfolding without_lane
+  shifted_without = ap (λ n. x - n) shifted
 
 -- a number shifted left by up to 3 places loses nothing
 pub shifted_up : (x s : ℕ) → s ≤ 3 → x < 2 ^ 60 → x * 2 ^ s % 2 ^ 64 ≡ x * 2 ^ s
@@ -45,9 +45,9 @@ module _ (x s : ℕ) (small : x < 2 ^ 63) where
   held = mod-eq_of_lt (omega (arith, whole_part))
 
   -- what is shifted out is no more than the number
-  pub shifted-out : x / 2 ^ s * 2 ^ s % 2 ^ 64 ≤ x
-  shifted-out = rw held (omega (arith, whole_part))
+  pub shifted_out : x / 2 ^ s * 2 ^ s % 2 ^ 64 ≤ x
+  shifted_out = rw held (omega (arith, whole_part))
 
   -- and taken from it, it leaves the lowest places
-  pub shifted-rest : x - x / 2 ^ s * 2 ^ s % 2 ^ 64 ≡ x % 2 ^ s
-  shifted-rest = rw held (omega (arith, whole_part))
+  pub shifted_rest : x - x / 2 ^ s * 2 ^ s % 2 ^ 64 ≡ x % 2 ^ s
+  shifted_rest = rw held (omega (arith, whole_part))

@@ -8,8 +8,8 @@ unfoldable pub lane : ℕ → ℕ → ℕ → ℕ
 lane w x l = x / 2 ^ (w * l) % 2 ^ w
 
 -- entry x with lane l set to 0
-unfoldable pub withoutLane : ℕ → ℕ → ℕ → ℕ
-withoutLane w x l = x - lane w x l * 2 ^ (w * l)
+unfoldable pub without_lane : ℕ → ℕ → ℕ → ℕ
+without_lane w x l = x - lane w x l * 2 ^ (w * l)
 
 -- the entry of the counts f 0 to f (k - 1); one that does not fit its lane goes over into the next
 unfoldable pub packed : ℕ → ℕ → (ℕ → ℕ) → ℕ

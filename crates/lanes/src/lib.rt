@@ -1,6 +1,7 @@
 // Several counts in one 64-bit entry: lane l of width w has the bits from w × l on.
+#![tactic(auto)]
 ghost use Rattle.std.specs.Prelude.{◌≡◌, ◌+◌, ◌-◌, ◌*◌, ◌/◌, ◌%◌, ◌^◌, ◌<◌, ◌≤◌};
-ghost use Rattle.lanes.specs.Lane.{lane, withoutLane, ones, lanes_of, width_of};
+ghost use Rattle.lanes.specs.Lane.{lane, without_lane, ones, lanes_of, width_of};
 
 // The count in lane l. Shifting left drops the lanes above, shifting right those below; neither shift reaches 64.
 pub fn lane_at(x: u64, w: usize, l: usize) -> u64
@@ -13,7 +14,7 @@ pub fn lane_at(x: u64, w: usize, l: usize) -> u64
 // The entry with lane l set to 0.
 pub fn without_lane(x: u64, w: usize, l: usize) -> u64
     requires { (0 < w) × (w * l + w ≤ 64) }
-    ensures { result ≡ withoutLane w x l }
+    ensures { result ≡ without_lane w x l }
 {
     x - (lane_at(x, w, l) << (w * l))
 }

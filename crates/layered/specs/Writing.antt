@@ -2,12 +2,12 @@
 -- Assumes nothing.
 use Rattle.std.specs.Prelude.{ℕ, ◌*◌, ◌≤◌, ◌<◌, ◌≡◌, true, false, List, length}
 use Rattle.temporal.specs.Plan.{Contact}
-use Rattle.temporal.specs.Bytes.{contactAt, records}
+use Rattle.temporal.specs.Bytes.{contact_at, records}
 use Rattle.layered.specs.Layered.{slot_at, shift}
 
 -- the records' slots do not fall
 abbrev pub Sorted : List ℕ → Type 0
-Sorted bs = (i k : ℕ) → i ≤ k → k < records bs → (contactAt bs i).slot ≤ (contactAt bs k).slot
+Sorted bs = (i k : ℕ) → i ≤ k → k < records bs → (contact_at bs i).slot ≤ (contact_at bs k).slot
 
 -- a contact of n stations whose slot fits a byte
 pub record Small (n : ℕ) (c : Contact) : Type 0 where
@@ -20,7 +20,7 @@ pub record Small (n : ℕ) (c : Contact) : Type 0 where
 pub record Layerable (bs : List ℕ) (n : ℕ) (out : List ℕ) : Type 0 where
   pub stations : 2 * n ≤ 256
   pub few : 2 * records bs ≤ 8192
-  pub contact : (i : ℕ) → i < records bs → Small n (contactAt bs i)
+  pub contact : (i : ℕ) → i < records bs → Small n (contact_at bs i)
   pub sorted : Sorted bs
   pub room : 2 * length bs ≤ length out
 

@@ -1,19 +1,20 @@
 // The layered plan of a station: written from a plan, slot by slot, and read back as the plan's contacts. These are no operations: the
 // crates above list the walks that have a station inside by them.
+#![tactic(auto)]
 ghost use Rattle.std.specs.Prelude.{◌≡◌, ◌+◌, ◌-◌, ◌*◌, ◌<◌, ◌≤◌, length};
 ghost use Rattle.std.proofs.lemmas.List.Edits.{sets};
-ghost use Rattle.temporal.specs.Bytes.{contactAt};
+ghost use Rattle.temporal.specs.Bytes.{contact_at};
 ghost use Rattle.temporal.specs.Outcome.{over};
-ghost use Rattle.plan.specs.Record.{contactOf, SlotRecords};
-ghost use Rattle.layered.specs.Layered.{lowered, loweredContact, raised, layeredContact, recordBytes, bytesFrom, layered};
+ghost use Rattle.plan.specs.Record.{contact_of, SlotRecords};
+ghost use Rattle.layered.specs.Layered.{lowered, lowered_contact, raised, layered_contact, record_bytes, bytes_from, layered};
 ghost use Rattle.layered.specs.Writing.{Small, Layerable, Raisable, Placeable, SlotBounds};
 
 use plan::Contact;
 
 // The contact with its sender in layer 1, or in layer 0. It is heard in layer 1 where it is sent there or by v.
 fn raise(n: usize, v: usize, upper: bool, c: Contact) -> Contact
-    requires { Small n (contactOf c) × (2 * n ≤ 256) }
-    ensures { contactOf result ≡ raised n v upper (contactOf c) }
+    requires { Small n (contact_of c) × (2 * n ≤ 256) }
+    ensures { contact_of result ≡ raised n v upper (contact_of c) }
 {
     let slot = c.slot;
     let sender = c.sender;
@@ -44,8 +45,8 @@ fn raise(n: usize, v: usize, upper: bool, c: Contact) -> Contact
 
 // Writes a record of numbers below 256 from a place on.
 fn write_record(out: &mut [u8], at: usize, c: Contact)
-    requires { (at + 6 ≤ length out.old) × Small 256 (contactOf c) }
-    ensures { out.new ≡ sets out.old at (recordBytes (contactOf c)) }
+    requires { (at + 6 ≤ length out.old) × Small 256 (contact_of c) }
+    ensures { out.new ≡ sets out.old at (record_bytes (contact_of c)) }
 {
     let slot = c.slot;
     let sender = c.sender;
@@ -62,7 +63,7 @@ fn write_record(out: &mut [u8], at: usize, c: Contact)
 fn write_raised(plan: &[u8], n: usize, v: usize, upper: bool, i: usize, q: usize, out: &mut [u8])
     requires { Raisable plan.now n i q out.old }
     ensures { out.new ≡
-        sets out.old (q * 6) (recordBytes (raised n v upper (contactAt plan.now i))) }
+        sets out.old (q * 6) (record_bytes (raised n v upper (contact_at plan.now i))) }
 {
     let c = plan::contact_at(plan, i);
     let r = raise(n, v, upper, c);
@@ -72,7 +73,7 @@ fn write_raised(plan: &[u8], n: usize, v: usize, upper: bool, i: usize, q: usize
 // Writes the record at place q, in the slot whose records stand from lo to before hi: first all of them in layer 0, then in layer 1.
 fn write_place(plan: &[u8], n: usize, v: usize, lo: usize, hi: usize, q: usize, out: &mut [u8])
     requires { Placeable plan.now n lo hi q out.old }
-    ensures { out.new ≡ sets out.old (q * 6) (recordBytes (layeredContact plan.now n v q)) }
+    ensures { out.new ≡ sets out.old (q * 6) (record_bytes (layered_contact plan.now n v q)) }
 {
     if q < lo + hi {
         write_raised(plan, n, v, false, q - lo, q, out);
@@ -85,7 +86,7 @@ fn write_place(plan: &[u8], n: usize, v: usize, lo: usize, hi: usize, q: usize, 
 fn write_slot(plan: &[u8], n: usize, v: usize, lo: usize, hi: usize, out: &mut [u8])
     requires { Layerable plan.now n out.old × SlotBounds plan.now lo hi }
     ensures { out.new ≡ sets out.old (2 * lo * 6)
-        (bytesFrom (layeredContact plan.now n v) (2 * lo) (2 * (hi - lo))) }
+        (bytes_from (layered_contact plan.now n v) (2 * lo) (2 * (hi - lo))) }
 {
     let end = 2 * hi;
     let mut q = 2 * lo;
@@ -98,7 +99,7 @@ fn write_slot(plan: &[u8], n: usize, v: usize, lo: usize, hi: usize, out: &mut [
 // The position past the records of the slot of position lo.
 fn slot_end_of(plan: &[u8], lo: usize) -> usize
     requires { lo * 6 + 5 < length plan.now }
-    ensures { SlotRecords plan.now (contactAt plan.now lo).slot lo result }
+    ensures { SlotRecords plan.now (contact_at plan.now lo).slot lo result }
 {
     let c = plan::contact_at(plan, lo);
     plan::slot_end(plan, lo, c.slot)
@@ -131,7 +132,7 @@ fn lower(n: usize, u: usize) -> usize
 // The plan's contact of the record at a position of its layered plan.
 pub fn lowered_contact(layered: &[u8], n: usize, q: usize) -> Contact
     requires { q * 6 + 5 < length layered.now }
-    ensures { contactOf result ≡ loweredContact n (contactAt layered.now q) }
+    ensures { contact_of result ≡ lowered_contact n (contact_at layered.now q) }
 {
     let c = plan::contact_at(layered, q);
     let slot = c.slot;

@@ -2,18 +2,18 @@
 -- Assumes nothing.
 use Rattle.std.specs.Prelude.{ℕ, List}
 use Rattle.temporal.specs.Plan.{units}
-use Rattle.temporal.specs.Cursor.{Reply, path, no-path, last-path, refused}
+use Rattle.temporal.specs.Cursor.{Reply, path, no_path, last_path, refused}
 use Rattle.temporal.specs.FirstNext.{Question}
-use Rattle.plan.specs.Fault.{faultNumber}
+use Rattle.plan.specs.Fault.{fault_number}
 use Rattle.listing.specs.declared.WayAnswer.{WayAnswer}
 use Rattle.listing.specs.declared.WayAnswer.TheVariants.{Path, NoPath, LastPath, Refused}
 
 -- the reply that an answer of the code is; a fault stands for its number
-abbrev pub replyOf : WayAnswer → Reply
-replyOf (Path h) = path h
-replyOf NoPath = no-path
-replyOf LastPath = last-path
-replyOf (Refused f) = refused (faultNumber f)
+abbrev pub reply_of : WayAnswer → Reply
+reply_of (Path h) = path h
+reply_of NoPath = no_path
+reply_of LastPath = last_path
+reply_of (Refused f) = refused (fault_number f)
 
 -- what a call with these arguments asks about
 abbrev pub question : List ℕ → ℕ → ℕ → ℕ → ℕ → ℕ → ℕ → Question

@@ -1,19 +1,20 @@
 // Operations 7 and 8: first way and next way, which list the shortest walks of a pair in lexicographic order, one a call.
 // A call is told where the listing stands by the way buffer alone.
+#![tactic(auto)]
 ghost use Rattle.std.specs.Prelude.{◌≡◌, ◌≤◌, length, replicate};
-ghost use Rattle.temporal.specs.Cause.{planFault};
-ghost use Rattle.temporal.specs.Outcome.{over, workSize};
+ghost use Rattle.temporal.specs.Cause.{plan_fault};
+ghost use Rattle.temporal.specs.Outcome.{over, work_size};
 ghost use Rattle.temporal.specs.Cursor.{first_way, next_Way};
-ghost use Rattle.temporal.specs.FirstNext.{wayWork, WayContract};
-ghost use Rattle.listing.specs.Answer.{replyOf, question};
-ghost use Rattle.listing.specs.Work.{WayReady, Worked, wayOutcome};
+ghost use Rattle.temporal.specs.FirstNext.{way_work, WayContract};
+ghost use Rattle.listing.specs.Answer.{reply_of, question};
+ghost use Rattle.listing.specs.Work.{WayReady, Worked, way_outcome};
 
 use calls::CallCheck;
 use plan::{CallFault, CheckAnswer, Fault};
 use ways::Pair;
 
 // What first way and next way answer: a way, with its hops; no way; no way after the one in the buffer; or a refusal.
-#[derive(Drop)]
+#[derive(Clone, Copy)]
 pub enum WayAnswer {
     Path(usize),
     NoPath,
@@ -23,8 +24,8 @@ pub enum WayAnswer {
 
 // Clears the operations' part of the work area.
 fn clear_area(work: &mut [u64], n: usize, t: usize)
-    requires { (workSize n t ≤ length work.old) × (t ≤ 255) }
-    ensures { work.new ≡ over (replicate (workSize n t) 0) work.old }
+    requires { (work_size n t ≤ length work.old) × (t ≤ 255) }
+    ensures { work.new ≡ over (replicate (work_size n t) 0) work.old }
 {
     memory::clear(work, 4 * (n * (t + 1)));
 }
@@ -43,7 +44,7 @@ fn first_work(
 ) -> WayAnswer
     requires { WayReady (question plan.now n t g h source destination) way.old work.old }
     ensures { Worked first_way (question plan.now n t g h source destination) way.old work.old
-        (replyOf result) way.new work.new }
+        (reply_of result) way.new work.new }
 {
     if forward::pass(work, plan, n, t, g, h, h, source, 0, 0) {
         return WayAnswer::Refused(Fault::Call(CallFault::TooMany));
@@ -79,8 +80,8 @@ fn first_cleared(
     work: &mut [u64],
 ) -> WayAnswer
     requires { WayReady (question plan.now n t g h source destination) way.old work.old }
-    ensures { wayOutcome (replyOf result) way.new work.new ≡
-        wayWork first_way (question plan.now n t g h source destination) way.old work.old }
+    ensures { way_outcome (reply_of result) way.new work.new ≡
+        way_work first_way (question plan.now n t g h source destination) way.old work.old }
 {
     let answer = first_work(plan, n, t, g, h, source, destination, way, work);
     clear_area(work, n, t);
@@ -99,9 +100,9 @@ fn first_accepted(
     way: &mut [u16],
     work: &mut [u64],
 ) -> WayAnswer
-    requires { planFault plan.now n t ≡ 0 }
+    requires { plan_fault plan.now n t ≡ 0 }
     ensures { WayContract first_way (question plan.now n t g h source destination) way.old
-        work.old (replyOf result) way.new work.new }
+        work.old (reply_of result) way.new work.new }
 {
     let CallCheck::Refused(fault) = calls::pair_call(
         n,
@@ -132,7 +133,7 @@ pub fn first_way(
     work: &mut [u64],
 ) -> WayAnswer
     ensures { WayContract first_way (question plan.now n t g h source destination) way.old
-        work.old (replyOf result) way.new work.new }
+        work.old (reply_of result) way.new work.new }
 {
     let CheckAnswer::Refused(fault) = plan::check(plan, n, t) else {
         return first_accepted(plan, n, t, g, h, source, destination, way, work);
@@ -154,7 +155,7 @@ fn next_work(
 ) -> WayAnswer
     requires { WayReady (question plan.now n t g h source destination) way.old work.old }
     ensures { Worked next_Way (question plan.now n t g h source destination) way.old work.old
-        (replyOf result) way.new work.new }
+        (reply_of result) way.new work.new }
 {
     if forward::pass(work, plan, n, t, g, h, h, source, 0, 0) {
         return WayAnswer::Refused(Fault::Call(CallFault::TooMany));
@@ -195,8 +196,8 @@ fn next_cleared(
     work: &mut [u64],
 ) -> WayAnswer
     requires { WayReady (question plan.now n t g h source destination) way.old work.old }
-    ensures { wayOutcome (replyOf result) way.new work.new ≡
-        wayWork next_Way (question plan.now n t g h source destination) way.old work.old }
+    ensures { way_outcome (reply_of result) way.new work.new ≡
+        way_work next_Way (question plan.now n t g h source destination) way.old work.old }
 {
     let answer = next_work(plan, n, t, g, h, source, destination, way, work);
     clear_area(work, n, t);
@@ -215,9 +216,9 @@ fn next_accepted(
     way: &mut [u16],
     work: &mut [u64],
 ) -> WayAnswer
-    requires { planFault plan.now n t ≡ 0 }
+    requires { plan_fault plan.now n t ≡ 0 }
     ensures { WayContract next_Way (question plan.now n t g h source destination) way.old work.old
-        (replyOf result) way.new work.new }
+        (reply_of result) way.new work.new }
 {
     let CallCheck::Refused(fault) = calls::pair_call(
         n,
@@ -248,7 +249,7 @@ pub fn next_way(
     work: &mut [u64],
 ) -> WayAnswer
     ensures { WayContract next_Way (question plan.now n t g h source destination) way.old work.old
-        (replyOf result) way.new work.new }
+        (reply_of result) way.new work.new }
 {
     let CheckAnswer::Refused(fault) = plan::check(plan, n, t) else {
         return next_accepted(plan, n, t, g, h, source, destination, way, work);

@@ -1,1 +1,2 @@
 // Laws alone: lists, sums and order.
+#![tactic(auto)]

@@ -1,5 +1,6 @@
 // What the programs that read a plan share: plan records from standard input, and a text on standard output. A failed read or write is
 // told on standard error, in the line that the program gives.
+#![tactic(auto)]
 ghost use Rattle.input.specs.Input.{InputWithin};
 
 use input::Input;

@@ -1,6 +1,7 @@
 // The load program for units that turn round in two slots, the usual ones (document 02, C-20): plan records on standard
 // input, loads on standard output. It reads no more than one byte over the largest input, which is enough to refuse. After a failed
 // read nothing is printed.
+#![tactic(auto)]
 ghost use Rattle.temporal.specs.Plan.{turning};
 ghost use Rattle.report.specs.Report.{Texted};
 

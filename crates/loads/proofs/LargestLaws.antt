@@ -7,7 +7,7 @@ use mathlib.Core.Path.{◌≡◌}
 use mathlib.Core.Logic.{by_cases}
 use mathlib.Core.List.{List}
 use lib.ListN.{get_or}
-use Rattle.loads.specs.Largest.{betterOf, Largest}
+use Rattle.loads.specs.Largest.{better_of, Largest}
 
 -- best is the lowest place of the largest of the first u entries
 pub record Best (l : List ℕ) (from k best u : ℕ) : Type 0 where
@@ -17,8 +17,8 @@ pub record Best (l : List ℕ) (from k best u : ℕ) : Type 0 where
   pub lowest : (v : ℕ) → v < best → get_or l (from + v) 0 < get_or l (from + best) 0
 
 module _ (l : List ℕ) (from k : ℕ) where
-  pub best-first : 0 < k → Best l from k 0 1
-  best-first h =
+  pub best_first : 0 < k → Best l from k 0 1
+  best_first h =
       record {
         few = omega arith;
         within = omega arith;
@@ -26,9 +26,9 @@ module _ (l : List ℕ) (from k : ℕ) where
         lowest = λ v g. absurd (omega arith);
       }
 
-  pub best-kept :
+  pub best_kept :
       (best u : ℕ) → u < k → get_or l (from + u) 0 ≤ get_or l (from + best) 0 → Best l from k best u → Best l from k best (u + 1)
-  best-kept best u h less b =
+  best_kept best u h less b =
       let w = b.within in
       record {
         few = omega arith;
@@ -37,9 +37,9 @@ module _ (l : List ℕ) (from k : ℕ) where
         lowest = b.lowest;
       }
 
-  pub best-new :
+  pub best_new :
       (best u : ℕ) → u < k → get_or l (from + best) 0 < get_or l (from + u) 0 → Best l from k best u → Best l from k u (u + 1)
-  best-new best u h more b =
+  best_new best u h more b =
       record {
         few = omega arith;
         within = omega arith;
@@ -49,23 +49,23 @@ module _ (l : List ℕ) (from k : ℕ) where
         lowest = λ v g. let less = b.largest v g in omega arith;
       }
 
-  pub better-new : (best u : ℕ) → get_or l (from + best) 0 < get_or l (from + u) 0 → betterOf l from best u ≡ u
-  unfolding betterOf
-  better-new best u h = rw (lt-ltb (get_or l (from + best) 0) (get_or l (from + u) 0) h)
+  pub better_new : (best u : ℕ) → get_or l (from + best) 0 < get_or l (from + u) 0 → better_of l from best u ≡ u
+  unfolding better_of
+  better_new best u h = rw (lt-ltb (get_or l (from + best) 0) (get_or l (from + u) 0) h)
 
-  pub better-kept : (best u : ℕ) → get_or l (from + u) 0 ≤ get_or l (from + best) 0 → betterOf l from best u ≡ best
-  unfolding betterOf
-  better-kept best u h = rw (le-ltb (get_or l (from + best) 0) (get_or l (from + u) 0) h)
+  pub better_kept : (best u : ℕ) → get_or l (from + u) 0 ≤ get_or l (from + best) 0 → better_of l from best u ≡ best
+  unfolding better_of
+  better_kept best u h = rw (le-ltb (get_or l (from + best) 0) (get_or l (from + u) 0) h)
 
-  pub best-next :
-      (best u r : ℕ) → u < k → r ≡ betterOf l from best u → Best l from k best u → Best l from k r (u + 1)
-  best-next best u r h e b =
+  pub best_next :
+      (best u r : ℕ) → u < k → r ≡ better_of l from best u → Best l from k best u → Best l from k r (u + 1)
+  best_next best u r h e b =
       by_cases (dec_lt (get_or l (from + best) 0) (get_or l (from + u) 0))
-      (λ more. rw (e, better-new best u more) (best-new best u h more b))
-      (λ less. rw (e, better-kept best u (omega arith)) (best-kept best u h (omega arith) b))
+      (λ more. rw (e, better_new best u more) (best_new best u h more b))
+      (λ less. rw (e, better_kept best u (omega arith)) (best_kept best u h (omega arith) b))
 
-  pub best-all : (best u : ℕ) → k ≤ u → Best l from k best u → Largest l from k best
-  best-all best u h b =
+  pub best_all : (best u : ℕ) → k ≤ u → Best l from k best u → Largest l from k best
+  best_all best u h b =
       let f = b.few in
       let w = b.within in
       record { within = omega arith; largest = λ v g. b.largest v (omega arith); lowest = b.lowest }

@@ -1,24 +1,25 @@
 // Operations 5 and 6, loads and busiest, and document 02's partial loads, over the tallies.
+#![tactic(auto)]
 ghost use Rattle.std.specs.Prelude.{◌≡◌, ◌+◌, ◌<◌, ◌≤◌, length};
 ghost use Rattle.temporal.specs.Plan.{units};
 ghost use Rattle.temporal.specs.Bytes.{plan_of};
-ghost use Rattle.temporal.specs.Cause.{first, termsCauses, planFault};
-ghost use Rattle.temporal.specs.OutcomePair.{partlyLoaded, partialLoads, loads, compared, busiest};
-ghost use Rattle.loads.specs.Answer.{loadsOutcome, loadBuffers, busiestOutcome};
-ghost use Rattle.loads.specs.Largest.{betterOf, Largest, LoadsReady, BusiestReady};
+ghost use Rattle.temporal.specs.Cause.{first, terms_causes, plan_fault};
+ghost use Rattle.temporal.specs.OutcomePair.{partly_loaded, partial_loads, loads, compared, busiest};
+ghost use Rattle.loads.specs.Answer.{loads_outcome, load_buffers, busiest_outcome};
+ghost use Rattle.loads.specs.Largest.{better_of, Largest, LoadsReady, BusiestReady};
 
 use calls::CallCheck;
 use plan::{CallFault, CheckAnswer, Fault};
 
 // What loads and partial loads answer.
-#[derive(Drop)]
+#[derive(Clone, Copy)]
 pub enum LoadsAnswer {
     Loaded,
     Refused(Fault),
 }
 
 // What busiest answers.
-#[derive(Drop)]
+#[derive(Clone, Copy)]
 pub enum BusiestAnswer {
     Station(usize),
     Refused(Fault),
@@ -27,7 +28,7 @@ pub enum BusiestAnswer {
 // Of two places from a place on, the second where it holds the larger number, else the first.
 fn better(list: &[u64], from: usize, best: usize, u: usize) -> usize
     requires { (from + best < length list.now) × (from + u < length list.now) }
-    ensures { result ≡ betterOf list.now from best u }
+    ensures { result ≡ better_of list.now from best u }
 {
     let top = from + best;
     let at = from + u;
@@ -64,9 +65,9 @@ pub fn partial_loads_work(
     k: usize,
 ) -> LoadsAnswer
     requires { LoadsReady plan.now n t (units g h) k pairs.old sums.old work.old }
-    ensures { loadsOutcome result (loadBuffers pairs.new sums.new work.new) ≡
-        partlyLoaded (plan_of plan.now n t (units g h)) k
-        (loadBuffers pairs.old sums.old work.old) }
+    ensures { loads_outcome result (load_buffers pairs.new sums.new work.new) ≡
+        partly_loaded (plan_of plan.now n t (units g h)) k
+        (load_buffers pairs.old sums.old work.old) }
 {
     if tallies::tally(work, plan, n, t, g, h, k) {
         memory::clear(pairs, n);
@@ -93,9 +94,9 @@ fn partial_loads_asked(
     h: usize,
     k: usize,
 ) -> LoadsAnswer
-    requires { (planFault plan.now n t ≡ 0) × (first (termsCauses (units g h)) ≡ 0) }
-    ensures { loadsOutcome result (loadBuffers pairs.new sums.new work.new) ≡
-        partialLoads plan.now n t (units g h) k (loadBuffers pairs.old sums.old work.old) }
+    requires { (plan_fault plan.now n t ≡ 0) × (first (terms_causes (units g h)) ≡ 0) }
+    ensures { loads_outcome result (load_buffers pairs.new sums.new work.new) ≡
+        partial_loads plan.now n t (units g h) k (load_buffers pairs.old sums.old work.old) }
 {
     if n < k {
         return LoadsAnswer::Refused(Fault::Call(CallFault::Sources));
@@ -124,9 +125,9 @@ fn partial_loads_accepted(
     h: usize,
     k: usize,
 ) -> LoadsAnswer
-    requires { planFault plan.now n t ≡ 0 }
-    ensures { loadsOutcome result (loadBuffers pairs.new sums.new work.new) ≡
-        partialLoads plan.now n t (units g h) k (loadBuffers pairs.old sums.old work.old) }
+    requires { plan_fault plan.now n t ≡ 0 }
+    ensures { loads_outcome result (load_buffers pairs.new sums.new work.new) ≡
+        partial_loads plan.now n t (units g h) k (load_buffers pairs.old sums.old work.old) }
 {
     let CallCheck::Refused(fault) = calls::terms_call(g, h) else {
         return partial_loads_asked(pairs, sums, work, plan, n, t, g, h, k);
@@ -147,8 +148,8 @@ pub fn partial_loads(
     sums: &mut [u64],
     work: &mut [u64],
 ) -> LoadsAnswer
-    ensures { loadsOutcome result (loadBuffers pairs.new sums.new work.new) ≡
-        partialLoads plan.now n t (units g h) k (loadBuffers pairs.old sums.old work.old) }
+    ensures { loads_outcome result (load_buffers pairs.new sums.new work.new) ≡
+        partial_loads plan.now n t (units g h) k (load_buffers pairs.old sums.old work.old) }
 {
     let CheckAnswer::Refused(fault) = plan::check(plan, n, t) else {
         return partial_loads_accepted(pairs, sums, work, plan, n, t, g, h, k);
@@ -167,8 +168,8 @@ pub fn loads(
     sums: &mut [u64],
     work: &mut [u64],
 ) -> LoadsAnswer
-    ensures { loadsOutcome result (loadBuffers pairs.new sums.new work.new) ≡
-        loads plan.now n t (units g h) (loadBuffers pairs.old sums.old work.old) }
+    ensures { loads_outcome result (load_buffers pairs.new sums.new work.new) ≡
+        loads plan.now n t (units g h) (load_buffers pairs.old sums.old work.old) }
 {
     partial_loads(plan, n, t, g, h, n, pairs, sums, work)
 }
@@ -183,7 +184,7 @@ fn busiest_work(
     h: usize,
 ) -> BusiestAnswer
     requires { BusiestReady plan.now n t (units g h) work.old }
-    ensures { busiestOutcome result work.new ≡ compared (plan_of plan.now n t (units g h)) work.old }
+    ensures { busiest_outcome result work.new ≡ compared (plan_of plan.now n t (units g h)) work.old }
 {
     if tallies::tally(work, plan, n, t, g, h, n) {
         memory::clear(work, 4 * (n * (t + 1)));
@@ -204,8 +205,8 @@ fn busiest_asked(
     g: usize,
     h: usize,
 ) -> BusiestAnswer
-    requires { (planFault plan.now n t ≡ 0) × (first (termsCauses (units g h)) ≡ 0) }
-    ensures { busiestOutcome result work.new ≡ busiest plan.now n t (units g h) work.old }
+    requires { (plan_fault plan.now n t ≡ 0) × (first (terms_causes (units g h)) ≡ 0) }
+    ensures { busiest_outcome result work.new ≡ busiest plan.now n t (units g h) work.old }
 {
     if work.len() < 4 * (n * (t + 1)) {
         return BusiestAnswer::Refused(Fault::Call(CallFault::Short));
@@ -222,8 +223,8 @@ fn busiest_accepted(
     g: usize,
     h: usize,
 ) -> BusiestAnswer
-    requires { planFault plan.now n t ≡ 0 }
-    ensures { busiestOutcome result work.new ≡ busiest plan.now n t (units g h) work.old }
+    requires { plan_fault plan.now n t ≡ 0 }
+    ensures { busiest_outcome result work.new ≡ busiest plan.now n t (units g h) work.old }
 {
     let CallCheck::Refused(fault) = calls::terms_call(g, h) else {
         return busiest_asked(work, plan, n, t, g, h);
@@ -240,7 +241,7 @@ pub fn busiest(
     h: usize,
     work: &mut [u64],
 ) -> BusiestAnswer
-    ensures { busiestOutcome result work.new ≡ busiest plan.now n t (units g h) work.old }
+    ensures { busiest_outcome result work.new ≡ busiest plan.now n t (units g h) work.old }
 {
     let CheckAnswer::Refused(fault) = plan::check(plan, n, t) else {
         return busiest_accepted(work, plan, n, t, g, h);

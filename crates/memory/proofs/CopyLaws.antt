@@ -17,14 +17,14 @@ pub record Copying (source : List ℕ) (from k i : ℕ) (old now : List ℕ) : T
   pub same_length : length now ≡ length old
 
 module _ (source : List ℕ) (from k : ℕ) (old : List ℕ) where
-  pub copying-none : Copying source from k 0 old old
-  copying-none =
+  pub copying_none : Copying source from k 0 old old
+  copying_none =
       record { within = omega arith; here = λ j h. absurd (omega arith); beyond = refl; same_length = refl }
 
-  pub copying-more :
+  pub copying_more :
       (i : ℕ) (now : List ℕ) → i < k → k ≤ length old → Copying source from k i old now →
       Copying source from k (i + 1) old (set now i (get_or source (from + i) 0))
-  copying-more i now h fits c =
+  copying_more i now h fits c =
       let size = c.same_length in
       record {
         within = omega arith;
@@ -36,7 +36,7 @@ module _ (source : List ℕ) (from k : ℕ) (old : List ℕ) where
         same_length = length-set now i (get_or source (from + i) 0) ∙ c.same_length;
       }
 
-  pub copying-all : (i : ℕ) (now : List ℕ) → k ≤ i → Copying source from k i old now → Copied source from k old now
-  copying-all i now h c =
+  pub copying_all : (i : ℕ) (now : List ℕ) → k ≤ i → Copying source from k i old now → Copied source from k old now
+  copying_all i now h c =
       let w = c.within in
       record { here = λ j g. c.here j (omega arith); beyond = c.beyond; same_length = c.same_length }

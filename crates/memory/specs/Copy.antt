@@ -10,5 +10,5 @@ pub record Copied (source : List ℕ) (from k : ℕ) (old new : List ℕ) : Type
 
 -- what copying asks
 pub record Copyable (source : List ℕ) (from k : ℕ) (table : List ℕ) : Type 0 where
-  pub source-room : from + k ≤ length source
-  pub table-room : k ≤ length table
+  pub source_room : from + k ≤ length source
+  pub table_room : k ≤ length table

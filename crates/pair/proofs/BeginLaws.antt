@@ -6,38 +6,38 @@ use mathlib.Core.Bool.{◌||◌}
 use mathlib.Core.List.{List, ◌++◌}
 use lib.ListN.{length}
 use Rattle.temporal.specs.Plan.{Terms}
-use Rattle.temporal.specs.Cause.{planFault, planCauses, pairCauses}
-use Rattle.temporal.specs.Outcome.{Outcome, entered, short, workSize}
+use Rattle.temporal.specs.Cause.{plan_fault, plan_causes, pair_causes}
+use Rattle.temporal.specs.Outcome.{Outcome, entered, short, work_size}
 use Rattle.temporal.specs.OutcomePair.{PairBuffers}
-use Rattle.walks.proofs.EnteredLaws.{entered-plan, entered-call, unless-some, unless-none, refusedWith}
-use Rattle.plan.specs.Fault.{planNumber, callNumber, checkNumber}
+use Rattle.walks.proofs.EnteredLaws.{entered_plan, entered_call, unless_some, unless_none, refused_with}
+use Rattle.plan.specs.Fault.{plan_number, call_number, check_number}
 use Rattle.plan.specs.declared.PlanFault.{PlanFault}
 use Rattle.plan.specs.declared.CallFault.{CallFault}
 use Rattle.plan.specs.declared.CheckAnswer.{CheckAnswer}
 use Rattle.plan.specs.declared.CheckAnswer.TheVariants as check-answer
 use Rattle.plan.proofs.Answers.{number-positive, call-number-within}
-use Rattle.calls.specs.Call.{pairCallFault, callCheckNumber}
+use Rattle.calls.specs.Call.{pair_call_fault, call_check_number}
 use Rattle.calls.specs.declared.CallCheck.{CallCheck}
 use Rattle.calls.specs.declared.CallCheck.TheVariants as call-check
-use Rattle.calls.proofs.CallLaws.{free-call}
-use Rattle.pair.specs.Answer.{pairBuffers}
+use Rattle.calls.proofs.CallLaws.{free_call}
+use Rattle.pair.specs.Answer.{pair_buffers}
 use Rattle.pair.specs.Throughs.{PairReady}
 
 -- an accepted plan and a free call are what counting asks
-pub call-free :
-    (bs : List ℕ) (n t : ℕ) (terms : Terms) (s z : ℕ) (table area : List ℕ) → planFault bs n t ≡ 0 → (r : CallCheck) →
-    callCheckNumber r ≡ pairCallFault n t terms s z (length table) n (length area) → r ≡ call-check.Free →
+pub call_free :
+    (bs : List ℕ) (n t : ℕ) (terms : Terms) (s z : ℕ) (table area : List ℕ) → plan_fault bs n t ≡ 0 → (r : CallCheck) →
+    call_check_number r ≡ pair_call_fault n t terms s z (length table) n (length area) → r ≡ call-check.Free →
     PairReady bs n t terms s z table area
-call-free bs n t terms s z table area ok r answer e =
-    let f = free-call n t terms s z (length table) n (length area) (sym answer ∙ ap callCheckNumber e) in
+call_free bs n t terms s z table area ok r answer e =
+    let f = free_call n t terms s z (length table) n (length area) (sym answer ∙ ap call_check_number e) in
     record {
       accepted = ok;
       units = f.units;
       source = f.source;
       destination = f.destination;
       different = f.different;
-      table = f.lent-room;
-      area = f.area-room;
+      table = f.lent_room;
+      area = f.area_room;
     }
 
 module _ (bs : List ℕ) (n t : ℕ) (terms : Terms) (s z : ℕ) (table area : List ℕ) {Values : Type 0} (zeros : Values)
@@ -45,35 +45,35 @@ module _ (bs : List ℕ) (n t : ℕ) (terms : Terms) (s z : ℕ) (table area : L
   -- the operation, from its work
   abbrev begun : Outcome Values PairBuffers
   begun =
-      entered (planCauses bs n t ++ pairCauses terms n s z (short n table || short (workSize n t) area)) zeros (pairBuffers table area) work
+      entered (plan_causes bs n t ++ pair_causes terms n s z (short n table || short (work_size n t) area)) zeros (pair_buffers table area) work
 
   -- a plan that check refuses
-  pub begins-plan :
-      (r : CheckAnswer) (f : PlanFault) → checkNumber r ≡ planFault bs n t → r ≡ check-answer.Refused f →
+  pub begins_plan :
+      (r : CheckAnswer) (f : PlanFault) → check_number r ≡ plan_fault bs n t → r ≡ check-answer.Refused f →
       ◌≡◌ {A = Outcome Values PairBuffers}
-      (record { number = planNumber f; values = zeros; buffers = pairBuffers table area }) begun
-  begins-plan r f answer e =
-      let number : planNumber f ≡ planFault bs n t = ap checkNumber (sym e) ∙ answer in
+      (record { number = plan_number f; values = zeros; buffers = pair_buffers table area }) begun
+  begins_plan r f answer e =
+      let number : plan_number f ≡ plan_fault bs n t = ap check_number (sym e) ∙ answer in
       let some = number-positive f in
-      ap (refusedWith zeros (pairBuffers table area) work) number ∙
-      sym (entered-plan zeros (pairBuffers table area) work bs n t _ (omega arith))
+      ap (refused_with zeros (pair_buffers table area) work) number ∙
+      sym (entered_plan zeros (pair_buffers table area) work bs n t _ (omega arith))
 
-  module _ (ok : planFault bs n t ≡ 0) (r : CallCheck)
-      (answer : callCheckNumber r ≡ pairCallFault n t terms s z (length table) n (length area)) where
+  module _ (ok : plan_fault bs n t ≡ 0) (r : CallCheck)
+      (answer : call_check_number r ≡ pair_call_fault n t terms s z (length table) n (length area)) where
     -- 12, 14, 6, 7 or 8
-    pub begins-call :
+    pub begins_call :
         (f : CallFault) → r ≡ call-check.Refused f →
         ◌≡◌ {A = Outcome Values PairBuffers}
-        (record { number = callNumber f; values = zeros; buffers = pairBuffers table area }) begun
-    unfolding entered pairCallFault
-    begins-call f e =
-        let number : callNumber f ≡ pairCallFault n t terms s z (length table) n (length area) = ap callCheckNumber (sym e) ∙ answer in
+        (record { number = call_number f; values = zeros; buffers = pair_buffers table area }) begun
+    unfolding entered pair_call_fault
+    begins_call f e =
+        let number : call_number f ≡ pair_call_fault n t terms s z (length table) n (length area) = ap call_check_number (sym e) ∙ answer in
         let some = call-number-within f in
-        ap (refusedWith zeros (pairBuffers table area) work) number ∙
-        sym (entered-call zeros (pairBuffers table area) work bs n t _ ok ∙ unless-some _ _ _ (omega arith))
+        ap (refused_with zeros (pair_buffers table area) work) number ∙
+        sym (entered_call zeros (pair_buffers table area) work bs n t _ ok ∙ unless_some _ _ _ (omega arith))
 
     -- none of them
-    pub begins-works : r ≡ call-check.Free → begun ≡ work
-    unfolding entered pairCallFault
-    begins-works e =
-        entered-call zeros (pairBuffers table area) work bs n t _ ok ∙ unless-none _ _ _ (sym answer ∙ ap callCheckNumber e)
+    pub begins_works : r ≡ call-check.Free → begun ≡ work
+    unfolding entered pair_call_fault
+    begins_works e =
+        entered_call zeros (pair_buffers table area) work bs n t _ ok ∙ unless_none _ _ _ (sym answer ∙ ap call_check_number e)

@@ -14,40 +14,40 @@ use lib.Dec.{ltb, eqb}
 use lib.ListN.{length, get_or, drop}
 use Rattle.temporal.specs.Lists.{select}
 use Rattle.temporal.specs.Plan.{Plan, Terms, units}
-use Rattle.temporal.specs.Walk.{isInterior}
-use Rattle.temporal.specs.Shortest.{hops, count, throughIn}
-use Rattle.temporal.specs.Foremost.{arrival, arrivesBy, walksBy}
+use Rattle.temporal.specs.Walk.{is_interior}
+use Rattle.temporal.specs.Shortest.{hops, count, through_in}
+use Rattle.temporal.specs.Foremost.{arrival, arrives_by, walks_by}
 use Rattle.temporal.specs.Bytes.{plan_of}
-use Rattle.temporal.specs.Cause.{tooMany, planFault}
-use Rattle.temporal.specs.Outcome.{workSize}
+use Rattle.temporal.specs.Cause.{is_too_many, plan_fault}
+use Rattle.temporal.specs.Outcome.{work_size}
 use Rattle.walks.proofs.Accepted.{accepted}
-use Rattle.walks.proofs.Adequacy.{bounded-ends}
-use Rattle.lists.proofs.BufferLaws.{later-drop}
-use Rattle.walks.proofs.ForemostLaws.{foremost-at-most, foremost-by-arrival}
-use Rattle.lists.proofs.ListLaws.{select-none}
-use Rattle.walks.proofs.PlanLaws.{slots-within}
-use Rattle.walks.proofs.ShortestLaws.{hops-empty, hops-bound}
-use Rattle.pass.specs.Column.{blockColumn, whole}
+use Rattle.walks.proofs.Adequacy.{bounded_ends}
+use Rattle.lists.proofs.BufferLaws.{later_drop}
+use Rattle.walks.proofs.ForemostLaws.{foremost_at_most, foremost_by_arrival}
+use Rattle.lists.proofs.ListLaws.{select_none}
+use Rattle.walks.proofs.PlanLaws.{slots_within}
+use Rattle.walks.proofs.ShortestLaws.{hops_empty, hops_bound}
+use Rattle.pass.specs.Column.{block_column, whole}
 use Rattle.pass.specs.declared.Ended.{Ended}
 use Rattle.pass.specs.PassedColumns.{SettledAt, ColumnsPassed, slot_of}
 use Rattle.stale.specs.Depth.{DepthOf}
-use Rattle.forward.specs.Passed.{pass_size, mostColumns, Lent, DepthReady, UntilReady}
-use Rattle.forward.proofs.SizeLaws.{first_part, some-column, whole-lent, area-fits}
-use Rattle.forward.proofs.UseLaws.{block_row, settled-in, not-settled, whole-few}
-use Rattle.pair.specs.Throughs.{throughEntry, Storing, StoredBlock, PairReady, Asks, lastSlot, BlockReady}
+use Rattle.forward.specs.Passed.{pass_size, most_columns, Lent, DepthReady, UntilReady}
+use Rattle.forward.proofs.SizeLaws.{first_part, some_column, whole_lent, area_fits}
+use Rattle.forward.proofs.UseLaws.{block_row, settled_in, not_settled, whole_few}
+use Rattle.pair.specs.Throughs.{through_entry, Storing, StoredBlock, PairReady, Asks, last_slot, BlockReady}
 use Rattle.pair.specs.Throughs.{PairBy, BlockDone, ThroughsReady, BlocksReady, Throughs}
-use Rattle.pair.proofs.ThroughLaws.{entry-itself, entry-no-path, entry-rest}
+use Rattle.pair.proofs.ThroughLaws.{entry_itself, entry_no_path, entry_rest}
 
 -- an end is never inside
-pub through-destination : (p : Plan) (s z : ℕ) (l : List (List ℕ)) → throughIn p s z l z ≡ 0
-unfolding isInterior
-through-destination p s z l =
-    ap length (select-none l (λ w m. rw (eq-eqb z z refl) (and-false (not (eqb z s)))))
+pub through_destination : (p : Plan) (s z : ℕ) (l : List (List ℕ)) → through_in p s z l z ≡ 0
+unfolding is_interior
+through_destination p s z l =
+    ap length (select_none l (λ w m. rw (eq-eqb z z refl) (and-false (not (eqb z s)))))
 
 -- of no walks, none has a station inside
-pub through-no-path : (p : Plan) (s z v : ℕ) (l : List (List ℕ)) → l ≡ [] → throughIn p s z l v ≡ 0
+pub through_no_path : (p : Plan) (s z v : ℕ) (l : List (List ℕ)) → l ≡ [] → through_in p s z l v ≡ 0
 unfolding select
-through-no-path p s z v l e = rw e
+through_no_path p s z v l e = rw e
 
 difference : (row through count whole : ℕ) → row + through ≡ count → whole ≡ count → whole - row ≡ through
 difference row through count whole e f = omega arith
@@ -55,30 +55,30 @@ difference row through count whole e f = omega arith
 -- ---- one block
 
 -- the source is not the station that the pass waits for
-pub waits-for-another : (n s z until : ℕ) → s < n → s ≢ z → (until ≡ n) ⊎ (until ≡ z) → s ≢ until
-waits-for-another n s z until source different asks =
+pub waits_for_another : (n s z until : ℕ) → s < n → s ≢ z → (until ≡ n) ⊎ (until ≡ z) → s ≢ until
+waits_for_another n s z until source different asks =
     ⊎_elim (λ none q. omega arith) (λ same q. different (q ∙ same)) asks
 
 module _ (bs : List ℕ) (n t : ℕ) (terms : Terms) (depth s z until low block : ℕ) (table area : List ℕ)
     (ready : BlockReady bs n t terms depth s z until low block table area) where
-  ok : planFault bs n t ≡ 0
+  ok : plan_fault bs n t ≡ 0
   ok = ready.accepted
 
   abbrev p : Plan
   p = plan_of bs n t terms
 
   other : s ≢ until
-  other = waits-for-another n s z until ready.source ready.different ready.asks.which
+  other = waits_for_another n s z until ready.source ready.different ready.asks.which
 
   -- where the blocks before settled cause 9, it does not hold
-  pub settled-few : (known : Bool) → known ≡ (ltb 0 low && eqb until n) → known ≡ true → tooMany p s ≡ false
-  settled-few known is e =
+  pub settled_few : (known : Bool) → known ≡ (ltb 0 low && eqb until n) → known ≡ true → is_too_many p s ≡ false
+  settled_few known is e =
       let (later, none) = (and-eq-true_iff (ltb 0 low) (eqb until n)).0 (sym is ∙ e) in
       ready.few (ltb-true 0 low later) (eqb-true until n none)
 
   -- the pass can be made
-  pub block-pass : UntilReady bs n t terms depth s until block area
-  block-pass =
+  pub block_pass : UntilReady bs n t terms depth s until block area
+  block_pass =
       record {
         accepted = ok;
         units = ready.units;
@@ -90,87 +90,87 @@ module _ (bs : List ℕ) (n t : ℕ) (terms : Terms) (depth s z until low block 
       }
 
   module _ (area' : List ℕ) (r : Ended)
-      (passed : ColumnsPassed bs n t terms s until whole (blockColumn low block) block (pass_size n t terms depth block) area area' r) where
+      (passed : ColumnsPassed bs n t terms s until whole (block_column low block) block (pass_size n t terms depth block) area area' r) where
     -- a count over 2^64 - 1
-    pub block-over : slot_of r ≡ 0 → BlockDone bs n t terms depth s z until low block table area table area' 0
-    block-over e =
+    pub block_over : slot_of r ≡ 0 → BlockDone bs n t terms depth s z until low block table area table area' 0
+    block_over e =
         record {
-          over = λ q. not-settled bs n t terms s until ok other (blockColumn low block) block area' r passed.ends e;
+          over = λ q. not_settled bs n t terms s until ok other (block_column low block) block area' r passed.ends e;
           settled = λ q. absurd (q refl);
           here = λ q. absurd (q refl);
           before = λ v h. refl;
-          table-beyond = refl;
-          table-length = refl;
-          area-beyond = passed.beyond;
-          area-length = passed.same_length;
+          table_beyond = refl;
+          table_length = refl;
+          area_beyond = passed.beyond;
+          area_length = passed.same_length;
         }
 
     module _ (d : slot_of r ≢ 0) where
-      at-end : SettledAt bs n t terms s until whole (blockColumn low block) block area' (slot_of r)
-      at-end = settled-in bs n t terms s until ok other (blockColumn low block) block area' r passed.ends d
+      at_end : SettledAt bs n t terms s until whole (block_column low block) block area' (slot_of r)
+      at_end = settled_in bs n t terms s until ok other (block_column low block) block area' r passed.ends d
 
       -- the pair's walks by that slot are no more
-      small : count (walksBy p s z (slot_of r)) ≤ 18446744073709551615
+      small : count (walks_by p s z (slot_of r)) ≤ 18446744073709551615
       unfolding plan_of
-      small = ⊎_elim none-asked destination-asked ready.asks.which
+      small = ⊎_elim none_asked destination_asked ready.asks.which
         where
-          none-asked : until ≡ n → count (walksBy p s z (slot_of r)) ≤ 18446744073709551615
-          none-asked q = at-end.stations (omega arith) z ready.destination
+          none_asked : until ≡ n → count (walks_by p s z (slot_of r)) ≤ 18446744073709551615
+          none_asked q = at_end.stations (omega arith) z ready.destination
 
-          destination-asked : until ≡ z → count (walksBy p s z (slot_of r)) ≤ 18446744073709551615
-          destination-asked q =
-              let slot : slot_of r ≡ min t (arrival p s z) = at-end.slot ∙ ap (λ v. min t (arrival p s v)) q in
-              rw (ap (walksBy p s z) slot ∙ foremost-by-arrival bs n t terms ok s z)
-              (foremost-at-most p (slots-within bs n t terms ok) s z 18446744073709551615
-              (λ x h. at-end.appearances z x ready.destination (omega arith)))
+          destination_asked : until ≡ z → count (walks_by p s z (slot_of r)) ≤ 18446744073709551615
+          destination_asked q =
+              let slot : slot_of r ≡ min t (arrival p s z) = at_end.slot ∙ ap (λ v. min t (arrival p s v)) q in
+              rw (ap (walks_by p s z) slot ∙ foremost_by_arrival bs n t terms ok s z)
+              (foremost_at_most p (slots_within bs n t terms ok) s z 18446744073709551615
+              (λ x h. at_end.appearances z x ready.destination (omega arith)))
 
       -- the walks by that slot are none, or have few hops
-      few-hops : (walksBy p s z (slot_of r) ≡ []) ⊎ (hops (walksBy p s z (slot_of r)) < 65535)
-      unfolding walksBy plan_of
-      few-hops =
+      few_hops : (walks_by p s z (slot_of r) ≡ []) ⊎ (hops (walks_by p s z (slot_of r)) < 65535)
+      unfolding walks_by plan_of
+      few_hops =
           let most = (accepted bs n t ok).slots in
-          ⊎_elim inl (λ h. inr (omega arith)) (hops-bound (bounded-ends p (slots-within bs n t terms ok) s (arrivesBy z (slot_of r))))
+          ⊎_elim inl (λ h. inr (omega arith)) (hops_bound (bounded_ends p (slots_within bs n t terms ok) s (arrives_by z (slot_of r))))
 
-      here-hops : get_or area' z 0 ≡ hops (walksBy p s z (slot_of r))
-      here-hops = at-end.entries.station-hops z ready.destination
+      here_hops : get_or area' z 0 ≡ hops (walks_by p s z (slot_of r))
+      here_hops = at_end.entries.station_hops_law z ready.destination
 
-      here-count : get_or area' (n + z) 0 ≡ count (walksBy p s z (slot_of r))
-      here-count = at-end.entries.station-counts z ready.destination small
+      here_count : get_or area' (n + z) 0 ≡ count (walks_by p s z (slot_of r))
+      here_count = at_end.entries.station_counts_law z ready.destination small
 
       -- hops that are not 65535 are fewer
-      with-path : get_or area' z 0 ≢ 65535 → hops (walksBy p s z (slot_of r)) < 65535
-      with-path ne = ⊎_elim (λ empty. absurd (ne (here-hops ∙ hops-empty _ empty))) (λ h. h) few-hops
+      with_path : get_or area' z 0 ≢ 65535 → hops (walks_by p s z (slot_of r)) < 65535
+      with_path ne = ⊎_elim (λ empty. absurd (ne (here_hops ∙ hops_empty _ empty))) (λ h. h) few_hops
 
       row :
           (j : ℕ) → j < block → low + j ≢ z → get_or area' z 0 ≢ 65535 →
-          get_or area' (2 * n + z * block + j) 0 + throughIn p s z (walksBy p s z (slot_of r)) (low + j) ≡
-          count (walksBy p s z (slot_of r))
+          get_or area' (2 * n + z * block + j) 0 + through_in p s z (walks_by p s z (slot_of r)) (low + j) ≡
+          count (walks_by p s z (slot_of r))
       row j h ne path =
-          block_row low block bs n t terms s (slot_of r) area' ready.stations at-end.entries z j ready.destination h ne small
-          (with-path path)
+          block_row low block bs n t terms s (slot_of r) area' ready.stations at_end.entries z j ready.destination h ne small
+          (with_path path)
 
       -- what a stored entry is
-      entry-is :
+      entry_is :
           (j : ℕ) → j < block →
-          throughEntry area' n z low block j ≡ throughIn p s z (walksBy p s z (slot_of r)) (low + j)
-      entry-is j h =
+          through_entry area' n z low block j ≡ through_in p s z (walks_by p s z (slot_of r)) (low + j)
+      entry_is j h =
           by_cases (ℕ_discrete (low + j) z)
-          (λ q. entry-itself area' n z low block j q ∙
-          sym (ap (throughIn p s z (walksBy p s z (slot_of r))) q ∙ through-destination p s z (walksBy p s z (slot_of r))))
+          (λ q. entry_itself area' n z low block j q ∙
+          sym (ap (through_in p s z (walks_by p s z (slot_of r))) q ∙ through_destination p s z (walks_by p s z (slot_of r))))
           (λ ne. by_cases (ℕ_discrete (get_or area' z 0) 65535)
-          (λ q. entry-no-path area' n z low block j ne q ∙ sym (no-path q))
-          (λ path. entry-rest area' n z low block j ne path ∙ difference _ _ _ _ (row j h ne path) here-count))
+          (λ q. entry_no_path area' n z low block j ne q ∙ sym (no_path q))
+          (λ path. entry_rest area' n z low block j ne path ∙ difference _ _ _ _ (row j h ne path) here_count))
         where
-          no-path : get_or area' z 0 ≡ 65535 → throughIn p s z (walksBy p s z (slot_of r)) (low + j) ≡ 0
-          no-path q =
+          no_path : get_or area' z 0 ≡ 65535 → through_in p s z (walks_by p s z (slot_of r)) (low + j) ≡ 0
+          no_path q =
               ⊎_elim
-              (λ empty. through-no-path p s z (low + j) (walksBy p s z (slot_of r)) empty)
-              (λ some. let same = here-hops in absurd (omega arith))
-              few-hops
+              (λ empty. through_no_path p s z (low + j) (walks_by p s z (slot_of r)) empty)
+              (λ some. let same = here_hops in absurd (omega arith))
+              few_hops
 
       -- the block can be stored
-      pub block-store : Storing n z low block table area'
-      block-store =
+      pub block_store : Storing n z low block table area'
+      block_store =
           let size = passed.same_length in
           let room = ready.fits in
           record {
@@ -179,28 +179,28 @@ module _ (bs : List ℕ) (n t : ℕ) (terms : Terms) (depth s z until low block 
             stations = ready.stations;
             table = ready.table;
             fits = let first = first_part n t terms depth block in omega arith;
-            at_most = λ j h ne path. let both = row j h ne path in let whole = here-count in omega arith;
+            at_most = λ j h ne path. let both = row j h ne path in let whole = here_count in omega arith;
           }
 
       -- and then it is done
-      pub block-done :
+      pub block_done :
           (table' : List ℕ) → StoredBlock n z low block block area' table table' →
           BlockDone bs n t terms depth s z until low block table area table' area' (slot_of r)
-      block-done table' st =
+      block_done table' st =
           record {
             over = λ q. absurd (d q);
             settled = λ q. record {
-              slot = at-end.slot;
-              few = λ none. whole-few bs n t terms s ok ready.source until none (blockColumn low block) block area' (slot_of r) at-end;
-              pair-hops = here-hops;
-              pair-count = here-count;
+              slot = at_end.slot;
+              few = λ none. whole_few bs n t terms s ok ready.source until none (block_column low block) block area' (slot_of r) at_end;
+              pair_hops = here_hops;
+              pair_count = here_count;
             };
-            here = λ q j h. st.here j h ∙ entry-is j h;
+            here = λ q j h. st.here j h ∙ entry_is j h;
             before = st.before;
-            table-beyond = st.beyond;
-            table-length = st.same_length;
-            area-beyond = passed.beyond;
-            area-length = passed.same_length;
+            table_beyond = st.beyond;
+            table_length = st.same_length;
+            area_beyond = passed.beyond;
+            area_length = passed.same_length;
           }
 
 -- ---- the loop
@@ -210,29 +210,29 @@ pub record Blocks (bs : List ℕ) (n t : ℕ) (terms : Terms) (depth most s z un
     (table' area' : List ℕ) (slot : ℕ) : Type 0 where
   pub blocks : BlocksReady bs n t terms depth most s z until table area
   pub within : low ≤ n
-  pub some-slot : 0 < low → slot ≢ 0
+  pub some_slot : 0 < low → slot ≢ 0
   pub settled : 0 < low → PairBy bs n t terms s z until area' slot
   pub counted : (v : ℕ) → v < low
-      → get_or table' v 0 ≡ throughIn (plan_of bs n t terms) s z (walksBy (plan_of bs n t terms) s z (lastSlot bs n t terms s until)) v
-  pub table-beyond : drop n table' ≡ drop n table
-  pub table-length : length table' ≡ length table
-  pub area-beyond : drop (workSize n t) area' ≡ drop (workSize n t) area
-  pub area-length : length area' ≡ length area
+      → get_or table' v 0 ≡ through_in (plan_of bs n t terms) s z (walks_by (plan_of bs n t terms) s z (last_slot bs n t terms s until)) v
+  pub table_beyond : drop n table' ≡ drop n table
+  pub table_length : length table' ≡ length table
+  pub area_beyond : drop (work_size n t) area' ≡ drop (work_size n t) area
+  pub area_length : length area' ≡ length area
 
-pub blocks-none :
+pub blocks_none :
     (bs : List ℕ) (n t : ℕ) (terms : Terms) (depth most s z until : ℕ) (table area : List ℕ) (slot : ℕ) →
     BlocksReady bs n t terms depth most s z until table area → Blocks bs n t terms depth most s z until table area 0 table area slot
-blocks-none bs n t terms depth most s z until table area slot r =
+blocks_none bs n t terms depth most s z until table area slot r =
     record {
       blocks = r;
       within = omega arith;
-      some-slot = λ h. absurd (omega arith);
+      some_slot = λ h. absurd (omega arith);
       settled = λ h. absurd (omega arith);
       counted = λ v h. absurd (omega arith);
-      table-beyond = refl;
-      table-length = refl;
-      area-beyond = refl;
-      area-length = refl;
+      table_beyond = refl;
+      table_length = refl;
+      area_beyond = refl;
+      area_length = refl;
     }
 
 module _ (bs : List ℕ) (n t : ℕ) (terms : Terms) (depth most s z until : ℕ) (table area : List ℕ) (low : ℕ) (table' area' : List ℕ)
@@ -244,30 +244,30 @@ module _ (bs : List ℕ) (n t : ℕ) (terms : Terms) (depth most s z until : ℕ
   some_block : 0 < block
   some_block =
       let a = accepted bs n t ready.accepted in
-      let lent = whole-lent n t terms depth ready.units a.some-slot a.slots b.blocks.kept in
-      let columns = some-column n t terms depth (4 * (t + 1)) lent a.some-station in
+      let lent = whole_lent n t terms depth ready.units a.some_slot a.slots b.blocks.kept in
+      let columns = some_column n t terms depth (4 * (t + 1)) lent a.some_station in
       let same = b.blocks.columns in
       omega arith
 
-  few-columns : block ≤ mostColumns n t terms depth (4 * (t + 1))
-  few-columns = let same = b.blocks.columns in omega arith
+  few_columns : block ≤ most_columns n t terms depth (4 * (t + 1))
+  few_columns = let same = b.blocks.columns in omega arith
 
-  fits : pass_size n t terms depth block ≤ workSize n t
+  fits : pass_size n t terms depth block ≤ work_size n t
   fits =
       let a = accepted bs n t ready.accepted in
-      area-fits n t terms depth ready.units a.some-slot a.slots b.blocks.kept block few-columns
+      area_fits n t terms depth ready.units a.some_slot a.slots b.blocks.kept block few_columns
 
   pub block_within : low + block ≤ n
   block_within = omega arith
 
   -- the next block can be counted
-  pub next-ready : BlockReady bs n t terms depth s z until low block table' area'
-  next-ready =
+  pub next_ready : BlockReady bs n t terms depth s z until low block table' area'
+  next_ready =
       let size = fits in
       let room = ready.area in
-      let same = b.area-length in
+      let same = b.area_length in
       let tables = ready.table in
-      let kept = b.table-length in
+      let kept = b.table_length in
       record {
         accepted = ready.accepted;
         units = ready.units;
@@ -283,21 +283,21 @@ module _ (bs : List ℕ) (n t : ℕ) (terms : Terms) (depth most s z until : ℕ
       }
 
   module _ (table'' area'' : List ℕ) (r : ℕ) (done : BlockDone bs n t terms depth s z until low block table' area' table'' area'' r) where
-    same-beyond : drop (workSize n t) area'' ≡ drop (workSize n t) area
-    same-beyond =
-        later-drop (pass_size n t terms depth block) (workSize n t) area'' area' fits done.area-beyond ∙ b.area-beyond
+    same_beyond : drop (work_size n t) area'' ≡ drop (work_size n t) area
+    same_beyond =
+        later_drop (pass_size n t terms depth block) (work_size n t) area'' area' fits done.area_beyond ∙ b.area_beyond
 
     -- too many
-    pub blocks-refused : r ≡ 0 → Throughs bs n t terms s z until table area table'' area'' 0
-    blocks-refused e =
+    pub blocks_refused : r ≡ 0 → Throughs bs n t terms s z until table area table'' area'' 0
+    blocks_refused e =
         record {
           over = λ q. done.over e;
           settled = λ q. absurd (q refl);
           counted = λ q. absurd (q refl);
-          table-beyond = done.table-beyond ∙ b.table-beyond;
-          table-length = done.table-length ∙ b.table-length;
-          area-beyond = same-beyond;
-          area-length = done.area-length ∙ b.area-length;
+          table_beyond = done.table_beyond ∙ b.table_beyond;
+          table_length = done.table_length ∙ b.table_length;
+          area_beyond = same_beyond;
+          area_length = done.area_length ∙ b.area_length;
         }
 
     module _ (d : r ≢ 0) where
@@ -307,7 +307,7 @@ module _ (bs : List ℕ) (n t : ℕ) (terms : Terms) (depth most s z until : ℕ
           record {
             blocks = b.blocks;
             within = block_within;
-            some-slot = λ h. d;
+            some_slot = λ h. d;
             settled = λ h. done.settled d;
             counted = λ v h.
                 by_cases (dec_lt v low)
@@ -316,19 +316,19 @@ module _ (bs : List ℕ) (n t : ℕ) (terms : Terms) (depth most s z until : ℕ
                 let same : low + (v - low) ≡ v = omega arith in
                 subst
                 (λ i. get_or table'' i 0 ≡
-                throughIn (plan_of bs n t terms) s z (walksBy (plan_of bs n t terms) s z (lastSlot bs n t terms s until)) i)
+                through_in (plan_of bs n t terms) s z (walks_by (plan_of bs n t terms) s z (last_slot bs n t terms s until)) i)
                 same
                 (done.here d (v - low) (omega arith) ∙
-                ap (λ e. throughIn (plan_of bs n t terms) s z (walksBy (plan_of bs n t terms) s z e) (low + (v - low)))
+                ap (λ e. through_in (plan_of bs n t terms) s z (walks_by (plan_of bs n t terms) s z e) (low + (v - low)))
                 (done.settled d).slot));
-            table-beyond = done.table-beyond ∙ b.table-beyond;
-            table-length = done.table-length ∙ b.table-length;
-            area-beyond = same-beyond;
-            area-length = done.area-length ∙ b.area-length;
+            table_beyond = done.table_beyond ∙ b.table_beyond;
+            table_length = done.table_length ∙ b.table_length;
+            area_beyond = same_beyond;
+            area_length = done.area_length ∙ b.area_length;
           }
 
-      pub block-progress : n - (low + block) < n - low
-      block-progress = let some = some_block in omega arith
+      pub block_progress : n - (low + block) < n - low
+      block_progress = let some = some_block in omega arith
 
 -- after the last block
 pub blocks_end :
@@ -336,25 +336,25 @@ pub blocks_end :
     n ≤ low → Blocks bs n t terms depth most s z until table area low table' area' slot →
     Throughs bs n t terms s z until table area table' area' slot
 blocks_end bs n t terms depth most s z until table area low table' area' slot last b =
-    let some = (accepted bs n t b.blocks.asked.ready.accepted).some-station in
+    let some = (accepted bs n t b.blocks.asked.ready.accepted).some_station in
     record {
-      over = λ q. absurd (b.some-slot (omega arith) q);
+      over = λ q. absurd (b.some_slot (omega arith) q);
       settled = λ q. b.settled (omega arith);
       counted = λ q v h.
           b.counted v (omega arith) ∙
-          ap (λ e. throughIn (plan_of bs n t terms) s z (walksBy (plan_of bs n t terms) s z e) v) (sym (b.settled (omega arith)).slot);
-      table-beyond = b.table-beyond;
-      table-length = b.table-length;
-      area-beyond = b.area-beyond;
-      area-length = b.area-length;
+          ap (λ e. through_in (plan_of bs n t terms) s z (walks_by (plan_of bs n t terms) s z e) v) (sym (b.settled (omega arith)).slot);
+      table_beyond = b.table_beyond;
+      table_length = b.table_length;
+      area_beyond = b.area_beyond;
+      area_length = b.area_length;
     }
 
 -- ---- before the blocks
 
 module _ (bs : List ℕ) (n t g h s z until : ℕ) (table area : List ℕ) (asked : ThroughsReady bs n t (units g h) s z until table area) where
   -- how many appearances are kept can be found
-  pub depth-ready : DepthReady bs n t h area
-  depth-ready =
+  pub depth_ready : DepthReady bs n t h area
+  depth_ready =
       let turns = asked.ready.units.turns in
       let keeps = asked.ready.units.keeps in
       let room = asked.ready.area in
@@ -367,14 +367,14 @@ module _ (bs : List ℕ) (n t g h s z until : ℕ) (table area : List ℕ) (aske
 
   module _ (area' : List ℕ) (depth : ℕ) (found : DepthOf bs n h area area' depth) where
     -- and how many columns fit
-    pub columns-lent : Lent t (units g h) depth (4 * (t + 1))
-    columns-lent =
+    pub columns_lent : Lent t (units g h) depth (4 * (t + 1))
+    columns_lent =
         let a = accepted bs n t asked.ready.accepted in
-        whole-lent n t (units g h) depth asked.ready.units a.some-slot a.slots found.most
+        whole_lent n t (units g h) depth asked.ready.units a.some_slot a.slots found.most
 
-    pub blocks-ready : (most : ℕ) → most ≡ mostColumns n t (units g h) depth (4 * (t + 1))
+    pub blocks_ready : (most : ℕ) → most ≡ most_columns n t (units g h) depth (4 * (t + 1))
         → BlocksReady bs n t (units g h) depth most s z until table area'
-    blocks-ready most columns =
+    blocks_ready most columns =
         let room = asked.ready.area in
         let same = found.same_length in
         record {
@@ -396,17 +396,17 @@ module _ (bs : List ℕ) (n t g h s z until : ℕ) (table area : List ℕ) (aske
         }
 
     -- what is counted then is counted from the entry on
-    pub throughs-entry : (table'' area'' : List ℕ) (r : ℕ) → Throughs bs n t (units g h) s z until table area' table'' area'' r
+    pub throughs_entry : (table'' area'' : List ℕ) (r : ℕ) → Throughs bs n t (units g h) s z until table area' table'' area'' r
         → Throughs bs n t (units g h) s z until table area table'' area'' r
-    throughs-entry table'' area'' r x =
+    throughs_entry table'' area'' r x =
         record {
           over = x.over;
           settled = x.settled;
           counted = x.counted;
-          table-beyond = x.table-beyond;
-          table-length = x.table-length;
-          area-beyond = x.area-beyond ∙
-              later-drop n (workSize n t) area' area (let one = mul-le-mul_left {m = 1} {n = t + 1} n (omega arith) in omega arith)
+          table_beyond = x.table_beyond;
+          table_length = x.table_length;
+          area_beyond = x.area_beyond ∙
+              later_drop n (work_size n t) area' area (let one = mul-le-mul_left {m = 1} {n = t + 1} n (omega arith) in omega arith)
               found.beyond;
-          area-length = x.area-length ∙ found.same_length;
+          area_length = x.area_length ∙ found.same_length;
         }

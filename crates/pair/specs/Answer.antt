@@ -3,22 +3,22 @@
 use Rattle.std.specs.Prelude.{ℕ, List}
 use Rattle.temporal.specs.Outcome.{Outcome}
 use Rattle.temporal.specs.OutcomePair.{PairValues, PairBuffers}
-use Rattle.plan.specs.Fault.{faultNumber}
+use Rattle.plan.specs.Fault.{fault_number}
 use Rattle.pair.specs.declared.PairAnswer.{PairAnswer}
 use Rattle.pair.specs.declared.PairAnswer.TheVariants.{Counted, Refused}
 
-abbrev pub pairNumber : PairAnswer → ℕ
-pairNumber (Counted h c) = 0
-pairNumber (Refused f) = faultNumber f
+abbrev pub pair_number : PairAnswer → ℕ
+pair_number (Counted h c) = 0
+pair_number (Refused f) = fault_number f
 
 -- zeros beside a refusal
-abbrev pub pairValues : PairAnswer → PairValues
-pairValues (Counted h c) = record { hops = h; count = c }
-pairValues (Refused f) = record { hops = 0; count = 0 }
+abbrev pub pair_values : PairAnswer → PairValues
+pair_values (Counted h c) = record { hops = h; count = c }
+pair_values (Refused f) = record { hops = 0; count = 0 }
 
-abbrev pub pairBuffers : List ℕ → List ℕ → PairBuffers
-pairBuffers through work = record { throughTable = through; work = work }
+abbrev pub pair_buffers : List ℕ → List ℕ → PairBuffers
+pair_buffers through work = record { through_table = through; work = work }
 
 -- the answer with the through table and the work area at exit
-abbrev pub pairOutcome : PairAnswer → PairBuffers → Outcome PairValues PairBuffers
-pairOutcome r b = record { number = pairNumber r; values = pairValues r; buffers = b }
+abbrev pub pair_outcome : PairAnswer → PairBuffers → Outcome PairValues PairBuffers
+pair_outcome r b = record { number = pair_number r; values = pair_values r; buffers = b }

@@ -3,18 +3,18 @@
 use Rattle.std.specs.Prelude.{ℕ, ◌+◌, ◌-◌, ◌*◌, ◌<◌, ◌≤◌, min, ◌≡◌, false, cond, List, ◌⊎◌, ◌≢◌, eqb, length, get_or, drop}
 use Rattle.temporal.specs.Plan.{Terms, Keeps, Allowed}
 use Rattle.temporal.specs.Bytes.{plan_of}
-use Rattle.temporal.specs.Cause.{planFault, tooMany}
-use Rattle.temporal.specs.Shortest.{hops, count, throughIn}
-use Rattle.temporal.specs.Foremost.{arrival, walksBy}
-use Rattle.temporal.specs.Outcome.{workSize}
-use Rattle.pass.specs.Row.{partSize}
+use Rattle.temporal.specs.Cause.{plan_fault, is_too_many}
+use Rattle.temporal.specs.Shortest.{hops, count, through_in}
+use Rattle.temporal.specs.Foremost.{arrival, walks_by}
+use Rattle.temporal.specs.Outcome.{work_size}
+use Rattle.pass.specs.Row.{part_size}
 use Rattle.pass.specs.PassedColumns.{Overfull}
 use Rattle.stale.specs.Depth.{Deep}
-use Rattle.forward.specs.Passed.{pass_size, mostColumns}
+use Rattle.forward.specs.Passed.{pass_size, most_columns}
 
 -- what the pass leaves for the station at j of a block: the count less its entry, 0 at z itself and where there is no walk
-unfoldable pub throughEntry : List ℕ → ℕ → ℕ → ℕ → ℕ → ℕ → ℕ
-throughEntry work n z low block j =
+unfoldable pub through_entry : List ℕ → ℕ → ℕ → ℕ → ℕ → ℕ → ℕ
+through_entry work n z low block j =
     cond (eqb (low + j) z) 0
     (cond (eqb (get_or work z 0) 65535) 0 (get_or work (n + z) 0 - get_or work (2 * n + z * block + j) 0))
 
@@ -24,7 +24,7 @@ pub record Storable (n z low block j : ℕ) (work : List ℕ) : Type 0 where
   pub few : n ≤ 256
   pub column : j < block
   pub stations : low + block ≤ n
-  pub fits : partSize n block ≤ length work
+  pub fits : part_size n block ≤ length work
   pub at_most : low + j ≢ z → get_or work z 0 ≢ 65535 → get_or work (2 * n + z * block + j) 0 ≤ get_or work (n + z) 0
 
 -- what storing a block's through counts asks
@@ -33,26 +33,26 @@ pub record Storing (n z low block : ℕ) (through work : List ℕ) : Type 0 wher
   pub few : n ≤ 256
   pub stations : low + block ≤ n
   pub table : n ≤ length through
-  pub fits : partSize n block ≤ length work
+  pub fits : part_size n block ≤ length work
   pub at_most :
       (j : ℕ) → j < block → low + j ≢ z → get_or work z 0 ≢ 65535 → get_or work (2 * n + z * block + j) 0 ≤ get_or work (n + z) 0
 
 -- the stations from low on, k of them, have their through counts, and no other entry is touched
 pub record StoredBlock (n z low block k : ℕ) (work old new : List ℕ) : Type 0 where
-  pub here : (j : ℕ) → j < k → get_or new (low + j) 0 ≡ throughEntry work n z low block j
+  pub here : (j : ℕ) → j < k → get_or new (low + j) 0 ≡ through_entry work n z low block j
   pub before : (v : ℕ) → v < low → get_or new v 0 ≡ get_or old v 0
   pub beyond : drop n new ≡ drop n old
   pub same_length : length new ≡ length old
 
 -- what counting a pair asks
 pub record PairReady (bs : List ℕ) (n t : ℕ) (terms : Terms) (s z : ℕ) (through work : List ℕ) : Type 0 where
-  pub accepted : planFault bs n t ≡ 0
+  pub accepted : plan_fault bs n t ≡ 0
   pub units : Allowed terms
   pub source : s < n
   pub destination : z < n
   pub different : s ≢ z
   pub table : n ≤ length through
-  pub area : workSize n t ≤ length work
+  pub area : work_size n t ≤ length work
 
 -- the station that a pass waits for is the destination, where nothing goes stale, or none
 pub record Asks (n t : ℕ) (terms : Terms) (z until : ℕ) : Type 0 where
@@ -60,13 +60,13 @@ pub record Asks (n t : ℕ) (terms : Terms) (z until : ℕ) : Type 0 where
   pub waits : Keeps t terms ⊎ (until ≡ n)
 
 -- the slot in which a pass ends: that in which it reaches the station until, or the last
-abbrev pub lastSlot : List ℕ → ℕ → ℕ → Terms → ℕ → ℕ → ℕ
-lastSlot bs n t terms s until = min t (arrival (plan_of bs n t terms) s until)
+abbrev pub last_slot : List ℕ → ℕ → ℕ → Terms → ℕ → ℕ → ℕ
+last_slot bs n t terms s until = min t (arrival (plan_of bs n t terms) s until)
 
 -- what storing the through counts of one block asks, from its pass on; where the pass of a block before went through every slot, no count is
 -- over 2^64 - 1
 pub record BlockReady (bs : List ℕ) (n t : ℕ) (terms : Terms) (d s z until low block : ℕ) (through work : List ℕ) : Type 0 where
-  pub accepted : planFault bs n t ≡ 0
+  pub accepted : plan_fault bs n t ≡ 0
   pub source : s < n
   pub destination : z < n
   pub different : s ≢ z
@@ -76,14 +76,14 @@ pub record BlockReady (bs : List ℕ) (n t : ℕ) (terms : Terms) (d s z until l
   pub stations : low + block ≤ n
   pub table : n ≤ length through
   pub fits : pass_size n t terms d block ≤ length work
-  pub few : 0 < low → until ≡ n → tooMany (plan_of bs n t terms) s ≡ false
+  pub few : 0 < low → until ≡ n → is_too_many (plan_of bs n t terms) s ≡ false
 
 -- what the work area holds of the pair where no count is over 2^64 - 1: hops and count of its shortest walks by slot e
 pub record PairBy (bs : List ℕ) (n t : ℕ) (terms : Terms) (s z until : ℕ) (work : List ℕ) (e : ℕ) : Type 0 where
-  pub slot : e ≡ lastSlot bs n t terms s until
-  pub few : until ≡ n → tooMany (plan_of bs n t terms) s ≡ false
-  pub pair-hops : get_or work z 0 ≡ hops (walksBy (plan_of bs n t terms) s z e)
-  pub pair-count : get_or work (n + z) 0 ≡ count (walksBy (plan_of bs n t terms) s z e)
+  pub slot : e ≡ last_slot bs n t terms s until
+  pub few : until ≡ n → is_too_many (plan_of bs n t terms) s ≡ false
+  pub pair_hops : get_or work z 0 ≡ hops (walks_by (plan_of bs n t terms) s z e)
+  pub pair_count : get_or work (n + z) 0 ≡ count (walks_by (plan_of bs n t terms) s z e)
 
 -- one block: whether a count is over 2^64 - 1, where the slot is 0; else the block's through counts in the table
 pub record BlockDone (bs : List ℕ) (n t : ℕ) (terms : Terms) (d s z until low block : ℕ) (through work through' work' : List ℕ) (r : ℕ)
@@ -91,12 +91,12 @@ pub record BlockDone (bs : List ℕ) (n t : ℕ) (terms : Terms) (d s z until lo
   pub over : r ≡ 0 → Overfull bs n t terms s until
   pub settled : r ≢ 0 → PairBy bs n t terms s z until work' r
   pub here : r ≢ 0 → (j : ℕ) → j < block
-      → get_or through' (low + j) 0 ≡ throughIn (plan_of bs n t terms) s z (walksBy (plan_of bs n t terms) s z r) (low + j)
+      → get_or through' (low + j) 0 ≡ through_in (plan_of bs n t terms) s z (walks_by (plan_of bs n t terms) s z r) (low + j)
   pub before : (v : ℕ) → v < low → get_or through' v 0 ≡ get_or through v 0
-  pub table-beyond : drop n through' ≡ drop n through
-  pub table-length : length through' ≡ length through
-  pub area-beyond : drop (pass_size n t terms d block) work' ≡ drop (pass_size n t terms d block) work
-  pub area-length : length work' ≡ length work
+  pub table_beyond : drop n through' ≡ drop n through
+  pub table_length : length through' ≡ length through
+  pub area_beyond : drop (pass_size n t terms d block) work' ≡ drop (pass_size n t terms d block) work
+  pub area_length : length work' ≡ length work
 
 -- what counting block by block asks
 pub record ThroughsReady (bs : List ℕ) (n t : ℕ) (terms : Terms) (s z until : ℕ) (through work : List ℕ) : Type 0 where
@@ -108,15 +108,15 @@ pub record BlocksReady (bs : List ℕ) (n t : ℕ) (terms : Terms) (d most s z u
   pub asked : ThroughsReady bs n t terms s z until through work
   pub deep : Deep bs n terms.keeping d
   pub kept : d ≤ terms.keeping
-  pub columns : most ≡ mostColumns n t terms d (4 * (t + 1))
+  pub columns : most ≡ most_columns n t terms d (4 * (t + 1))
 
 -- all blocks: whether a count is over 2^64 - 1, where the slot is 0; else every station's through count in the table
 pub record Throughs (bs : List ℕ) (n t : ℕ) (terms : Terms) (s z until : ℕ) (through work through' work' : List ℕ) (r : ℕ) : Type 0 where
   pub over : r ≡ 0 → Overfull bs n t terms s until
   pub settled : r ≢ 0 → PairBy bs n t terms s z until work' r
   pub counted : r ≢ 0 → (v : ℕ) → v < n
-      → get_or through' v 0 ≡ throughIn (plan_of bs n t terms) s z (walksBy (plan_of bs n t terms) s z r) v
-  pub table-beyond : drop n through' ≡ drop n through
-  pub table-length : length through' ≡ length through
-  pub area-beyond : drop (workSize n t) work' ≡ drop (workSize n t) work
-  pub area-length : length work' ≡ length work
+      → get_or through' v 0 ≡ through_in (plan_of bs n t terms) s z (walks_by (plan_of bs n t terms) s z r) v
+  pub table_beyond : drop n through' ≡ drop n through
+  pub table_length : length through' ≡ length through
+  pub area_beyond : drop (work_size n t) work' ≡ drop (work_size n t) work
+  pub area_length : length work' ≡ length work

@@ -1,12 +1,13 @@
 // Operation 4, pair, over the pass.
+#![tactic(auto)]
 ghost use Rattle.std.specs.Prelude.{◌≡◌, ◌&&◌, ltb, eqb};
 ghost use Rattle.temporal.specs.Plan.{units};
 ghost use Rattle.temporal.specs.Bytes.{plan_of};
-ghost use Rattle.temporal.specs.Cause.{planFault};
+ghost use Rattle.temporal.specs.Cause.{plan_fault};
 ghost use Rattle.temporal.specs.OutcomePair.{paired, pair};
-ghost use Rattle.pair.specs.Answer.{pairOutcome, pairBuffers};
+ghost use Rattle.pair.specs.Answer.{pair_outcome, pair_buffers};
 ghost use Rattle.pair.specs.Throughs.{
-  throughEntry,
+  through_entry,
   Storable,
   Storing,
   StoredBlock,
@@ -22,7 +23,7 @@ use calls::CallCheck;
 use plan::{CallFault, CheckAnswer, Fault};
 
 // What pair answers.
-#[derive(Drop)]
+#[derive(Clone, Copy)]
 pub enum PairAnswer {
     Counted(u64, u64),
     Refused(Fault),
@@ -31,7 +32,7 @@ pub enum PairAnswer {
 // The through count of the station at j of a block, to the destination z.
 fn through_at(work: &[u64], n: usize, z: usize, low: usize, block: usize, j: usize) -> u64
     requires { Storable n z low block j work.now }
-    ensures { result ≡ throughEntry work.now n z low block j }
+    ensures { result ≡ through_entry work.now n z low block j }
 {
     if low + j == z {
         return 0;
@@ -167,8 +168,8 @@ fn pair_work(
     z: usize,
 ) -> PairAnswer
     requires { PairReady plan.now n t (units g h) s z through.old work.old }
-    ensures { pairOutcome result (pairBuffers through.new work.new) ≡
-        paired (plan_of plan.now n t (units g h)) s z (pairBuffers through.old work.old) }
+    ensures { pair_outcome result (pair_buffers through.new work.new) ≡
+        paired (plan_of plan.now n t (units g h)) s z (pair_buffers through.old work.old) }
 {
     if throughs(through, work, plan, n, t, g, h, s, z, n) == 0 {
         memory::clear(through, n);
@@ -193,9 +194,9 @@ fn pair_accepted(
     s: usize,
     z: usize,
 ) -> PairAnswer
-    requires { planFault plan.now n t ≡ 0 }
-    ensures { pairOutcome result (pairBuffers through.new work.new) ≡
-        pair plan.now n t (units g h) s z (pairBuffers through.old work.old) }
+    requires { plan_fault plan.now n t ≡ 0 }
+    ensures { pair_outcome result (pair_buffers through.new work.new) ≡
+        pair plan.now n t (units g h) s z (pair_buffers through.old work.old) }
 {
     let CallCheck::Refused(fault) = calls::pair_call(n, t, g, h, s, z, through.len(), n, work.len())
     else {
@@ -217,8 +218,8 @@ pub fn pair(
     through: &mut [u64],
     work: &mut [u64],
 ) -> PairAnswer
-    ensures { pairOutcome result (pairBuffers through.new work.new) ≡
-        pair plan.now n t (units g h) s z (pairBuffers through.old work.old) }
+    ensures { pair_outcome result (pair_buffers through.new work.new) ≡
+        pair plan.now n t (units g h) s z (pair_buffers through.old work.old) }
 {
     let CheckAnswer::Refused(fault) = plan::check(plan, n, t) else {
         return pair_accepted(through, work, plan, n, t, g, h, s, z);

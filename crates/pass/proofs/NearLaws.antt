@@ -6,7 +6,7 @@ use mathlib.Core.Logic.{by_cases}
 use Rattle.counting.proofs.Fewest.{Fewest, plus}
 use Rattle.entries.specs.Entry.{stored}
 use Rattle.pass.specs.Column.{Lanes}
-use Rattle.pass.proofs.BestLaws.{Best, best-same, best-empty, best-limit, entry-same}
+use Rattle.pass.proofs.BestLaws.{Best, best_same, best_empty, best_limit, entry_same}
 
 -- k hops are at most b; 65535 hops are no bound
 abbrev pub Reaches : ℕ → ℕ → Type 0
@@ -17,30 +17,30 @@ pub record Near (b : ℕ) (N' : ℕ → ℕ) (M' : ℕ → ℕ → ℕ) (N : ℕ
   pub counts : (k : ℕ) → Reaches b k → ((i : ℕ) → i < k → N i ≡ 0) → N' k ≡ N k
   pub avoiding : (j k : ℕ) → Reaches b k → ((i : ℕ) → i < k → N i ≡ 0) → M' j k ≡ M j k
 
-pub near-refl : {b : ℕ} {N : ℕ → ℕ} {M : ℕ → ℕ → ℕ} → Near b N M N M
-near-refl = record { counts = λ k r z. refl; avoiding = λ j k r z. refl }
+pub near_refl : {b : ℕ} {N : ℕ → ℕ} {M : ℕ → ℕ → ℕ} → Near b N M N M
+near_refl = record { counts = λ k r z. refl; avoiding = λ j k r z. refl }
 
 -- for sequences that agree
-pub near-ext : {b : ℕ} {N' N X : ℕ → ℕ} {M' M Y : ℕ → ℕ → ℕ} → ((k : ℕ) → N k ≡ X k) → ((j k : ℕ) → M j k ≡ Y j k)
+pub near_ext : {b : ℕ} {N' N X : ℕ → ℕ} {M' M Y : ℕ → ℕ → ℕ} → ((k : ℕ) → N k ≡ X k) → ((j k : ℕ) → M j k ≡ Y j k)
     → Near b N' M' N M → Near b N' M' X Y
-near-ext e f x =
+near_ext e f x =
     record {
       counts = λ k r z. x.counts k r (λ i h. e i ∙ z i h) ∙ e k;
       avoiding = λ j k r z. x.avoiding j k r (λ i h. e i ∙ z i h) ∙ f j k;
     }
 
 -- up to fewer hops
-pub near-less : {b b' : ℕ} {N' N : ℕ → ℕ} {M' M : ℕ → ℕ → ℕ} → b' ≤ b → Near b N' M' N M → Near b' N' M' N M
-near-less {b} {b'} less x = record { counts = λ k r. x.counts k (up k r); avoiding = λ j k r. x.avoiding j k (up k r) }
+pub near_less : {b b' : ℕ} {N' N : ℕ → ℕ} {M' M : ℕ → ℕ → ℕ} → b' ≤ b → Near b N' M' N M → Near b' N' M' N M
+near_less {b} {b'} less x = record { counts = λ k r. x.counts k (up k r); avoiding = λ j k r. x.avoiding j k (up k r) }
   where
     up : (k : ℕ) → Reaches b' k → Reaches b k
     up k r = ⊎_elim (λ (h : k ≤ b'). inl (omega arith)) (λ (h : 65535 ≤ b'). inr (omega arith)) r
 
 -- the same walks beside both
-pub near-plus : {b : ℕ} (W : ℕ → ℕ) (P : ℕ → ℕ → ℕ) {N' N : ℕ → ℕ} {M' M : ℕ → ℕ → ℕ} → Near b N' M' N M
+pub near_plus : {b : ℕ} (W : ℕ → ℕ) (P : ℕ → ℕ → ℕ) {N' N : ℕ → ℕ} {M' M : ℕ → ℕ → ℕ} → Near b N' M' N M
     → Near b (plus W N') (λ j. plus (P j) (M' j)) (plus W N) (λ j. plus (P j) (M j))
 unfolding plus
-near-plus W P x =
+near_plus W P x =
     record {
       counts = λ k r z. ap (λ y. W k + y) (x.counts k r (λ i h. omega (arith, z i h)));
       avoiding = λ j k r z. ap (λ y. P j k + y) (x.avoiding j k r (λ i h. omega (arith, z i h)));
@@ -56,10 +56,10 @@ near_add W P x =
     }
 
 -- walks of more hops than b beside one
-pub near-more : {b : ℕ} (W : ℕ → ℕ) (P : ℕ → ℕ → ℕ) {N' N : ℕ → ℕ} {M' M : ℕ → ℕ → ℕ} → b < 65535 → ((k : ℕ) → k ≤ b → W k ≡ 0)
+pub near_more : {b : ℕ} (W : ℕ → ℕ) (P : ℕ → ℕ → ℕ) {N' N : ℕ → ℕ} {M' M : ℕ → ℕ → ℕ} → b < 65535 → ((k : ℕ) → k ≤ b → W k ≡ 0)
     → ((j k : ℕ) → P j k ≤ W k) → Near b N' M' N M → Near b N' M' (plus N W) (λ j. plus (M j) (P j))
 unfolding plus
-near-more {b} W P few none less x =
+near_more {b} W P few none less x =
     record {
       counts = λ k r z. let h = low k r in let e = none k h in
           omega (arith, x.counts k r (λ i q. omega (arith, z i q)));
@@ -71,9 +71,9 @@ near-more {b} W P few none less x =
     low k r = ⊎_elim (λ (h : k ≤ b). h) (λ (h : 65535 ≤ b). absurd (omega arith)) r
 
 -- the columns of a test alone
-pub near-chosen : {b : ℕ} (may : ℕ → Bool) {N' N : ℕ → ℕ} {M' M : ℕ → ℕ → ℕ} → Near b N' M' N M
+pub near_chosen : {b : ℕ} (may : ℕ → Bool) {N' N : ℕ → ℕ} {M' M : ℕ → ℕ → ℕ} → Near b N' M' N M
     → Near b N' (λ j k. cond (may j) (M' j k) 0) N (λ j k. cond (may j) (M j k) 0)
-near-chosen may x =
+near_chosen may x =
     record { counts = x.counts; avoiding = λ j k r z. ap (λ y. cond (may j) y 0) (x.avoiding j k r z) }
 
 module _ {b : ℕ} {N' N : ℕ → ℕ} {M' M : ℕ → ℕ → ℕ} (x : Near b N' M' N M) where
@@ -86,38 +86,38 @@ module _ {b : ℕ} {N' N : ℕ → ℕ} {M' M : ℕ → ℕ → ℕ} (x : Near b
       ∙ f.sooner k (omega arith)))
       (λ d. none_before f r k (omega arith) i (omega arith))
 
-  none-ever : ((k : ℕ) → N' k ≡ 0) → 65535 ≤ b → (k i : ℕ) → i < k → N i ≡ 0
-  none-ever z r zero i h = absurd (omega arith)
-  none-ever z r (suc k) i h =
+  none_ever : ((k : ℕ) → N' k ≡ 0) → 65535 ≤ b → (k i : ℕ) → i < k → N i ≡ 0
+  none_ever z r zero i h = absurd (omega arith)
+  none_ever z r (suc k) i h =
       by_cases (ℕ_discrete i k)
-      (λ same. rw same (sym (x.counts k (inr r) (none-ever z r k)) ∙ z k))
-      (λ d. none-ever z r k i (omega arith))
+      (λ same. rw same (sym (x.counts k (inr r) (none_ever z r k)) ∙ z k))
+      (λ d. none_ever z r k i (omega arith))
 
   -- where the one has no walks up to b hops, the other has none
-  none-up : ((k : ℕ) → k ≤ b → N' k ≡ 0) → (k : ℕ) → k ≤ b + 1 → (i : ℕ) → i < k → N i ≡ 0
-  none-up z zero low i h = absurd (omega arith)
-  none-up z (suc k) low i h =
+  none_up : ((k : ℕ) → k ≤ b → N' k ≡ 0) → (k : ℕ) → k ≤ b + 1 → (i : ℕ) → i < k → N i ≡ 0
+  none_up z zero low i h = absurd (omega arith)
+  none_up z (suc k) low i h =
       by_cases (ℕ_discrete i k)
-      (λ same. rw same (sym (x.counts k (inl (omega arith)) (none-up z k (omega arith))) ∙ z k (omega arith)))
-      (λ d. none-up z k (omega arith) i (omega arith))
+      (λ same. rw same (sym (x.counts k (inl (omega arith)) (none_up z k (omega arith))) ∙ z k (omega arith)))
+      (λ d. none_up z k (omega arith) i (omega arith))
 
   pub near_none : ((k : ℕ) → k ≤ b → N' k ≡ 0) → (k : ℕ) → k ≤ b → N k ≡ 0
-  near_none z k h = none-up z (k + 1) (omega arith) k (omega arith)
+  near_none z k h = none_up z (k + 1) (omega arith) k (omega arith)
 
   -- the entry of the one is the entry of the other, where its hops are at most b
-  pub near-best : {lay : Lanes} {block limit h c : ℕ} {r : ℕ → ℕ} → h ≤ b → Best lay block limit N' M' h c r → Best lay block limit N M h c r
-  near-best {lay} {block} {limit} {h} {c} reach best =
+  pub near_best : {lay : Lanes} {block limit h c : ℕ} {r : ℕ → ℕ} → h ≤ b → Best lay block limit N' M' h c r → Best lay block limit N M h c r
+  near_best {lay} {block} {limit} {h} {c} reach best =
       record {
         entry = record {
           fewest = record {
             bound = f.bound;
             sooner = none_before f (inl reach) h (omega arith);
             some = λ q. rw (← here) (f.some q);
-            never = λ top k. none-ever (f.never top) (omega arith) (suc k) k (omega arith);
+            never = λ top k. none_ever (f.never top) (omega arith) (suc k) k (omega arith);
           };
           count = best.entry.count ∙ ap stored here;
         };
-        row = λ e i g. best.row e i g ∙ entry-same lay M' M h h e (λ j. x.avoiding j h (inl reach) (none_before f (inl reach) h (omega arith)));
+        row = λ e i g. best.row e i g ∙ entry_same lay M' M h h e (λ j. x.avoiding j h (inl reach) (none_before f (inl reach) h (omega arith)));
       }
     where
       f : Fewest N' h
@@ -130,12 +130,12 @@ module _ {b : ℕ} {N' N : ℕ → ℕ} {M' M : ℕ → ℕ → ℕ} (x : Near b
 -- cause 9 is not known.
 pub record HeldBy (known : Bool) (lay : Lanes) (block b : ℕ) (N : ℕ → ℕ) (M : ℕ → ℕ → ℕ) (h c : ℕ) (r : ℕ → ℕ) : Type 0 where
   pub held : ℕ → ℕ
-  pub held-avoiding : ℕ → ℕ → ℕ
-  pub less : (j k : ℕ) → held-avoiding j k ≤ held k
+  pub held_avoiding : ℕ → ℕ → ℕ
+  pub less : (j k : ℕ) → held_avoiding j k ≤ held k
   pub fewer : (k : ℕ) → held k ≤ N k
-  pub near : Near b held held-avoiding N M
+  pub near : Near b held held_avoiding N M
   pub exact : known ≡ false → (k : ℕ) → held k ≡ N k
-  pub best : Best lay block (min 65535 (b + 1)) held held-avoiding h c r
+  pub best : Best lay block (min 65535 (b + 1)) held held_avoiding h c r
 
 module _ {known : Bool} {lay : Lanes} {block b : ℕ} where
   -- the sequences themselves
@@ -144,24 +144,24 @@ module _ {known : Bool} {lay : Lanes} {block b : ℕ} where
   held_all {N} {M} less best =
       record {
         held = N;
-        held-avoiding = M;
+        held_avoiding = M;
         less = less;
         fewer = λ k. omega arith;
-        near = near-refl;
+        near = near_refl;
         exact = λ e k. refl;
         best = best;
       }
 
   -- for sequences that agree
-  pub held-ext : {N X : ℕ → ℕ} {M Y : ℕ → ℕ → ℕ} {h c : ℕ} {r : ℕ → ℕ} → ((k : ℕ) → N k ≡ X k) → ((j k : ℕ) → M j k ≡ Y j k)
+  pub held_ext : {N X : ℕ → ℕ} {M Y : ℕ → ℕ → ℕ} {h c : ℕ} {r : ℕ → ℕ} → ((k : ℕ) → N k ≡ X k) → ((j k : ℕ) → M j k ≡ Y j k)
       → HeldBy known lay block b N M h c r → HeldBy known lay block b X Y h c r
-  held-ext e f x =
+  held_ext e f x =
       record {
         held = x.held;
-        held-avoiding = x.held-avoiding;
+        held_avoiding = x.held_avoiding;
         less = x.less;
         fewer = λ k. omega (arith, x.fewer k, e k);
-        near = near-ext e f x.near;
+        near = near_ext e f x.near;
         exact = λ o k. x.exact o k ∙ e k;
         best = x.best;
       }
@@ -173,31 +173,31 @@ module _ {known : Bool} {lay : Lanes} {block b : ℕ} where
   held_same eh ec er x =
       record {
         held = x.held;
-        held-avoiding = x.held-avoiding;
+        held_avoiding = x.held_avoiding;
         less = x.less;
         fewer = x.fewer;
         near = x.near;
         exact = x.exact;
-        best = best-same eh ec er x.best;
+        best = best_same eh ec er x.best;
       }
 
   -- settled hops fall
-  pub held-less : {b' : ℕ} {N : ℕ → ℕ} {M : ℕ → ℕ → ℕ} {h c : ℕ} {r : ℕ → ℕ} → b' ≤ b
+  pub held_less : {b' : ℕ} {N : ℕ → ℕ} {M : ℕ → ℕ → ℕ} {h c : ℕ} {r : ℕ → ℕ} → b' ≤ b
       → HeldBy known lay block b N M h c r → HeldBy known lay block b' N M h c r
-  held-less lower x =
+  held_less lower x =
       record {
         held = x.held;
-        held-avoiding = x.held-avoiding;
+        held_avoiding = x.held_avoiding;
         less = x.less;
         fewer = x.fewer;
-        near = near-less lower x.near;
+        near = near_less lower x.near;
         exact = x.exact;
-        best = best-limit (omega arith) x.best;
+        best = best_limit (omega arith) x.best;
       }
 
   -- of no walks: an entry of no walks is one of any other sequences of no walks
-  pub held-empty : {N X : ℕ → ℕ} {M Y : ℕ → ℕ → ℕ} {h c : ℕ} {r : ℕ → ℕ} → ((k : ℕ) → N k ≡ 0) → ((k : ℕ) → X k ≡ 0)
+  pub held_empty : {N X : ℕ → ℕ} {M Y : ℕ → ℕ → ℕ} {h c : ℕ} {r : ℕ → ℕ} → ((k : ℕ) → N k ≡ 0) → ((k : ℕ) → X k ≡ 0)
       → ((j k : ℕ) → Y j k ≤ X k) → HeldBy known lay block b N M h c r → HeldBy known lay block b X Y h c r
-  held-empty none none' less x =
+  held_empty none none' less x =
       let nothing : (k : ℕ) → x.held k ≡ 0 = λ k. omega (arith, x.fewer k, none k) in
-      held_all less (best-empty (omega arith) nothing none' x.best)
+      held_all less (best_empty (omega arith) nothing none' x.best)

@@ -4,19 +4,19 @@ use Rattle.std.proofs.Common.{◌≡◌, ℕ, suc, ◌+◌, ◌-◌, ◌*◌, �
 use native.Mathlib.Nat.{mul-add-mod_self_right}
 use native.Mathlib.Decide.{dec_le}
 use mathlib.Core.Logic.{by_cases}
-use Rattle.temporal.specs.Bytes.{contactAt}
+use Rattle.temporal.specs.Bytes.{contact_at}
 use Rattle.plan.specs.declared.Contact.{Contact}
-use Rattle.plan.specs.Record.{contactOf}
+use Rattle.plan.specs.Record.{contact_of}
 use Rattle.memory.specs.Fill.{filled}
-use Rattle.memory.proofs.FillLaws.{filled-length}
-use Rattle.pass.specs.Row.{partSize, row_at, part_at}
-use Rattle.pass.specs.Entry.{mergedArea, absorbed, Absorbable}
+use Rattle.memory.proofs.FillLaws.{filled_length}
+use Rattle.pass.specs.Row.{part_size, row_at, part_at}
+use Rattle.pass.specs.Entry.{merged_area, absorbed, Absorbable}
 use Rattle.pass.specs.Column.{Lanes}
-use Rattle.pass.specs.Sweep.{sentArea, foldedArea, clearedColumn, masked, settledOne, tooWide, Sweep, sweepOf, haltsAt, takenIn}
-use Rattle.pass.specs.Sweep.{widensAt, takenNext}
-use Rattle.lists.proofs.ListLaws.{not-both}
-use Rattle.pass.specs.Sweep.{settledNext, settledBy, hearerAt, stationAt, HearersFit, Chosen, SlotSettled}
-use Rattle.pass.specs.Sweep.{emptied, emptiedFrom, begunArea, PartFits, Area, FoldableArea}
+use Rattle.pass.specs.Sweep.{sent_area, folded_area, cleared_column, masked, settled_one, too_wide, Sweep, sweep_of, halts_at, taken_in}
+use Rattle.pass.specs.Sweep.{widens_at, taken_next}
+use Rattle.lists.proofs.ListLaws.{not_both}
+use Rattle.pass.specs.Sweep.{settled_next, settled_by, hearer_at, station_at, HearersFit, Chosen, SlotSettled}
+use Rattle.pass.specs.Sweep.{emptied, emptied_from, begun_area, PartFits, Area, FoldableArea}
 
 -- ---- parts and rows
 
@@ -25,7 +25,7 @@ pub row_before : (block e f : ℕ) → e < f → e * block + block ≤ f * block
 row_before block e f h = let a = mul-le-mul_right {m = suc e} {n = f} block h in omega (arith, suc-mul e block)
 
 -- the row of a station lies within its part
-pub row_inside : (n block v : ℕ) → v < n → row_at n block v + block ≤ partSize n block
+pub row_inside : (n block v : ℕ) → v < n → row_at n block v + block ≤ part_size n block
 row_inside n block v h = let a = row_before block v n h in omega arith
 
 module _ {n block base v : ℕ} {w : List ℕ} where
@@ -34,44 +34,44 @@ module _ {n block base v : ℕ} {w : List ℕ} where
   row_settled h a = let b = a.behind in let f = a.fits in let r = row_inside n block v h in omega arith
 
   -- and its row in the part
-  pub row-waiting : v < n → PartFits n block base w → base + row_at n block v + block ≤ length w
-  row-waiting h a = let f = a.fits in let r = row_inside n block v h in omega arith
+  pub row_waiting : v < n → PartFits n block base w → base + row_at n block v + block ≤ length w
+  row_waiting h a = let f = a.fits in let r = row_inside n block v h in omega arith
 
   -- an entry of the part can take in what is settled for another station
-  pub absorb-sent : (u row from : ℕ) → v < n → u < n → PartFits n block base w → row ≡ row_at n block v → from ≡ row_at n block u
+  pub absorb_sent : (u row from : ℕ) → v < n → u < n → PartFits n block base w → row ≡ row_at n block v → from ≡ row_at n block u
       → Absorbable n block w (base + v) (base + row) from
-  absorb-sent u row from hv hu a is_row is-from =
+  absorb_sent u row from hv hu a is_row is-from =
       let b = a.behind in
       let f = a.fits in
       let some = a.some in
       let r = row_inside n block v hv in
       let q = row_inside n block u hu in
-      record { some = a.some; before = omega arith; row_fits = omega arith; from-fits = omega arith }
+      record { some = a.some; before = omega arith; row_fits = omega arith; from_fits = omega arith }
 
   -- the settled entry of a station can take in what waits for it in the part
-  pub absorb-settled : (row : ℕ) → v < n → PartFits n block base w → row ≡ row_at n block v
+  pub absorb_settled : (row : ℕ) → v < n → PartFits n block base w → row ≡ row_at n block v
       → Absorbable n block w v row (base + row)
-  absorb-settled row hv a is_row =
+  absorb_settled row hv a is_row =
       let b = a.behind in
       let f = a.fits in
       let some = a.some in
       let r = row_inside n block v hv in
-      record { some = a.some; before = omega arith; row_fits = omega arith; from-fits = omega arith }
+      record { some = a.some; before = omega arith; row_fits = omega arith; from_fits = omega arith }
 
 -- a part fits a list of the same length too
-pub part-kept : {n block base : ℕ} {w w' : List ℕ} → PartFits n block base w → length w' ≡ length w → PartFits n block base w'
-part-kept a e = let fits = a.fits in record { some = a.some; behind = a.behind; fits = omega arith }
+pub part_kept : {n block base : ℕ} {w w' : List ℕ} → PartFits n block base w → length w' ≡ length w → PartFits n block base w'
+part_kept a e = let fits = a.fits in record { some = a.some; behind = a.behind; fits = omega arith }
 
 -- and so does a work area
-pub area-kept : {n block q : ℕ} {w w' : List ℕ} → Area n block q w → length w' ≡ length w → Area n block q w'
-area-kept a e = let fits = a.fits in record { some = a.some; parts = a.parts; fits = omega arith }
+pub area_kept : {n block q : ℕ} {w w' : List ℕ} → Area n block q w → length w' ≡ length w → Area n block q w'
+area_kept a e = let fits = a.fits in record { some = a.some; parts = a.parts; fits = omega arith }
 
 -- each of its parts lies behind what is settled, within the list
-pub part-fits : {n block q : ℕ} {w : List ℕ} → Area n block q w → (u : ℕ) → PartFits n block (part_at n block q u) w
+pub part_fits : {n block q : ℕ} {w : List ℕ} → Area n block q w → (u : ℕ) → PartFits n block (part_at n block q u) w
 unfolding part_at
-part-fits {n} {block} {q} {w} a u =
+part_fits {n} {block} {q} {w} a u =
     let low = mod-lt u a.parts in
-    let size = partSize n block in
+    let size = part_size n block in
     let first = mul-le-mul_right {m = 1} {n = 1 + u % q} size (omega arith) in
     let last = mul-le-mul_right {m = suc (1 + u % q)} {n = 1 + q} size (omega arith) in
     let fits = a.fits in
@@ -82,33 +82,33 @@ part-fits {n} {block} {q} {w} a u =
     }
 
 -- a work area has no fewer entries than parts
-pub parts-few : {n block q : ℕ} {w : List ℕ} → Area n block q w → 1 + q ≤ length w
-parts-few {n} {block} {q} {w} a =
+pub parts_few : {n block q : ℕ} {w : List ℕ} → Area n block q w → 1 + q ≤ length w
+parts_few {n} {block} {q} {w} a =
     let some = a.some in
     let fits = a.fits in
-    let one : 1 ≤ partSize n block = omega arith in
+    let one : 1 ≤ part_size n block = omega arith in
     let few = mul-le-mul (le_refl (1 + q)) one in
     omega arith
 
 -- what is settled lies within it
-pub first_part : {n block q : ℕ} {w : List ℕ} → Area n block q w → partSize n block ≤ length w
+pub first_part : {n block q : ℕ} {w : List ℕ} → Area n block q w → part_size n block ≤ length w
 first_part {n} {block} {q} {w} a =
     let fits = a.fits in
-    let one = mul-le-mul_right {m = 1} {n = 1 + q} (partSize n block) (omega arith) in
+    let one = mul-le-mul_right {m = 1} {n = 1 + q} (part_size n block) (omega arith) in
     omega arith
 
 -- where a part begins is a number below the work area's size
-pub part_small : (n block q u size : ℕ) → 0 < q → size ≡ partSize n block → (1 + q) * partSize n block < 18446744073709551616
+pub part_small : (n block q u size : ℕ) → 0 < q → size ≡ part_size n block → (1 + q) * part_size n block < 18446744073709551616
     → (1 + u % q) * size < 18446744073709551616
 part_small n block q u size parts is small =
     let low = mod-lt u parts in
-    let most = mul-le-mul_right {m = 1 + u % q} {n = 1 + q} (partSize n block) (omega arith) in
+    let most = mul-le-mul_right {m = 1 + u % q} {n = 1 + q} (part_size n block) (omega arith) in
     rw is (omega arith)
 
 -- parts of slots less than q apart do not meet
 module _ (q : ℕ) where
-  pub place-apart : (w e : ℕ) → w < e → e < w + q → w % q ≢ e % q
-  place-apart w e low high same =
+  pub place_apart : (w e : ℕ) → w < e → e < w + q → w % q ≢ e % q
+  place_apart w e low high same =
       let a = div-add-mod' w q in
       let b = div-add-mod' e q in
       by_cases (dec_le (e / q) (w / q))
@@ -119,19 +119,19 @@ module _ (q : ℕ) where
       omega arith)
 
   -- q slots later it is the same part
-  pub place-again : (w : ℕ) → (w + q) % q ≡ w % q
-  place-again w =
+  pub place_again : (w : ℕ) → (w + q) % q ≡ w % q
+  place_again w =
       let one : w + q ≡ 1 * q + w = omega arith in
       ap (λ x. x % q) one ∙ mul-add-mod_self_right 1 q w
 
 module _ (n block q : ℕ) where
   -- one of two such parts ends where the other begins, or before
-  pub parts-apart : (w e : ℕ) → w % q ≢ e % q
-      → (part_at n block q w + partSize n block ≤ part_at n block q e)
-      ⊎ (part_at n block q e + partSize n block ≤ part_at n block q w)
+  pub parts_apart : (w e : ℕ) → w % q ≢ e % q
+      → (part_at n block q w + part_size n block ≤ part_at n block q e)
+      ⊎ (part_at n block q e + part_size n block ≤ part_at n block q w)
   unfolding part_at
-  parts-apart w e d =
-      let size = partSize n block in
+  parts_apart w e d =
+      let size = part_size n block in
       by_cases (dec_le (suc (w % q)) (e % q))
       (λ h.
       let c = mul-le-mul_right {m = suc (1 + w % q)} {n = 1 + e % q} size (omega arith) in
@@ -140,39 +140,39 @@ module _ (n block q : ℕ) where
       let c = mul-le-mul_right {m = suc (1 + e % q)} {n = 1 + w % q} size (omega arith) in
       inr (omega (arith, c, suc-mul (1 + e % q) size)))
 
-  pub part-again : (w : ℕ) → part_at n block q (w + q) ≡ part_at n block q w
+  pub part_again : (w : ℕ) → part_at n block q (w + q) ≡ part_at n block q w
   unfolding part_at
-  part-again w = ap (λ x. (1 + x) * partSize n block) (place-again q w)
+  part_again w = ap (λ x. (1 + x) * part_size n block) (place_again q w)
 
 -- ---- a send
 
 module _ (known : Bool) (n block base : ℕ) (w : List ℕ) (v x : ℕ) where
   -- where the row is looked at
-  pub sent-row : (row from : ℕ) (out : List ℕ) → row ≡ row_at n block x → from ≡ row_at n block v
+  pub sent_row : (row from : ℕ) (out : List ℕ) → row ≡ row_at n block x → from ≡ row_at n block v
       → get_or w v 0 < 65535 → get_or w v 0 < get_or w x 0
       → out ≡ absorbed n block w (base + x) (base + row) from (get_or w v 0 + 1) (get_or w (v + n) 0)
-      → out ≡ sentArea known n block base w v x
-  unfolding sentArea
-  sent-row row from out a b some fewer e =
+      → out ≡ sent_area known n block base w v x
+  unfolding sent_area
+  sent_row row from out a b some fewer e =
       rw (lt-ltb (get_or w v 0) 65535 some, lt-ltb (get_or w v 0) (get_or w x 0) fewer) (e ∙ rw (a, b))
 
   -- where it is not
-  pub sent-pruned : (out : List ℕ) → get_or w v 0 < 65535 → get_or w x 0 ≤ get_or w v 0 → known ≡ false
-      → out ≡ mergedArea n w (base + x) (get_or w v 0 + 1) (get_or w (v + n) 0)
-      → out ≡ sentArea known n block base w v x
-  unfolding sentArea
-  sent-pruned out some more o e =
+  pub sent_pruned : (out : List ℕ) → get_or w v 0 < 65535 → get_or w x 0 ≤ get_or w v 0 → known ≡ false
+      → out ≡ merged_area n w (base + x) (get_or w v 0 + 1) (get_or w (v + n) 0)
+      → out ≡ sent_area known n block base w v x
+  unfolding sent_area
+  sent_pruned out some more o e =
       rw (lt-ltb (get_or w v 0) 65535 some, le-ltb (get_or w v 0) (get_or w x 0) more, o) e
 
   -- nor are hops and count, where cause 9 is known not to hold
-  pub sent-skipped : get_or w v 0 < 65535 → get_or w x 0 ≤ get_or w v 0 → known ≡ true → sentArea known n block base w v x ≡ w
-  unfolding sentArea
-  sent-skipped some more o = rw (lt-ltb (get_or w v 0) 65535 some, le-ltb (get_or w v 0) (get_or w x 0) more, o)
+  pub sent_skipped : get_or w v 0 < 65535 → get_or w x 0 ≤ get_or w v 0 → known ≡ true → sent_area known n block base w v x ≡ w
+  unfolding sent_area
+  sent_skipped some more o = rw (lt-ltb (get_or w v 0) 65535 some, le-ltb (get_or w v 0) (get_or w x 0) more, o)
 
   -- a station without walks sends nothing
-  pub sent-none : 65535 ≤ get_or w v 0 → sentArea known n block base w v x ≡ w
-  unfolding sentArea
-  sent-none none = rw (le-ltb (get_or w v 0) 65535 none)
+  pub sent_none : 65535 ≤ get_or w v 0 → sent_area known n block base w v x ≡ w
+  unfolding sent_area
+  sent_none none = rw (le-ltb (get_or w v 0) 65535 none)
 
 -- the stations of the record that was read lie within the plan
 pub record EndsWithin (n : ℕ) (r : Contact) : Type 0 where
@@ -180,191 +180,191 @@ pub record EndsWithin (n : ℕ) (r : Contact) : Type 0 where
   pub hearer : r.hearer < n
 
 -- the record that was read lies within the plan
-pub read-within : (bs : List ℕ) (n block base j : ℕ) (w : List ℕ) (r : Contact) → FoldableArea bs n block base j w
-    → contactOf r ≡ contactAt bs j → EndsWithin n r
-read-within bs n block base j w r f e =
+pub read_within : (bs : List ℕ) (n block base j : ℕ) (w : List ℕ) (r : Contact) → FoldableArea bs n block base j w
+    → contact_of r ≡ contact_at bs j → EndsWithin n r
+read_within bs n block base j w r f e =
     record {
-      sender = subst (λ c. c.sender < n) (sym e) f.sender-station;
-      hearer = subst (λ c. c.hearer < n) (sym e) f.hearer-station;
+      sender = subst (λ c. c.sender < n) (sym e) f.sender_station;
+      hearer = subst (λ c. c.hearer < n) (sym e) f.hearer_station;
     }
 
 -- a send over the record that was read folds it in
-pub folded-by : (known : Bool) (bs : List ℕ) (n block base j : ℕ) (w out : List ℕ) (r : Contact) → contactOf r ≡ contactAt bs j
-    → out ≡ sentArea known n block base w r.sender r.hearer → out ≡ foldedArea known n block base w (contactAt bs j)
-unfolding foldedArea
-folded-by known bs n block base j w out r e sent = sent ∙ ap (foldedArea known n block base w) e
+pub folded_by : (known : Bool) (bs : List ℕ) (n block base j : ℕ) (w out : List ℕ) (r : Contact) → contact_of r ≡ contact_at bs j
+    → out ≡ sent_area known n block base w r.sender r.hearer → out ≡ folded_area known n block base w (contact_at bs j)
+unfolding folded_area
+folded_by known bs n block base j w out r e sent = sent ∙ ap (folded_area known n block base w) e
 
 -- ---- a mask
 
 module _ (lay : Lanes) (n block s : ℕ) (col : ℕ → ℕ) (w : List ℕ) (v : ℕ) where
   -- the source keeps its column
-  pub masked-source : v ≡ s → masked lay n block s col w v ≡ w
+  pub masked_source : v ≡ s → masked lay n block s col w v ≡ w
   unfolding masked
-  masked-source e = rw (eq-eqb v s e)
+  masked_source e = rw (eq-eqb v s e)
 
   -- a station for which no column stands has none
-  pub masked-none : v ≢ s → block * lay.lanes ≤ col v → masked lay n block s col w v ≡ w
+  pub masked_none : v ≢ s → block * lay.lanes ≤ col v → masked lay n block s col w v ≡ w
   unfolding masked
-  masked-none d past = rw (ne_eqb v s d, le-ltb (col v) (block * lay.lanes) past)
+  masked_none d past = rw (ne_eqb v s d, le-ltb (col v) (block * lay.lanes) past)
 
   -- any other has one, and it becomes 0
-  pub masked-own : (row j : ℕ) → row ≡ row_at n block v → j ≡ col v → v ≢ s → j < block * lay.lanes
-      → clearedColumn lay w row j ≡ masked lay n block s col w v
+  pub masked_own : (row j : ℕ) → row ≡ row_at n block v → j ≡ col v → v ≢ s → j < block * lay.lanes
+      → cleared_column lay w row j ≡ masked lay n block s col w v
   unfolding masked
-  masked-own row j e c d inside = rw (ne_eqb v s d, lt-ltb (col v) (block * lay.lanes) (omega arith), e, c)
+  masked_own row j e c d inside = rw (ne_eqb v s d, lt-ltb (col v) (block * lay.lanes) (omega arith), e, c)
 
 -- ---- settling
 
 module _ (lay : Lanes) (n block base s : ℕ) (col : ℕ → ℕ) (w : List ℕ) (v : ℕ) where
   -- what waits has more hops than what is settled
-  pub taken_more : get_or w v 0 < get_or w (base + v) 0 → sweepOf false w ≡ takenNext lay n block base s col w v
-  unfolding takenNext takenIn widensAt
+  pub taken_more : get_or w v 0 < get_or w (base + v) 0 → sweep_of false w ≡ taken_next lay n block base s col w v
+  unfolding taken_next taken_in widens_at
   taken_more more = rw (lt-ltb (get_or w v 0) (get_or w (base + v) 0) more)
 
   -- the count that the settled entry would have does not fit a lane
-  pub taken-wide : get_or w (base + v) 0 ≤ get_or w v 0
-      → true ≡ tooWide lay (get_or w v 0) (get_or w (v + n) 0) (get_or w (base + v) 0) (get_or w (base + v + n) 0)
-      → sweepOf true w ≡ takenNext lay n block base s col w v
-  unfolding takenNext widensAt
-  taken-wide less wide = rw (le-ltb (get_or w v 0) (get_or w (base + v) 0) less, ← wide)
+  pub taken_wide : get_or w (base + v) 0 ≤ get_or w v 0
+      → true ≡ too_wide lay (get_or w v 0) (get_or w (v + n) 0) (get_or w (base + v) 0) (get_or w (base + v + n) 0)
+      → sweep_of true w ≡ taken_next lay n block base s col w v
+  unfolding taken_next widens_at
+  taken_wide less wide = rw (le-ltb (get_or w v 0) (get_or w (base + v) 0) less, ← wide)
 
   -- it does
-  pub taken-within : (row : ℕ) (one two : List ℕ) → row ≡ row_at n block v
+  pub taken_within : (row : ℕ) (one two : List ℕ) → row ≡ row_at n block v
       → get_or w (base + v) 0 ≤ get_or w v 0
       → one ≡ absorbed n block w v row (base + row) (get_or w (base + v) 0) (get_or w (base + v + n) 0)
       → two ≡ masked lay n block s col one v
-      → false ≡ tooWide lay (get_or w v 0) (get_or w (v + n) 0) (get_or w (base + v) 0) (get_or w (base + v + n) 0)
-      → sweepOf false two ≡ takenNext lay n block base s col w v
-  unfolding takenNext takenIn widensAt
-  taken-within row one two a less first second narrow =
+      → false ≡ too_wide lay (get_or w v 0) (get_or w (v + n) 0) (get_or w (base + v) 0) (get_or w (base + v + n) 0)
+      → sweep_of false two ≡ taken_next lay n block base s col w v
+  unfolding taken_next taken_in widens_at
+  taken_within row one two a less first second narrow =
       rw (le-ltb (get_or w v 0) (get_or w (base + v) 0) less, ← narrow, second, first, a)
 
   module _ (known : Bool) where
     -- its count is over 2^64 - 1: nothing is changed
-    pub settled-over : get_or w (base + v) 0 < 65535 → true ≡ (not known && eqb (get_or w (base + v + n) 0) 0)
-        → sweepOf true w ≡ settledNext known lay n block base s col w v
-    unfolding settledNext haltsAt
-    settled-over some big = rw (lt-ltb (get_or w (base + v) 0) 65535 some, ← big)
+    pub settled_over : get_or w (base + v) 0 < 65535 → true ≡ (not known && eqb (get_or w (base + v + n) 0) 0)
+        → sweep_of true w ≡ settled_next known lay n block base s col w v
+    unfolding settled_next halts_at
+    settled_over some big = rw (lt-ltb (get_or w (base + v) 0) 65535 some, ← big)
 
     module _ (x : List ℕ) (some : get_or w (base + v) 0 < 65535) (small : false ≡ (not known && eqb (get_or w (base + v + n) 0) 0)) where
       -- it is not taken in
-      pub settled-stop : sweepOf true x ≡ takenNext lay n block base s col w v → sweepOf true x ≡ settledNext known lay n block base s col w v
-      unfolding settledNext haltsAt takenNext
-      settled-stop e = rw (lt-ltb (get_or w (base + v) 0) 65535 some, ← small) (go (widensAt lay n base w v) e)
+      pub settled_stop : sweep_of true x ≡ taken_next lay n block base s col w v → sweep_of true x ≡ settled_next known lay n block base s col w v
+      unfolding settled_next halts_at taken_next
+      settled_stop e = rw (lt-ltb (get_or w (base + v) 0) 65535 some, ← small) (go (widens_at lay n base w v) e)
         where
-          go : (b : Bool) → sweepOf true x ≡ cond b (sweepOf true w) (sweepOf false (takenIn lay n block base s col w v))
-              → sweepOf true x ≡ cond b (sweepOf true w) (sweepOf false (settledOne lay n block base s col w v))
+          go : (b : Bool) → sweep_of true x ≡ cond b (sweep_of true w) (sweep_of false (taken_in lay n block base s col w v))
+              → sweep_of true x ≡ cond b (sweep_of true w) (sweep_of false (settled_one lay n block base s col w v))
           go true q = q
-          go false q = absurd (not-both refl (ap (λ z. z.over) q))
+          go false q = absurd (not_both refl (ap (λ z. z.over) q))
 
       -- it is
-      pub settled-go : sweepOf false x ≡ takenNext lay n block base s col w v
-          → sweepOf false (set (set x (base + v) 65535) (base + v + n) 0) ≡ settledNext known lay n block base s col w v
-      unfolding settledNext haltsAt takenNext settledOne
-      settled-go e = rw (lt-ltb (get_or w (base + v) 0) 65535 some, ← small) (go (widensAt lay n base w v) e)
+      pub settled_go : sweep_of false x ≡ taken_next lay n block base s col w v
+          → sweep_of false (set (set x (base + v) 65535) (base + v + n) 0) ≡ settled_next known lay n block base s col w v
+      unfolding settled_next halts_at taken_next settled_one
+      settled_go e = rw (lt-ltb (get_or w (base + v) 0) 65535 some, ← small) (go (widens_at lay n base w v) e)
         where
-          go : (b : Bool) → sweepOf false x ≡ cond b (sweepOf true w) (sweepOf false (takenIn lay n block base s col w v))
-              → sweepOf false (set (set x (base + v) 65535) (base + v + n) 0)
-              ≡ cond b (sweepOf true w) (sweepOf false (set (set (takenIn lay n block base s col w v) (base + v) 65535) (base + v + n) 0))
-          go true q = absurd (not-both refl (sym (ap (λ z. z.over) q)))
-          go false q = ap (λ z. sweepOf false (set (set z.work (base + v) 65535) (base + v + n) 0)) q
+          go : (b : Bool) → sweep_of false x ≡ cond b (sweep_of true w) (sweep_of false (taken_in lay n block base s col w v))
+              → sweep_of false (set (set x (base + v) 65535) (base + v + n) 0)
+              ≡ cond b (sweep_of true w) (sweep_of false (set (set (taken_in lay n block base s col w v) (base + v) 65535) (base + v + n) 0))
+          go true q = absurd (not_both refl (sym (ap (λ z. z.over) q)))
+          go false q = ap (λ z. sweep_of false (set (set z.work (base + v) 65535) (base + v + n) 0)) q
 
     -- nothing waits
-    pub settled-none : 65535 ≤ get_or w (base + v) 0 → sweepOf false w ≡ settledNext known lay n block base s col w v
-    unfolding settledNext settledOne haltsAt
-    settled-none none = rw (le-ltb (get_or w (base + v) 0) 65535 none)
+    pub settled_none : 65535 ≤ get_or w (base + v) 0 → sweep_of false w ≡ settled_next known lay n block base s col w v
+    unfolding settled_next settled_one halts_at
+    settled_none none = rw (le-ltb (get_or w (base + v) 0) 65535 none)
 
 -- settling the stations from f i to before f e gives what settling those from f j on gives
 pub record SettlingArea (f : ℕ → ℕ) (known : Bool) (lay : Lanes) (n block base s : ℕ) (col : ℕ → ℕ) (old : List ℕ) (j e i : ℕ) (now : List ℕ) : Type 0 where
   pub from : j ≤ i
   pub same : length now ≡ length old
-  pub rest : settledBy f known lay n block base s col now i (e - i) ≡ settledBy f known lay n block base s col old j (e - j)
+  pub rest : settled_by f known lay n block base s col now i (e - i) ≡ settled_by f known lay n block base s col old j (e - j)
 
 module _ (f : ℕ → ℕ) (known : Bool) (lay : Lanes) (n block base s : ℕ) (col : ℕ → ℕ) (old : List ℕ) (j e : ℕ) where
   -- at first no station is settled
-  pub settling-none : SettlingArea f known lay n block base s col old j e j old
-  settling-none = record { from = omega arith; same = refl; rest = refl }
+  pub settling_none : SettlingArea f known lay n block base s col old j e j old
+  settling_none = record { from = omega arith; same = refl; rest = refl }
 
   module _ (i : ℕ) (now : List ℕ) (x : SettlingArea f known lay n block base s col old j e i now) where
     -- at last all are
-    pub settling-all : e ≤ i → sweepOf false now ≡ settledBy f known lay n block base s col old j (e - j)
-    unfolding settledBy
-    settling-all h =
+    pub settling_all : e ≤ i → sweep_of false now ≡ settled_by f known lay n block base s col old j (e - j)
+    unfolding settled_by
+    settling_all h =
         let none : e - i ≡ 0 = omega arith in
-        sym (ap (settledBy f known lay n block base s col now i) none) ∙ x.rest
+        sym (ap (settled_by f known lay n block base s col now i) none) ∙ x.rest
 
     module _ (now' : List ℕ) (r : Bool) (h : i < e)
-        (out : sweepOf r now' ≡ settledNext known lay n block base s col now (f i)) where
+        (out : sweep_of r now' ≡ settled_next known lay n block base s col now (f i)) where
       -- it goes on from the next record, or stops here
-      next : cond r (sweepOf true now') (settledBy f known lay n block base s col now' (i + 1) (e - (i + 1)))
-          ≡ settledBy f known lay n block base s col old j (e - j)
-      unfolding settledNext settledBy
+      next : cond r (sweep_of true now') (settled_by f known lay n block base s col now' (i + 1) (e - (i + 1)))
+          ≡ settled_by f known lay n block base s col old j (e - j)
+      unfolding settled_next settled_by
       next =
           let more : e - i ≡ suc (e - (i + 1)) = omega arith in
-          go (haltsAt known lay n base now (f i)) out ∙ sym (ap (settledBy f known lay n block base s col now i) more) ∙ x.rest
+          go (halts_at known lay n base now (f i)) out ∙ sym (ap (settled_by f known lay n block base s col now i) more) ∙ x.rest
         where
           on : Sweep → Sweep
-          on z = cond z.over (sweepOf true z.work) (settledBy f known lay n block base s col z.work (i + 1) (e - (i + 1)))
+          on z = cond z.over (sweep_of true z.work) (settled_by f known lay n block base s col z.work (i + 1) (e - (i + 1)))
 
           go : (t : Bool)
-              → sweepOf r now'
-              ≡ cond t (sweepOf true now) (sweepOf false (settledOne lay n block base s col now (f i)))
-              → on (sweepOf r now')
-              ≡ cond t (sweepOf true now) (settledBy f known lay n block base s col
-              (settledOne lay n block base s col now (f i)) (i + 1) (e - (i + 1)))
+              → sweep_of r now'
+              ≡ cond t (sweep_of true now) (sweep_of false (settled_one lay n block base s col now (f i)))
+              → on (sweep_of r now')
+              ≡ cond t (sweep_of true now) (settled_by f known lay n block base s col
+              (settled_one lay n block base s col now (f i)) (i + 1) (e - (i + 1)))
           go true q = ap on q
           go false q = ap on q
 
       -- one record more
-      pub settling-more : r ≡ false → length now' ≡ length now → SettlingArea f known lay n block base s col old j e (i + 1) now'
-      settling-more goes kept =
+      pub settling_more : r ≡ false → length now' ≡ length now → SettlingArea f known lay n block base s col old j e (i + 1) now'
+      settling_more goes kept =
           let low = x.from in
           record { from = omega arith; same = kept ∙ x.same; rest = rw goes at next }
 
       -- settling stops
-      pub settling-stops : r ≡ true → sweepOf true now' ≡ settledBy f known lay n block base s col old j (e - j)
-      settling-stops stops = rw stops at next
+      pub settling_stops : r ≡ true → sweep_of true now' ≡ settled_by f known lay n block base s col old j (e - j)
+      settling_stops stops = rw stops at next
 
 -- a slot settled for the hearers of its records, or for every station where they are more
 module _ (bs : List ℕ) (n j e : ℕ) (fits : HearersFit bs n j e) (up : j ≤ e) where
   -- the number of the station is that of a record, where not all are settled
-  pub station-record : (all : Bool) → all ≡ ltb n (e - j) → (i : ℕ) → i < min n (e - j) → all ≡ false → (j + i) * 6 + 5 < length bs
-  station-record all is i inside none = (fits (j + i) (omega arith) (omega arith)).inside
+  pub station_record : (all : Bool) → all ≡ ltb n (e - j) → (i : ℕ) → i < min n (e - j) → all ≡ false → (j + i) * 6 + 5 < length bs
+  station_record all is i inside none = (fits (j + i) (omega arith) (omega arith)).inside
 
-  pub station-inside : (all : Bool) → all ≡ ltb n (e - j) → (i : ℕ) → i < min n (e - j) → stationAt bs all j i < n
-  unfolding stationAt
-  station-inside true is i inside = omega arith
-  station-inside false is i inside = (fits (j + i) (omega arith) (omega arith)).hearer-station
+  pub station_inside : (all : Bool) → all ≡ ltb n (e - j) → (i : ℕ) → i < min n (e - j) → station_at bs all j i < n
+  unfolding station_at
+  station_inside true is i inside = omega arith
+  station_inside false is i inside = (fits (j + i) (omega arith) (omega arith)).hearer_station
 
-  pub slot-chosen : (all : Bool) → all ≡ ltb n (e - j) → Chosen bs n j e (stationAt bs all j) 0 (min n (e - j))
-  unfolding stationAt
-  slot-chosen true is =
+  pub slot_chosen : (all : Bool) → all ≡ ltb n (e - j) → Chosen bs n j e (station_at bs all j) 0 (min n (e - j))
+  unfolding station_at
+  slot_chosen true is =
       let more = ltb-true n (e - j) (sym is) in
       record {
         inside = λ m low high. omega arith;
         covers = λ v h other. absurd (other v (omega arith) (omega arith) refl);
       }
-  slot-chosen false is =
+  slot_chosen false is =
       let less = ltb-false n (e - j) (sym is) in
       record {
-        inside = λ m low high. (fits (j + m) (omega arith) (omega arith)).hearer-station;
+        inside = λ m low high. (fits (j + m) (omega arith) (omega arith)).hearer_station;
         covers = λ v h other m low high same.
             let at : j + (m - j) ≡ m = omega arith in
-            other (m - j) (omega arith) (omega arith) (same ∙ ap (hearerAt bs) (sym at));
+            other (m - j) (omega arith) (omega arith) (same ∙ ap (hearer_at bs) (sym at));
       }
 
-  pub slot-settled : (known : Bool) (lay : Lanes) (block base s : ℕ) (col : ℕ → ℕ) (old : List ℕ) (r : Bool) (new : List ℕ)
+  pub slot_settled : (known : Bool) (lay : Lanes) (block base s : ℕ) (col : ℕ → ℕ) (old : List ℕ) (r : Bool) (new : List ℕ)
       → (all : Bool) → all ≡ ltb n (e - j)
-      → sweepOf r new ≡ settledBy (stationAt bs all j) known lay n block base s col old 0 (min n (e - j) - 0)
+      → sweep_of r new ≡ settled_by (station_at bs all j) known lay n block base s col old 0 (min n (e - j) - 0)
       → SlotSettled bs known lay n block base s col j e old r new
-  slot-settled known lay block base s col old r new all is out =
+  slot_settled known lay block base s col old r new all is out =
       let whole : min n (e - j) - 0 ≡ min n (e - j) = omega arith in
       record {
-        stations = stationAt bs all j;
+        stations = station_at bs all j;
         from = 0;
         many = min n (e - j);
-        chosen = slot-chosen all is;
-        out = out ∙ ap (settledBy (stationAt bs all j) known lay n block base s col old 0) whole;
+        chosen = slot_chosen all is;
+        out = out ∙ ap (settled_by (station_at bs all j) known lay n block base s col old 0) whole;
       }
 
 -- ---- the beginning
@@ -374,30 +374,30 @@ pub record Emptying (n size k : ℕ) (old : List ℕ) (at i : ℕ) (now : List �
   pub within : i ≤ k
   pub place : at ≡ i * size
   pub same : length now ≡ length old
-  pub rest : emptiedFrom n size now at (k - i) ≡ emptiedFrom n size old 0 k
+  pub rest : emptied_from n size now at (k - i) ≡ emptied_from n size old 0 k
 
 -- two fills empty a part
-pub emptied-by : (n : ℕ) (w : List ℕ) (at : ℕ) (one out : List ℕ) → one ≡ filled w at n 65535 → out ≡ filled one (at + n) n 0
+pub emptied_by : (n : ℕ) (w : List ℕ) (at : ℕ) (one out : List ℕ) → one ≡ filled w at n 65535 → out ≡ filled one (at + n) n 0
     → out ≡ emptied n w at
 unfolding emptied
-emptied-by n w at one out first second = second ∙ ap (λ l. filled l (at + n) n 0) first
+emptied_by n w at one out first second = second ∙ ap (λ l. filled l (at + n) n 0) first
 
 -- to empty a part keeps the length
-pub emptied-length : (n : ℕ) (w : List ℕ) (at : ℕ) → length (emptied n w at) ≡ length w
+pub emptied_length : (n : ℕ) (w : List ℕ) (at : ℕ) → length (emptied n w at) ≡ length w
 unfolding emptied
-emptied-length n w at = filled-length (filled w at n 65535) (at + n) n 0 ∙ filled-length w at n 65535
+emptied_length n w at = filled_length (filled w at n 65535) (at + n) n 0 ∙ filled_length w at n 65535
 
 module _ (n size k : ℕ) (old : List ℕ) where
   -- at first no part is
-  pub emptying-none : Emptying n size k old 0 0 old
-  emptying-none =
+  pub emptying_none : Emptying n size k old 0 0 old
+  emptying_none =
       let same : k - 0 ≡ k = omega arith in
-      record { within = omega arith; place = omega arith; same = refl; rest = ap (emptiedFrom n size old 0) same }
+      record { within = omega arith; place = omega arith; same = refl; rest = ap (emptied_from n size old 0) same }
 
   -- there is room for one more
-  pub emptying-room : (at i : ℕ) (now : List ℕ) → 2 * n ≤ size → k * size ≤ length old → i < k
+  pub emptying_room : (at i : ℕ) (now : List ℕ) → 2 * n ≤ size → k * size ≤ length old → i < k
       → Emptying n size k old at i now → (at + 2 * n ≤ length now) × (at + size ≤ length old)
-  emptying-room at i now small fits h x =
+  emptying_room at i now small fits h x =
       let a = mul-le-mul_right {m = suc i} {n = k} size h in
       let b = suc-mul i size in
       let place = x.place in
@@ -405,32 +405,32 @@ module _ (n size k : ℕ) (old : List ℕ) where
       (omega arith, omega arith)
 
   -- one part more
-  pub emptying-more : (at i : ℕ) (now now' : List ℕ) → i < k → Emptying n size k old at i now → now' ≡ emptied n now at
+  pub emptying_more : (at i : ℕ) (now now' : List ℕ) → i < k → Emptying n size k old at i now → now' ≡ emptied n now at
       → Emptying n size k old (at + size) (i + 1) now'
-  unfolding emptiedFrom
-  emptying-more at i now now' h x e =
+  unfolding emptied_from
+  emptying_more at i now now' h x e =
       let more : k - i ≡ suc (k - (i + 1)) = omega arith in
       let place = x.place in
       record {
         within = omega arith;
         place = omega (arith, suc-mul i size, place);
-        same = ap length e ∙ emptied-length n now at ∙ x.same;
-        rest = rw e (sym (ap (emptiedFrom n size now at) more) ∙ x.rest);
+        same = ap length e ∙ emptied_length n now at ∙ x.same;
+        rest = rw e (sym (ap (emptied_from n size now at) more) ∙ x.rest);
       }
 
   -- at last all are
-  pub emptying-all : (at i : ℕ) (now : List ℕ) → k ≤ i → Emptying n size k old at i now → now ≡ emptiedFrom n size old 0 k
-  unfolding emptiedFrom
-  emptying-all at i now h x =
+  pub emptying_all : (at i : ℕ) (now : List ℕ) → k ≤ i → Emptying n size k old at i now → now ≡ emptied_from n size old 0 k
+  unfolding emptied_from
+  emptying_all at i now h x =
       let none : k - i ≡ 0 = omega arith in
-      sym (ap (emptiedFrom n size now at) none) ∙ x.rest
+      sym (ap (emptied_from n size now at) none) ∙ x.rest
 
 -- parts that are emptied, two stores and a row of ones begin the pass
-pub begun-by : (n block q s row one : ℕ) (w d out : List ℕ) → d ≡ emptiedFrom n (partSize n block) w 0 (1 + q) → row ≡ row_at n block s
-    → out ≡ filled (set (set d s 0) (s + n) 1) row block one → out ≡ begunArea n block q w s one
-unfolding begunArea
-begun-by n block q s row one w d out ed er eo = cc
+pub begun_by : (n block q s row one : ℕ) (w d out : List ℕ) → d ≡ emptied_from n (part_size n block) w 0 (1 + q) → row ≡ row_at n block s
+    → out ≡ filled (set (set d s 0) (s + n) 1) row block one → out ≡ begun_area n block q w s one
+unfolding begun_area
+begun_by n block q s row one w d out ed er eo = cc
 
 -- two stores keep a list's length
-pub set-twice-length : (w : List ℕ) (i j a b : ℕ) → length (set (set w i a) j b) ≡ length w
-set-twice-length w i j a b = length-set (set w i a) j b ∙ length-set w i a
+pub set_twice_length : (w : List ℕ) (i j a b : ℕ) → length (set (set w i a) j b) ≡ length w
+set_twice_length w i j a b = length-set (set w i a) j b ∙ length-set w i a

@@ -4,70 +4,70 @@
 use Rattle.std.specs.Prelude.{◌≡◌, ℕ, ◌+◌, ◌*◌, ◌^◌, ◌<◌, ◌≤◌, min, Bool, true, false, cond, ◌≢◌, ◌⊎◌, List, length, drop, ◌==◌, nat_eq, nat_lt, slice_index}
 use Rattle.temporal.specs.Plan.{Terms, Lasting}
 use Rattle.temporal.specs.Bytes.{plan_of}
-use Rattle.temporal.specs.Cause.{planFault, appearanceTooMany, stationTooMany}
-use Rattle.temporal.specs.Shortest.{shortestWalks, hops, count}
-use Rattle.temporal.specs.Set.{touchedIn}
-use Rattle.temporal.specs.Foremost.{arrival, walksBy}
+use Rattle.temporal.specs.Cause.{plan_fault, appearance_too_many, station_too_many}
+use Rattle.temporal.specs.Shortest.{shortest_walks, hops, count}
+use Rattle.temporal.specs.Set.{touched_in}
+use Rattle.temporal.specs.Foremost.{arrival, walks_by}
 use Rattle.pass.specs.declared.Ended.{Ended}
 use Rattle.pass.specs.declared.Ended.TheVariants as ended
-use Rattle.pass.specs.Row.{partSize}
-use Rattle.pass.specs.Column.{Lanes, columnsIn, columnAt}
+use Rattle.pass.specs.Row.{part_size}
+use Rattle.pass.specs.Column.{Lanes, columns_in, column_at}
 
 -- in how many parts of the work area the pass has what waits: as many as the turnaround has slots, but no more than there are
 abbrev pub waiting : ℕ → Terms → ℕ
 waiting t terms = min terms.turnaround t
 
 -- how many entries of the work area the pass uses, with q parts of what waits
-abbrev pub areaSize : ℕ → ℕ → ℕ → ℕ
-areaSize n q block = (1 + q) * partSize n block
+abbrev pub area_size : ℕ → ℕ → ℕ → ℕ
+area_size n q block = (1 + q) * part_size n block
 
 -- an accepted plan, a turnaround, a source in it that the pass does not wait for, and a work area that is long enough
 pub record ColumnsReady (bs : List ℕ) (n t : ℕ) (terms : Terms) (s until block : ℕ) (work : List ℕ) : Type 0 where
-  pub accepted : planFault bs n t ≡ 0
+  pub accepted : plan_fault bs n t ≡ 0
   pub units : Lasting t terms
   pub source : s < n
   pub other : s ≢ until
-  pub fits : areaSize n (waiting t terms) block ≤ length work
+  pub fits : area_size n (waiting t terms) block ≤ length work
 
 -- where cause 9 is said to be known not to hold, no appearance has over 2^64 - 1
 abbrev pub Spared : Bool → List ℕ → ℕ → ℕ → Terms → ℕ → Type 0
-Spared known bs n t terms s = known ≡ true → appearanceTooMany (plan_of bs n t terms) s ≡ false
+Spared known bs n t terms s = known ≡ true → appearance_too_many (plan_of bs n t terms) s ≡ false
 
 -- The entries by slot e: station z has its hops at z and its count at n + z, and column j of the row at 2 n + z block holds how many
 -- of its shortest walks by slot e have no station of that column inside. Nothing is said of a count over 2^64 - 1 and beside it, nor of a
 -- row's entry where j stands for z or where there is no walk. A count fits its lane, where an entry has several.
 pub record CountedBy (bs : List ℕ) (n t : ℕ) (terms : Terms) (s e : ℕ) (lay : Lanes) (col : ℕ → ℕ) (block : ℕ) (work : List ℕ) : Type 0 where
-  pub station-hops : (z : ℕ) → z < n → slice_index work z ≡ hops (walksBy (plan_of bs n t terms) s z e)
-  pub station-counts : (z : ℕ) → z < n → count (walksBy (plan_of bs n t terms) s z e) ≤ 18446744073709551615
-      → slice_index work (n + z) ≡ count (walksBy (plan_of bs n t terms) s z e)
-  pub rows : (z j : ℕ) → z < n → j < columnsIn lay block → col z ≢ j → count (walksBy (plan_of bs n t terms) s z e) ≤ 18446744073709551615
-      → hops (walksBy (plan_of bs n t terms) s z e) < 65535
-      → columnAt lay work (2 * n + z * block) j + touchedIn (plan_of bs n t terms) s z (walksBy (plan_of bs n t terms) s z e) (λ v. nat_eq (col v) j)
-      ≡ count (walksBy (plan_of bs n t terms) s z e)
-  pub thin : (z : ℕ) → z < n → count (walksBy (plan_of bs n t terms) s z e) ≤ 18446744073709551615
-      → hops (walksBy (plan_of bs n t terms) s z e) < 65535
-      → (lay.lanes ≡ 1) ⊎ (count (walksBy (plan_of bs n t terms) s z e) < 2 ^ lay.width)
+  pub station_hops_law : (z : ℕ) → z < n → slice_index work z ≡ hops (walks_by (plan_of bs n t terms) s z e)
+  pub station_counts_law : (z : ℕ) → z < n → count (walks_by (plan_of bs n t terms) s z e) ≤ 18446744073709551615
+      → slice_index work (n + z) ≡ count (walks_by (plan_of bs n t terms) s z e)
+  pub rows : (z j : ℕ) → z < n → j < columns_in lay block → col z ≢ j → count (walks_by (plan_of bs n t terms) s z e) ≤ 18446744073709551615
+      → hops (walks_by (plan_of bs n t terms) s z e) < 65535
+      → column_at lay work (2 * n + z * block) j + touched_in (plan_of bs n t terms) s z (walks_by (plan_of bs n t terms) s z e) (λ v. nat_eq (col v) j)
+      ≡ count (walks_by (plan_of bs n t terms) s z e)
+  pub thin : (z : ℕ) → z < n → count (walks_by (plan_of bs n t terms) s z e) ≤ 18446744073709551615
+      → hops (walks_by (plan_of bs n t terms) s z e) < 65535
+      → (lay.lanes ≡ 1) ⊎ (count (walks_by (plan_of bs n t terms) s z e) < 2 ^ lay.width)
 
 -- A pass that ends settled in slot e: the slot in which it reaches the station until, or the last where it does not. No appearance
 -- by that slot has over 2^64 - 1; nor has a station, where the pass waits for none.
 pub record SettledAt (bs : List ℕ) (n t : ℕ) (terms : Terms) (s until : ℕ) (lay : Lanes) (col : ℕ → ℕ) (block : ℕ) (work : List ℕ) (e : ℕ)
     : Type 0 where
   pub slot : e ≡ min t (arrival (plan_of bs n t terms) s until)
-  pub appearances : (v x : ℕ) → v < n → x ≤ e → count (shortestWalks (plan_of bs n t terms) s v x) ≤ 18446744073709551615
-  pub stations : n ≤ until → (z : ℕ) → z < n → count (walksBy (plan_of bs n t terms) s z e) ≤ 18446744073709551615
+  pub appearances : (v x : ℕ) → v < n → x ≤ e → count (shortest_walks (plan_of bs n t terms) s v x) ≤ 18446744073709551615
+  pub stations : n ≤ until → (z : ℕ) → z < n → count (walks_by (plan_of bs n t terms) s z e) ≤ 18446744073709551615
   pub entries : CountedBy bs n t terms s e lay col block work
 
 -- a pass that meets a station with over 2^64 - 1, and no such appearance; it waits for no station
 pub record StationMet (bs : List ℕ) (n t : ℕ) (terms : Terms) (s until : ℕ) : Type 0 where
-  pub waits-for-none : n ≤ until
-  pub appearances : appearanceTooMany (plan_of bs n t terms) s ≡ false
-  pub station : stationTooMany (plan_of bs n t terms) s ≡ true
+  pub waits_for_none : n ≤ until
+  pub appearances : appearance_too_many (plan_of bs n t terms) s ≡ false
+  pub station : station_too_many (plan_of bs n t terms) s ≡ true
 
 -- how a pass ends; a count can only be too wide for its lane where an entry has several
 unfoldable pub EndedAs : List ℕ → ℕ → ℕ → Terms → ℕ → ℕ → Lanes → (ℕ → ℕ) → ℕ → List ℕ → Ended → Type 0
 EndedAs bs n t terms s until lay col block work (ended.Settled e) = SettledAt bs n t terms s until lay col block work e
 EndedAs bs n t terms s until lay col block work ended.StationTooMany = StationMet bs n t terms s until
-EndedAs bs n t terms s until lay col block work ended.AppearanceTooMany = appearanceTooMany (plan_of bs n t terms) s ≡ true
+EndedAs bs n t terms s until lay col block work ended.AppearanceTooMany = appearance_too_many (plan_of bs n t terms) s ≡ true
 EndedAs bs n t terms s until lay col block work ended.TooWide = lay.lanes ≢ 1
 
 -- What a pass promises: how it ends, and that nothing past its part of the work area, of so many entries, is touched.
@@ -78,11 +78,11 @@ pub record ColumnsPassed (bs : List ℕ) (n t : ℕ) (terms : Terms) (s until : 
   pub same_length : length new ≡ length old
 
 -- whether a pass met a count over 2^64 - 1, or too wide for its lane
-unfoldable pub overOf : Ended → Bool
-overOf (ended.Settled e) = false
-overOf ended.StationTooMany = true
-overOf ended.AppearanceTooMany = true
-overOf ended.TooWide = true
+unfoldable pub over_of : Ended → Bool
+over_of (ended.Settled e) = false
+over_of ended.StationTooMany = true
+over_of ended.AppearanceTooMany = true
+over_of ended.TooWide = true
 
 -- the slot in which a pass ended settled; 0 where it met a count over 2^64 - 1
 unfoldable pub slot_of : Ended → ℕ
@@ -93,12 +93,12 @@ slot_of ended.TooWide = 0
 
 -- what it met then: an appearance, or a station where it waits for none
 abbrev pub Overfull : List ℕ → ℕ → ℕ → Terms → ℕ → ℕ → Type 0
-Overfull bs n t terms s until = (appearanceTooMany (plan_of bs n t terms) s ≡ true) ⊎ StationMet bs n t terms s until
+Overfull bs n t terms s until = (appearance_too_many (plan_of bs n t terms) s ≡ true) ⊎ StationMet bs n t terms s until
 
 -- how a pass ends that stops while it settles, where an entry has 2^split lanes
-unfoldable pub stoppedEnd : ℕ → Ended
-stoppedEnd split = cond (split == 0) ended.AppearanceTooMany ended.TooWide
+unfoldable pub stopped_end : ℕ → Ended
+stopped_end split = cond (split == 0) ended.AppearanceTooMany ended.TooWide
 
 -- how a pass ends past the last slot t, where the Boolean says whether some station's settled entry is over 2^64 - 1
-unfoldable pub lastEnded : ℕ → ℕ → ℕ → Bool → Ended
-lastEnded n t until over = cond (nat_lt until n) (ended.Settled t) (cond over ended.StationTooMany (ended.Settled t))
+unfoldable pub last_ended : ℕ → ℕ → ℕ → Bool → Ended
+last_ended n t until over = cond (nat_lt until n) (ended.Settled t) (cond over ended.StationTooMany (ended.Settled t))

@@ -17,12 +17,12 @@ unfoldable pub wrapped : ℕ → ℕ → ℕ
 wrapped a b = (a + b) % 2 ^ 64
 
 -- of a beside h hops and b beside l hops: that of fewer hops; the sum modulo 2^64 where they are equal
-unfoldable pub mergedRow : ℕ → ℕ → ℕ → ℕ → ℕ
-mergedRow h l a b = cond (nat_lt l h) b (cond (l == h) ((a + b) % 2 ^ 64) a)
+unfoldable pub merged_row : ℕ → ℕ → ℕ → ℕ → ℕ
+merged_row h l a b = cond (nat_lt l h) b (cond (l == h) ((a + b) % 2 ^ 64) a)
 
 -- The work area has parts of equal size: n hops, n counts, then a row of block entries for each of the n stations.
-abbrev pub partSize : ℕ → ℕ → ℕ
-partSize n block = 2 * n + n * block
+abbrev pub part_size : ℕ → ℕ → ℕ
+part_size n block = 2 * n + n * block
 
 -- where the row of station v begins in a part
 abbrev pub row_at : ℕ → ℕ → ℕ → ℕ
@@ -30,9 +30,9 @@ row_at n block v = 2 * n + v * block
 
 -- Part 0 has what is settled. What waits of slot u is in one of q parts behind it, in turn: where that part begins.
 unfoldable pub part_at : ℕ → ℕ → ℕ → ℕ → ℕ
-part_at n block q u = (1 + u % q) * partSize n block
+part_at n block q u = (1 + u % q) * part_size n block
 
 -- two stretches of k entries lie within a list
 pub record RowsFit (w : List ℕ) (to from k : ℕ) : Type 0 where
-  pub to-fits : to + k ≤ length w
-  pub from-fits : from + k ≤ length w
+  pub to_fits : to + k ≤ length w
+  pub from_fits : from + k ≤ length w

@@ -1,41 +1,42 @@
 // The forward pass where nothing goes stale: hops and counts from a source to every station, and for each of a block of stations how many
 // shortest walks do not have it inside; or how many shortest walks of a pair have no member of a set of stations inside. Everything
 // lives in a lent work area: what may be sent on, and behind it what is heard and waits, in a part for each slot of the turnaround.
+#![tactic(auto)]
 ghost use Rattle.std.specs.Prelude.{◌≡◌, ◌+◌, ◌-◌, ◌*◌, ◌/◌, ◌^◌, ◌<◌, ◌≤◌, min, false, not, ◌&&◌, length, ◌==◌, slice_index};
 ghost use Rattle.temporal.specs.Lists.{any, below};
 ghost use Rattle.temporal.specs.Plan.{units};
-ghost use Rattle.temporal.specs.Bytes.{contactAt};
-ghost use Rattle.temporal.specs.Struck.{lackingRecord};
+ghost use Rattle.temporal.specs.Bytes.{contact_at};
+ghost use Rattle.temporal.specs.Struck.{lacking_record};
 ghost use Rattle.plan.specs.Record.{SlotRecords};
-ghost use Rattle.entries.specs.Entry.{mergedCount};
+ghost use Rattle.entries.specs.Entry.{merged_count};
 ghost use Rattle.lanes.specs.Lane.{ones};
-ghost use Rattle.pass.specs.Row.{combined, second, wrapped, mergedRow, partSize, row_at, part_at, RowsFit};
-ghost use Rattle.pass.specs.Entry.{mergedArea, absorbed, areaOverflows, reachedEntry, Absorbable};
+ghost use Rattle.pass.specs.Row.{combined, second, wrapped, merged_row, part_size, row_at, part_at, RowsFit};
+ghost use Rattle.pass.specs.Entry.{merged_area, absorbed, area_overflows, reached_entry, Absorbable};
 ghost use Rattle.pass.specs.Sweep.{
-  sentArea,
-  foldedArea,
-  clearedColumn,
+  sent_area,
+  folded_area,
+  cleared_column,
   masked,
-  tooWide,
-  takenNext,
-  sweepOf,
-  settledNext,
-  stationAt,
+  too_wide,
+  taken_next,
+  sweep_of,
+  settled_next,
+  station_at,
   emptied,
-  emptiedFrom,
-  begunArea,
+  emptied_from,
+  begun_area,
   PartFits,
   Area,
   FoldableArea,
   HearersFit,
   SlotSettled,
 };
-ghost use Rattle.pass.specs.Column.{columnOf, lanesBy, splitOf};
-ghost use Rattle.pass.specs.PassedColumns.{waiting, areaSize, ColumnsReady, Spared, ColumnsPassed, lastEnded, stoppedEnd};
+ghost use Rattle.pass.specs.Column.{column_of, lanes_by, split_of};
+ghost use Rattle.pass.specs.PassedColumns.{waiting, area_size, ColumnsReady, Spared, ColumnsPassed, last_ended, stopped_end};
 
 // Which column of a row stands for a station. From(low, split): column j for station low + j; an entry of a row holds 2^split columns,
 // split up to 3. Members(z): column 0 for each member of a lent set of bytes but z, a byte for each station, 1 for a member.
-#[derive(Drop)]
+#[derive(Clone, Copy)]
 pub enum Columns {
     From(usize, usize),
     Members(usize),
@@ -43,7 +44,7 @@ pub enum Columns {
 
 // How a pass ends: settled in a slot; with a station that has over 2^64 - 1 shortest walks; with an appearance that has; or with a count
 // that does not fit a lane, where an entry has several.
-#[derive(Drop)]
+#[derive(Clone, Copy)]
 pub enum Ended {
     Settled(usize),
     StationTooMany,
@@ -88,7 +89,7 @@ fn add_row(work: &mut [u64], to: usize, from: usize, size: usize)
 // Takes a row beside l hops into a row beside h hops.
 fn merge_row(work: &mut [u64], to: usize, from: usize, size: usize, h: u64, l: u64)
     requires { RowsFit work.old to from size }
-    ensures { work.new ≡ combined (mergedRow h l) work.old to from size }
+    ensures { work.new ≡ combined (merged_row h l) work.old to from size }
 {
     if l < h {
         copy_row(work, to, from, size);
@@ -102,7 +103,7 @@ fn merge_row(work: &mut [u64], to: usize, from: usize, size: usize, h: u64, l: u
 // Takes d walks of l hops into the entry at a place.
 fn merge(work: &mut [u64], n: usize, at: usize, l: u64, d: u64)
     requires { at + n < length work.old }
-    ensures { work.new ≡ mergedArea n work.old at l d }
+    ensures { work.new ≡ merged_area n work.old at l d }
 {
     let old = work[at];
     let counted = at + n;
@@ -147,7 +148,7 @@ pub fn row_at(n: usize, block: usize, v: usize) -> usize
 // row is left out, and hops and count too where cause 9 is known not to hold.
 fn send(work: &mut [u64], known: bool, n: usize, block: usize, base: usize, v: usize, x: usize)
     requires { PartFits n block base work.old × (v < n) × (x < n) }
-    ensures { work.new ≡ sentArea known n block base work.old v x }
+    ensures { work.new ≡ sent_area known n block base work.old v x }
 {
     let h = work[v];
     if h < 65535 {
@@ -177,9 +178,9 @@ fn fold_record(
     base: usize,
     j: usize,
 )
-    requires { FoldableArea (lackingRecord plan.now out) n block base j work.old }
+    requires { FoldableArea (lacking_record plan.now out) n block base j work.old }
     ensures { work.new ≡
-        foldedArea known n block base work.old (contactAt (lackingRecord plan.now out) j) }
+        folded_area known n block base work.old (contact_at (lacking_record plan.now out) j) }
 {
     let c = plan::kept_contact(plan, out, j);
     send(work, known, n, block, base, c.sender, c.hearer);
@@ -187,7 +188,7 @@ fn fold_record(
 
 // The column that stands for station v, or none.
 pub fn column_of(columns: Columns, set: &[u8], v: usize, none: usize) -> usize
-    ensures { result ≡ columnOf columns set.now none v }
+    ensures { result ≡ column_of columns set.now none v }
 {
     match columns {
         Columns::From(low, _) => {
@@ -212,7 +213,7 @@ pub fn column_of(columns: Columns, set: &[u8], v: usize, none: usize) -> usize
 
 // In how many halves the entries of a row are split, again and again.
 pub fn split_of(columns: Columns) -> usize
-    ensures { result ≡ splitOf columns }
+    ensures { result ≡ split_of columns }
 {
     match columns {
         Columns::From(_, split) => {
@@ -227,7 +228,7 @@ pub fn split_of(columns: Columns) -> usize
 // Writes 0 to column j of the row that begins at a place.
 pub fn clear_column(work: &mut [u64], row: usize, j: usize, split: usize)
     requires { (split ≤ 3) × (j < 2 ^ 63) × (row + j / 2 ^ split < length work.old) }
-    ensures { work.new ≡ clearedColumn (lanesBy split) work.old row j }
+    ensures { work.new ≡ cleared_column (lanes_by split) work.old row j }
 {
     let at = row + lanes::entry_of(j, split);
     let w = lanes::width_of(split);
@@ -245,9 +246,9 @@ fn mask(
     set: &[u8],
     v: usize,
 )
-    requires { (row_at n block v + block ≤ length work.old) × (splitOf columns ≤ 3) }
-    ensures { work.new ≡ masked (lanesBy (splitOf columns)) n block source
-        (columnOf columns set.now (block * 2 ^ splitOf columns)) work.old v }
+    requires { (row_at n block v + block ≤ length work.old) × (split_of columns ≤ 3) }
+    ensures { work.new ≡ masked (lanes_by (split_of columns)) n block source
+        (column_of columns set.now (block * 2 ^ split_of columns)) work.old v }
 {
     if v == source {
         return;
@@ -263,7 +264,7 @@ fn mask(
 
 // The count beside the fewer of h and l hops; both counts where they are equal. 0 stands for one over 2^64 - 1.
 fn merged_count(h: u64, c: u64, l: u64, d: u64) -> u64
-    ensures { result ≡ mergedCount h c l d }
+    ensures { result ≡ merged_count h c l d }
 {
     if l < h {
         return d;
@@ -277,7 +278,7 @@ fn merged_count(h: u64, c: u64, l: u64, d: u64) -> u64
 // Whether the count of d walks of l hops, taken in beside c of h hops, does not fit a lane.
 pub fn too_wide(split: usize, h: u64, c: u64, l: u64, d: u64) -> bool
     requires { split ≤ 3 }
-    ensures { result ≡ tooWide (lanesBy split) h c l d }
+    ensures { result ≡ too_wide (lanes_by split) h c l d }
 {
     if split == 0 {
         return false;
@@ -291,8 +292,8 @@ pub fn too_wide(split: usize, h: u64, c: u64, l: u64, d: u64) -> bool
 
 // The same for the settled entry of station v.
 pub fn wide_at(work: &[u64], n: usize, v: usize, l: u64, d: u64, columns: Columns) -> bool
-    requires { (v + n < length work.now) × (splitOf columns ≤ 3) }
-    ensures { result ≡ tooWide (lanesBy (splitOf columns)) (slice_index work.now v) (slice_index work.now (v + n)) l d }
+    requires { (v + n < length work.now) × (split_of columns ≤ 3) }
+    ensures { result ≡ too_wide (lanes_by (split_of columns)) (slice_index work.now v) (slice_index work.now (v + n)) l d }
 {
     let split = split_of(columns);
     let counted = v + n;
@@ -321,9 +322,9 @@ fn take_in(
     set: &[u8],
     v: usize,
 ) -> bool
-    requires { PartFits n block base work.old × (v < n) × (splitOf columns ≤ 3) }
-    ensures { sweepOf result work.new ≡
-        takenNext (lanesBy (splitOf columns)) n block base source (columnOf columns set.now (block * 2 ^ splitOf columns))
+    requires { PartFits n block base work.old × (v < n) × (split_of columns ≤ 3) }
+    ensures { sweep_of result work.new ≡
+        taken_next (lanes_by (split_of columns)) n block base source (column_of columns set.now (block * 2 ^ split_of columns))
         work.old v }
 {
     let at = base + v;
@@ -355,9 +356,9 @@ fn settle_waiting(
     set: &[u8],
     v: usize,
 ) -> bool
-    requires { PartFits n block base work.old × (v < n) × (splitOf columns ≤ 3) × (slice_index work.old (base + v) < 65535) }
-    ensures { sweepOf result work.new ≡
-        settledNext known (lanesBy (splitOf columns)) n block base source (columnOf columns set.now (block * 2 ^ splitOf columns))
+    requires { PartFits n block base work.old × (v < n) × (split_of columns ≤ 3) × (slice_index work.old (base + v) < 65535) }
+    ensures { sweep_of result work.new ≡
+        settled_next known (lanes_by (split_of columns)) n block base source (column_of columns set.now (block * 2 ^ split_of columns))
         work.old v }
 {
     let at = base + v;
@@ -385,9 +386,9 @@ fn settle_one(
     set: &[u8],
     v: usize,
 ) -> bool
-    requires { PartFits n block base work.old × (v < n) × (splitOf columns ≤ 3) }
-    ensures { sweepOf result work.new ≡
-        settledNext known (lanesBy (splitOf columns)) n block base source (columnOf columns set.now (block * 2 ^ splitOf columns))
+    requires { PartFits n block base work.old × (v < n) × (split_of columns ≤ 3) }
+    ensures { sweep_of result work.new ≡
+        settled_next known (lanes_by (split_of columns)) n block base source (column_of columns set.now (block * 2 ^ split_of columns))
         work.old v }
 {
     if work[base + v] < 65535 {
@@ -399,8 +400,8 @@ fn settle_one(
 // The station that is settled as number i of a slot whose records stand from j on: the hearer of its record, or where all stations are
 // settled, station i.
 pub fn station_at(plan: &[u8], out: usize, all: bool, j: usize, i: usize) -> usize
-    requires { (all ≡ false → (j + i) * 6 + 5 < length (lackingRecord plan.now out)) × (j + i < 18446744073709551616) }
-    ensures { result ≡ stationAt (lackingRecord plan.now out) all j i }
+    requires { (all ≡ false → (j + i) * 6 + 5 < length (lacking_record plan.now out)) × (j + i < 18446744073709551616) }
+    ensures { result ≡ station_at (lacking_record plan.now out) all j i }
 {
     if all {
         return i;
@@ -425,9 +426,9 @@ fn settle_slot(
     j: usize,
     end: usize,
 ) -> bool
-    requires { PartFits n block base work.old × HearersFit (lackingRecord plan.now out) n j end × (splitOf columns ≤ 3) × (j ≤ end) }
-    ensures { SlotSettled (lackingRecord plan.now out) known (lanesBy (splitOf columns)) n block base source
-        (columnOf columns set.now (block * 2 ^ splitOf columns)) j end work.old result work.new }
+    requires { PartFits n block base work.old × HearersFit (lacking_record plan.now out) n j end × (split_of columns ≤ 3) × (j ≤ end) }
+    ensures { SlotSettled (lacking_record plan.now out) known (lanes_by (split_of columns)) n block base source
+        (column_of columns set.now (block * 2 ^ split_of columns)) j end work.old result work.new }
 {
     let all = n < end - j;
     let many = smaller(n, end - j);
@@ -454,7 +455,7 @@ pub fn empty_part(work: &mut [u64], n: usize, at: usize)
 // Empties the first k parts of a size.
 fn empty_parts(work: &mut [u64], n: usize, size: usize, k: usize)
     requires { (2 * n ≤ size) × (k * size ≤ length work.old) }
-    ensures { work.new ≡ emptiedFrom n size work.old 0 k }
+    ensures { work.new ≡ emptied_from n size work.old 0 k }
 {
     let mut at = 0;
     let mut i = 0;
@@ -468,7 +469,7 @@ fn empty_parts(work: &mut [u64], n: usize, size: usize, k: usize)
 // Clears the work area and settles the empty walk of the source; one is what each entry of its row holds.
 pub fn begin(work: &mut [u64], n: usize, block: usize, q: usize, source: usize, one: u64)
     requires { Area n block q work.old × (source < n) }
-    ensures { work.new ≡ begunArea n block q work.old source one }
+    ensures { work.new ≡ begun_area n block q work.old source one }
 {
     empty_parts(work, n, 2 * n + n * block, 1 + q);
     work[source] = 0;
@@ -486,9 +487,9 @@ pub fn begin_columns(
     source: usize,
     columns: Columns,
 )
-    requires { Area n block q work.old × (source < n) × (splitOf columns ≤ 3) }
-    ensures { work.new ≡ begunArea n block q work.old source
-        (ones (lanesBy (splitOf columns)).width (lanesBy (splitOf columns)).lanes) }
+    requires { Area n block q work.old × (source < n) × (split_of columns ≤ 3) }
+    ensures { work.new ≡ begun_area n block q work.old source
+        (ones (lanes_by (split_of columns)).width (lanes_by (split_of columns)).lanes) }
 {
     let split = split_of(columns);
     let one = lanes::ones_of(split);
@@ -497,7 +498,7 @@ pub fn begin_columns(
 
 // Where the part begins in which waits what is heard in slot u, of q parts.
 fn part_at(n: usize, block: usize, q: usize, u: usize) -> usize
-    requires { (0 < q) × ((1 + q) * partSize n block < 18446744073709551616) }
+    requires { (0 < q) × ((1 + q) * part_size n block < 18446744073709551616) }
     ensures { result ≡ part_at n block q u }
 {
     (1 + u % q) * (2 * n + n * block)
@@ -506,7 +507,7 @@ fn part_at(n: usize, block: usize, q: usize, u: usize) -> usize
 // Whether the settled entry of some station has a count over 2^64 - 1.
 fn any_overflows(work: &[u64], n: usize) -> bool
     requires { 2 * n ≤ length work.now }
-    ensures { result ≡ any (areaOverflows n work.now) (below n) }
+    ensures { result ≡ any (area_overflows n work.now) (below n) }
 {
     let mut v = 0;
     while v < n {
@@ -521,7 +522,7 @@ fn any_overflows(work: &[u64], n: usize) -> bool
 // Whether the station until has a settled walk. Where it is no station's number it has none.
 fn reached(work: &[u64], n: usize, until: usize) -> bool
     requires { n ≤ length work.now }
-    ensures { result ≡ reachedEntry n work.now until }
+    ensures { result ≡ reached_entry n work.now until }
 {
     if until < n {
         return work[until] < 65535;
@@ -532,7 +533,7 @@ fn reached(work: &[u64], n: usize, until: usize) -> bool
 // How a pass ends past the last slot: where it waits for no station, every station's count is looked at.
 pub fn end_pass(work: &[u64], n: usize, t: usize, until: usize) -> Ended
     requires { 2 * n ≤ length work.now }
-    ensures { result ≡ lastEnded n t until (any (areaOverflows n work.now) (below n)) }
+    ensures { result ≡ last_ended n t until (any (area_overflows n work.now) (below n)) }
 {
     if until < n {
         return Ended::Settled(t);
@@ -545,7 +546,7 @@ pub fn end_pass(work: &[u64], n: usize, t: usize, until: usize) -> Ended
 
 // How a pass ends that stops while it settles.
 pub fn stopped(columns: Columns) -> Ended
-    ensures { result ≡ stoppedEnd (splitOf columns) }
+    ensures { result ≡ stopped_end (split_of columns) }
 {
     if split_of(columns) == 0 {
         return Ended::AppearanceTooMany;
@@ -555,8 +556,8 @@ pub fn stopped(columns: Columns) -> Ended
 
 // The position past the records of slot u, which stand from i on; j is that position where what waits is settled in the next slot.
 pub fn settled_end(plan: &[u8], out: usize, q: usize, u: usize, i: usize, j: usize) -> usize
-    requires { (i * 6 ≤ length (lackingRecord plan.now out)) × (q ≡ 1 → SlotRecords (lackingRecord plan.now out) u i j) }
-    ensures { SlotRecords (lackingRecord plan.now out) u i result }
+    requires { (i * 6 ≤ length (lacking_record plan.now out)) × (q ≡ 1 → SlotRecords (lacking_record plan.now out) u i j) }
+    ensures { SlotRecords (lacking_record plan.now out) u i result }
 {
     if q == 1 {
         return j;
@@ -584,10 +585,10 @@ pub fn pass_columns(
     block: usize,
     until: usize,
 ) -> Ended
-    requires { ColumnsReady (lackingRecord plan.now out) n t (units g h) source until block work.old × (splitOf columns ≤ 3) ×
-        Spared known (lackingRecord plan.now out) n t (units g h) source }
-    ensures { ColumnsPassed (lackingRecord plan.now out) n t (units g h) source until (lanesBy (splitOf columns))
-        (columnOf columns set.now (block * 2 ^ splitOf columns)) block (areaSize n (waiting t (units g h)) block)
+    requires { ColumnsReady (lacking_record plan.now out) n t (units g h) source until block work.old × (split_of columns ≤ 3) ×
+        Spared known (lacking_record plan.now out) n t (units g h) source }
+    ensures { ColumnsPassed (lacking_record plan.now out) n t (units g h) source until (lanes_by (split_of columns))
+        (column_of columns set.now (block * 2 ^ split_of columns)) block (area_size n (waiting t (units g h)) block)
         work.old work.new result }
 {
     let q = smaller(g, t);

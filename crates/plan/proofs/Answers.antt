@@ -7,9 +7,9 @@ use mathlib.Core.List.{List}
 use native.Mathlib.Omega.{arith}
 use lib.Dec.{lit<}
 use Rattle.temporal.specs.Bytes.{records}
-use Rattle.temporal.specs.Cause.{first, recordCauses, planFault}
-use Rattle.walks.proofs.CheckLaws.{faultFrom, records-pass, records-stop}
-use Rattle.plan.specs.Fault.{planNumber, callNumber, faultNumber, checkNumber}
+use Rattle.temporal.specs.Cause.{first, record_causes, plan_fault}
+use Rattle.walks.proofs.CheckLaws.{fault_from, records_pass, records_stop}
+use Rattle.plan.specs.Fault.{plan_number, call_number, fault_number, check_number}
 use Rattle.plan.specs.declared.PlanFault.{PlanFault}
 use Rattle.plan.specs.declared.PlanFault.TheVariants as plan-fault
 use Rattle.plan.specs.declared.CallFault.{CallFault}
@@ -20,21 +20,21 @@ use Rattle.plan.specs.declared.CheckAnswer.{CheckAnswer}
 use Rattle.plan.specs.declared.CheckAnswer.TheVariants.{Accepted, Refused}
 
 -- no fault has the number 0
-pub number-positive : (f : PlanFault) → 0 < planNumber f
+pub number-positive : (f : PlanFault) → 0 < plan_number f
 number-positive plan-fault.Limits = lit< tt
 number-positive plan-fault.Length = lit< tt
 number-positive plan-fault.Slot = lit< tt
 number-positive plan-fault.Ends = lit< tt
 number-positive plan-fault.Order = lit< tt
 
-pub plan-number-small : (f : PlanFault) → planNumber f ≤ 5
+pub plan-number-small : (f : PlanFault) → plan_number f ≤ 5
 plan-number-small plan-fault.Limits = omega arith
 plan-number-small plan-fault.Length = omega arith
 plan-number-small plan-fault.Slot = omega arith
 plan-number-small plan-fault.Ends = omega arith
 plan-number-small plan-fault.Order = omega arith
 
-pub call-number-within : (f : CallFault) → (0 < callNumber f) × (callNumber f ≤ 17)
+pub call-number-within : (f : CallFault) → (0 < call_number f) × (call_number f ≤ 17)
 call-number-within call-fault.Station = (omega arith, omega arith)
 call-number-within call-fault.SameStation = (omega arith, omega arith)
 call-number-within call-fault.Short = (omega arith, omega arith)
@@ -48,16 +48,16 @@ call-number-within call-fault.Channels = (omega arith, omega arith)
 call-number-within call-fault.Untaken = (omega arith, omega arith)
 call-number-within call-fault.Position = (omega arith, omega arith)
 
-pub fault-number-within : (f : Fault) → (0 < faultNumber f) × (faultNumber f ≤ 17)
+pub fault-number-within : (f : Fault) → (0 < fault_number f) × (fault_number f ≤ 17)
 fault-number-within (fault.Plan f) = (number-positive f, omega (arith, plan-number-small f))
 fault-number-within (fault.Call f) = call-number-within f
 
-module _ (bs : List ℕ) (n t i : ℕ) (inside : i < records bs) (rest : planFault bs n t ≡ faultFrom bs n t i)
-    (r : CheckAnswer) (answer : checkNumber r ≡ first (recordCauses bs n t i)) where
-  pub refused-decides : (f : PlanFault) → r ≡ Refused f → planNumber f ≡ planFault bs n t
+module _ (bs : List ℕ) (n t i : ℕ) (inside : i < records bs) (rest : plan_fault bs n t ≡ fault_from bs n t i)
+    (r : CheckAnswer) (answer : check_number r ≡ first (record_causes bs n t i)) where
+  pub refused-decides : (f : PlanFault) → r ≡ Refused f → plan_number f ≡ plan_fault bs n t
   refused-decides f e =
-      let here : planNumber f ≡ first (recordCauses bs n t i) = ap checkNumber (sym e) ∙ answer in
-      here ∙ sym (rest ∙ records-stop bs n t i inside (subst (λ k. 0 < k) here (number-positive f)))
+      let here : plan_number f ≡ first (record_causes bs n t i) = ap check_number (sym e) ∙ answer in
+      here ∙ sym (rest ∙ records_stop bs n t i inside (subst (λ k. 0 < k) here (number-positive f)))
 
-  pub accepted-passes : r ≡ Accepted → planFault bs n t ≡ faultFrom bs n t (i + 1)
-  accepted-passes e = rest ∙ records-pass bs n t i inside (sym answer ∙ ap checkNumber e)
+  pub accepted-passes : r ≡ Accepted → plan_fault bs n t ≡ fault_from bs n t (i + 1)
+  accepted-passes e = rest ∙ records_pass bs n t i inside (sym answer ∙ ap check_number e)

@@ -11,33 +11,33 @@ use Rattle.plan.specs.declared.CheckAnswer.{CheckAnswer}
 use Rattle.plan.specs.declared.CheckAnswer.TheVariants as check-answer
 
 -- causes 1 to 5
-abbrev pub planNumber : PlanFault → ℕ
-planNumber plan-fault.Limits = 1
-planNumber plan-fault.Length = 2
-planNumber plan-fault.Slot = 3
-planNumber plan-fault.Ends = 4
-planNumber plan-fault.Order = 5
+abbrev pub plan_number : PlanFault → ℕ
+plan_number plan-fault.Limits = 1
+plan_number plan-fault.Length = 2
+plan_number plan-fault.Slot = 3
+plan_number plan-fault.Ends = 4
+plan_number plan-fault.Order = 5
 
 -- causes 6 to 10, and 11 to 17 of document 02
-abbrev pub callNumber : CallFault → ℕ
-callNumber call-fault.Station = 6
-callNumber call-fault.SameStation = 7
-callNumber call-fault.Short = 8
-callNumber call-fault.TooMany = 9
-callNumber call-fault.NotShortestPath = 10
-callNumber call-fault.SetByte = 11
-callNumber call-fault.Turnaround = 12
-callNumber call-fault.Sources = 13
-callNumber call-fault.Keeping = 14
-callNumber call-fault.Channels = 15
-callNumber call-fault.Untaken = 16
-callNumber call-fault.Position = 17
+abbrev pub call_number : CallFault → ℕ
+call_number call-fault.Station = 6
+call_number call-fault.SameStation = 7
+call_number call-fault.Short = 8
+call_number call-fault.TooMany = 9
+call_number call-fault.NotShortestPath = 10
+call_number call-fault.SetByte = 11
+call_number call-fault.Turnaround = 12
+call_number call-fault.Sources = 13
+call_number call-fault.Keeping = 14
+call_number call-fault.Channels = 15
+call_number call-fault.Untaken = 16
+call_number call-fault.Position = 17
 
-abbrev pub faultNumber : Fault → ℕ
-faultNumber (fault.Plan f) = planNumber f
-faultNumber (fault.Call f) = callNumber f
+abbrev pub fault_number : Fault → ℕ
+fault_number (fault.Plan f) = plan_number f
+fault_number (fault.Call f) = call_number f
 
 -- 0 where a plan is accepted
-abbrev pub checkNumber : CheckAnswer → ℕ
-checkNumber check-answer.Accepted = 0
-checkNumber (check-answer.Refused f) = planNumber f
+abbrev pub check_number : CheckAnswer → ℕ
+check_number check-answer.Accepted = 0
+check_number (check-answer.Refused f) = plan_number f

@@ -1,15 +1,16 @@
 // Plan bytes: the faults with their numbers, reading a record, operation 1, `check`, which rests on these, and the slots that a contact may
 // follow.
+#![tactic(auto)]
 ghost use Rattle.std.specs.Prelude.{◌≡◌, ◌+◌, ◌*◌, ◌<◌, ◌≤◌, length};
-ghost use Rattle.temporal.specs.Plan.{windowFirst, windowEnd};
-ghost use Rattle.temporal.specs.Bytes.{word_at, contactAt};
-ghost use Rattle.temporal.specs.Struck.{lackingRecord, positionWith};
-ghost use Rattle.temporal.specs.Cause.{first, isAbove, recordCauses, planFault};
-ghost use Rattle.plan.specs.Fault.{planNumber, callNumber, faultNumber, checkNumber};
-ghost use Rattle.plan.specs.Record.{contactOf, in_slot, SlotRecords};
+ghost use Rattle.temporal.specs.Plan.{window_first, window_end};
+ghost use Rattle.temporal.specs.Bytes.{word_at, contact_at};
+ghost use Rattle.temporal.specs.Struck.{lacking_record, position_with};
+ghost use Rattle.temporal.specs.Cause.{first, is_above, record_causes, plan_fault};
+ghost use Rattle.plan.specs.Fault.{plan_number, call_number, fault_number, check_number};
+ghost use Rattle.plan.specs.Record.{contact_of, in_slot, SlotRecords};
 
 // A fault of the plan, document 01's causes 1 to 5 in turn.
-#[derive(Drop)]
+#[derive(Clone, Copy)]
 pub enum PlanFault {
     Limits,
     Length,
@@ -19,7 +20,7 @@ pub enum PlanFault {
 }
 
 // A fault of the call, document 01's causes 6 to 10 in turn, then document 02's.
-#[derive(Drop)]
+#[derive(Clone, Copy)]
 pub enum CallFault {
     Station,
     SameStation,
@@ -36,14 +37,14 @@ pub enum CallFault {
 }
 
 // Why an operation refuses.
-#[derive(Drop)]
+#[derive(Clone, Copy)]
 pub enum Fault {
     Plan(PlanFault),
     Call(CallFault),
 }
 
 // What check answers.
-#[derive(Drop)]
+#[derive(Clone, Copy)]
 pub enum CheckAnswer {
     Accepted,
     Refused(PlanFault),
@@ -51,7 +52,7 @@ pub enum CheckAnswer {
 
 // Document 01's number of a fault of the plan.
 pub fn plan_number(fault: PlanFault) -> usize
-    ensures { result ≡ planNumber fault }
+    ensures { result ≡ plan_number fault }
 {
     match fault {
         PlanFault::Limits => 1,
@@ -64,7 +65,7 @@ pub fn plan_number(fault: PlanFault) -> usize
 
 // Document 01's number of a fault of the call.
 pub fn call_number(fault: CallFault) -> usize
-    ensures { result ≡ callNumber fault }
+    ensures { result ≡ call_number fault }
 {
     match fault {
         CallFault::Station => 6,
@@ -84,7 +85,7 @@ pub fn call_number(fault: CallFault) -> usize
 
 // Document 01's number of a fault.
 pub fn fault_number(fault: Fault) -> usize
-    ensures { result ≡ faultNumber fault }
+    ensures { result ≡ fault_number fault }
 {
     match fault {
         Fault::Plan(f) => plan_number(f),
@@ -94,7 +95,7 @@ pub fn fault_number(fault: Fault) -> usize
 
 // Document 01's number of check's answer, 0 where the plan is accepted.
 pub fn check_number(answer: CheckAnswer) -> usize
-    ensures { result ≡ checkNumber answer }
+    ensures { result ≡ check_number answer }
 {
     match answer {
         CheckAnswer::Accepted => 0,
@@ -103,7 +104,7 @@ pub fn check_number(answer: CheckAnswer) -> usize
 }
 
 // A record: in a slot a station sends and another hears.
-#[derive(Drop)]
+#[derive(Clone, Copy)]
 pub struct Contact {
     pub slot: usize,
     pub sender: usize,
@@ -128,7 +129,7 @@ fn word_at(plan: &[u8], k: usize) -> usize
 // The record at position i. It is no operation: the crates above read records of accepted plans by it.
 pub fn contact_at(plan: &[u8], i: usize) -> Contact
     requires { i * 6 + 5 < length plan.now }
-    ensures { contactOf result ≡ contactAt plan.now i }
+    ensures { contact_of result ≡ contact_at plan.now i }
 {
     let at = i * 6;
     Contact {
@@ -154,7 +155,7 @@ pub fn in_slot(plan: &[u8], j: usize, u: usize) -> bool
 // the whole plan. They are no operations either. First: the position, in the whole plan, of the record that has position j without it.
 fn position_with(out: usize, j: usize) -> usize
     requires { j < 18446744073709551615 }
-    ensures { result ≡ positionWith out j }
+    ensures { result ≡ position_with out j }
 {
     if j < out {
         return j;
@@ -164,15 +165,15 @@ fn position_with(out: usize, j: usize) -> usize
 
 // The record at position j.
 pub fn kept_contact(plan: &[u8], out: usize, j: usize) -> Contact
-    requires { j * 6 + 5 < length (lackingRecord plan.now out) }
-    ensures { contactOf result ≡ contactAt (lackingRecord plan.now out) j }
+    requires { j * 6 + 5 < length (lacking_record plan.now out) }
+    ensures { contact_of result ≡ contact_at (lacking_record plan.now out) j }
 {
     contact_at(plan, position_with(out, j))
 }
 
 // Whether there is a record at position j and it lies in slot u.
 pub fn kept_in_slot(plan: &[u8], out: usize, j: usize, u: usize) -> bool
-    ensures { result ≡ in_slot (lackingRecord plan.now out) j u }
+    ensures { result ≡ in_slot (lacking_record plan.now out) j u }
 {
     if j < plan.len() {
         return in_slot(plan, position_with(out, j), u);
@@ -182,8 +183,8 @@ pub fn kept_in_slot(plan: &[u8], out: usize, j: usize, u: usize) -> bool
 
 // The position past the records of slot u that stand from j on.
 pub fn kept_slot_end(plan: &[u8], out: usize, j: usize, u: usize) -> usize
-    requires { j * 6 ≤ length (lackingRecord plan.now out) }
-    ensures { SlotRecords (lackingRecord plan.now out) u j result }
+    requires { j * 6 ≤ length (lacking_record plan.now out) }
+    ensures { SlotRecords (lacking_record plan.now out) u j result }
 {
     let mut i = j;
     while kept_in_slot(plan, out, i, u) {
@@ -202,7 +203,7 @@ pub fn slot_end(plan: &[u8], j: usize, u: usize) -> usize
 
 // Whether d is above c, compared by slot, then sender, then hearer.
 fn is_above(c: Contact, d: Contact) -> bool
-    ensures { result ≡ isAbove (contactOf c) (contactOf d) }
+    ensures { result ≡ is_above (contact_of c) (contact_of d) }
 {
     if c.slot < d.slot {
         return true;
@@ -222,7 +223,7 @@ fn is_above(c: Contact, d: Contact) -> bool
 // The first of the causes 3, 4 and 5 of the record at i. It is compared with its neighbour once it passed 3 and 4.
 fn check_record(plan: &[u8], n: usize, t: usize, i: usize) -> CheckAnswer
     requires { i * 6 + 5 < length plan.now }
-    ensures { checkNumber result ≡ first (recordCauses plan.now n t i) }
+    ensures { check_number result ≡ first (record_causes plan.now n t i) }
 {
     let c = contact_at(plan, i);
     if c.slot == 0 {
@@ -253,7 +254,7 @@ fn check_record(plan: &[u8], n: usize, t: usize, i: usize) -> CheckAnswer
 // Operation 1, check: accepts a plan of n stations and t slots exactly where no cause 1 to 5 holds, and else gives the
 // first in document 01's order, record by record.
 pub fn check(plan: &[u8], n: usize, t: usize) -> CheckAnswer
-    ensures { checkNumber result ≡ planFault plan.now n t }
+    ensures { check_number result ≡ plan_fault plan.now n t }
 {
     if n == 0 {
         return CheckAnswer::Refused(PlanFault::Limits);
@@ -288,7 +289,7 @@ pub fn check(plan: &[u8], n: usize, t: usize) -> CheckAnswer
 
 // The first slot after the start that a contact in slot u may follow, where a reading is kept for h slots.
 pub fn window_first(h: usize, u: usize) -> usize
-    ensures { result ≡ windowFirst h u }
+    ensures { result ≡ window_first h u }
 {
     if u <= h {
         return 1;
@@ -299,7 +300,7 @@ pub fn window_first(h: usize, u: usize) -> usize
 // The slot past the last that a contact in slot u may follow, with turnaround g.
 pub fn window_end(g: usize, u: usize) -> usize
     requires { 0 < g }
-    ensures { result ≡ windowEnd g u }
+    ensures { result ≡ window_end g u }
 {
     if u < g {
         return 1;

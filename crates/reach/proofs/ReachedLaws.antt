@@ -10,148 +10,148 @@ use borrow.Author.Tests.{ltb-false}
 use lib.Dec.{ltb}
 use Rattle.temporal.specs.Plan.{Terms}
 use Rattle.temporal.specs.Lists.{any, below}
-use Rattle.temporal.specs.Walk.{is_at, isAppearance, isWalk}
-use Rattle.temporal.specs.Shortest.{shortestWalks, shortestWalksTo, hops, count}
+use Rattle.temporal.specs.Walk.{is_at, is_appearance, is_walk}
+use Rattle.temporal.specs.Shortest.{shortest_walks, shortest_walks_to, hops, count}
 use Rattle.temporal.specs.Bytes.{plan_of}
-use Rattle.temporal.specs.Cause.{planFault, tooMany}
-use Rattle.temporal.specs.Outcome.{Outcome, over, cleared, ReachTables, appearanceTable, stationTable, reached}
+use Rattle.temporal.specs.Cause.{plan_fault, is_too_many}
+use Rattle.temporal.specs.Outcome.{Outcome, over, cleared, ReachTables, appearance_table, station_table, reached}
 use Rattle.walks.proofs.Accepted.{accepted}
-use Rattle.walks.proofs.Adequacy.{bounded-ends}
-use Rattle.temporal.proofs.CauseLaws.{or-false-left, or-false-right}
-use Rattle.lists.proofs.ListLaws.{any-ext, any_false, mem_below}
-use Rattle.walks.proofs.PlanLaws.{slots-within}
-use Rattle.walks.proofs.ShortestLaws.{hops-bound}
+use Rattle.walks.proofs.Adequacy.{bounded_ends}
+use Rattle.temporal.proofs.CauseLaws.{or_false_left, or_false_right}
+use Rattle.lists.proofs.ListLaws.{any_ext, any_false, mem_below}
+use Rattle.walks.proofs.PlanLaws.{slots_within}
+use Rattle.walks.proofs.ShortestLaws.{hops_bound}
 use Rattle.entries.specs.Entry.{stored}
-use Rattle.entries.proofs.CountLaws.{stored-small}
-use Rattle.reach_entries.specs.Table.{tableOverflows, Fits}
-use Rattle.reach_entries.specs.Pass.{Tables, tablesOverflow, emptiedTables, EntryHolds, FilledTables}
-use Rattle.lists.proofs.BufferLaws.{over_by, fill-beyond, getD-made, length-made}
-use Rattle.reach.specs.Answer.{lentTables}
-use Rattle.reach.proofs.OutcomeLaws.{Few, any-places, overflows-exactly}
+use Rattle.entries.proofs.CountLaws.{stored_small}
+use Rattle.reach_entries.specs.Table.{table_overflows, Fits}
+use Rattle.reach_entries.specs.Pass.{Tables, tables_overflow, emptied_tables, EntryHolds, FilledTables}
+use Rattle.lists.proofs.BufferLaws.{over_by, fill_beyond, get_d_made_law, length_made}
+use Rattle.reach.specs.Answer.{lent_tables}
+use Rattle.reach.proofs.OutcomeLaws.{Few, any_places, overflows_exactly}
 
 -- the four lists as document 01's tables
 abbrev pub lent_of : Tables → ReachTables
-lent_of x = lentTables x.appearances.hops x.appearances.counts x.stations.hops x.stations.counts
+lent_of x = lent_tables x.appearances.hops x.appearances.counts x.stations.hops x.stations.counts
 
-module _ (bs : List ℕ) (n t : ℕ) (terms : Terms) (s : ℕ) (ok : planFault bs n t ≡ 0) where
-  few-walks : (v u : ℕ) → Few (shortestWalks (plan_of bs n t terms) s v u)
-  unfolding shortestWalks isWalk plan_of
-  few-walks v u =
+module _ (bs : List ℕ) (n t : ℕ) (terms : Terms) (s : ℕ) (ok : plan_fault bs n t ≡ 0) where
+  few_walks : (v u : ℕ) → Few (shortest_walks (plan_of bs n t terms) s v u)
+  unfolding shortest_walks is_walk plan_of
+  few_walks v u =
       let slots = (accepted bs n t ok).slots in
       ⊎_elim inl (λ h. inr (omega arith))
-      (hops-bound (bounded-ends (plan_of bs n t terms) (slots-within bs n t terms ok) s (isAppearance v u)))
+      (hops_bound (bounded_ends (plan_of bs n t terms) (slots_within bs n t terms ok) s (is_appearance v u)))
 
-  few-station : (v : ℕ) → Few (shortestWalksTo (plan_of bs n t terms) s v)
-  unfolding shortestWalksTo plan_of
-  few-station v =
+  few_station : (v : ℕ) → Few (shortest_walks_to (plan_of bs n t terms) s v)
+  unfolding shortest_walks_to plan_of
+  few_station v =
       let slots = (accepted bs n t ok).slots in
-      ⊎_elim inl (λ h. inr (omega arith)) (hops-bound (bounded-ends (plan_of bs n t terms) (slots-within bs n t terms ok) s (is_at v)))
+      ⊎_elim inl (λ h. inr (omega arith)) (hops_bound (bounded_ends (plan_of bs n t terms) (slots_within bs n t terms ok) s (is_at v)))
 
   module _ (old x : Tables) (f : FilledTables bs n t terms s old x) where
     -- some entry overflows exactly where cause 9 holds
-    pub overflow-exactly : tablesOverflow n (t + 1) x ≡ tooMany (plan_of bs n t terms) s
-    unfolding tablesOverflow tooMany plan_of
-    overflow-exactly =
+    pub overflow_exactly : tables_overflow n (t + 1) x ≡ is_too_many (plan_of bs n t terms) s
+    unfolding tables_overflow is_too_many plan_of
+    overflow_exactly =
         ap₂ ◌||◌
-        (any-places (tableOverflows x.appearances) n (t + 1) (omega arith) ∙
-        any-ext (below n) (λ v m.
-        any-ext (below (t + 1)) (λ u k.
-        overflows-exactly x.appearances (v * (t + 1) + u) _ (few-walks v u)
+        (any_places (table_overflows x.appearances) n (t + 1) (omega arith) ∙
+        any_ext (below n) (λ v m.
+        any_ext (below (t + 1)) (λ u k.
+        overflows_exactly x.appearances (v * (t + 1) + u) _ (few_walks v u)
         (f.appearance v u ((mem_below n).0 m) ((mem_below (t + 1)).0 k)))))
-        (any-ext (below n) (λ v m.
-        overflows-exactly x.stations v _ (few-station v) (f.station v ((mem_below n).0 m))))
+        (any_ext (below n) (λ v m.
+        overflows_exactly x.stations v _ (few_station v) (f.station v ((mem_below n).0 m))))
 
-    module _ (none : tooMany (plan_of bs n t terms) s ≡ false) where
+    module _ (none : is_too_many (plan_of bs n t terms) s ≡ false) where
       -- no count is over 2^64 - 1
-      small-walks :
+      small_walks :
           (v u : ℕ) → v < n → u < t + 1 →
-          stored (count (shortestWalks (plan_of bs n t terms) s v u)) ≡ count (shortestWalks (plan_of bs n t terms) s v u)
-      unfolding tooMany plan_of
-      small-walks v u h k =
-          stored-small _ (ltb-false _ _
+          stored (count (shortest_walks (plan_of bs n t terms) s v u)) ≡ count (shortest_walks (plan_of bs n t terms) s v u)
+      unfolding is_too_many plan_of
+      small_walks v u h k =
+          stored_small _ (ltb-false _ _
           ((any_false _ (below (t + 1))).0
-          ((any_false _ (below n)).0 (or-false-left _ _ none) v ((mem_below n).1 h)) u ((mem_below (t + 1)).1 k)))
+          ((any_false _ (below n)).0 (or_false_left _ _ none) v ((mem_below n).1 h)) u ((mem_below (t + 1)).1 k)))
 
-      small-paths :
-          (v : ℕ) → v < n → stored (count (shortestWalksTo (plan_of bs n t terms) s v)) ≡ count (shortestWalksTo (plan_of bs n t terms) s v)
-      unfolding tooMany plan_of
-      small-paths v h =
-          stored-small _ (ltb-false _ _
+      small_paths :
+          (v : ℕ) → v < n → stored (count (shortest_walks_to (plan_of bs n t terms) s v)) ≡ count (shortest_walks_to (plan_of bs n t terms) s v)
+      unfolding is_too_many plan_of
+      small_paths v h =
+          stored_small _ (ltb-false _ _
           ((any_false _ (below n)).0
-          (or-false-right
-          (any (λ v. any (λ u. ltb (2 ^ 64 - 1) (count (shortestWalks (plan_of bs n t terms) s v u))) (below (t + 1))) (below n))
+          (or_false_right
+          (any (λ v. any (λ u. ltb (2 ^ 64 - 1) (count (shortest_walks (plan_of bs n t terms) s v u))) (below (t + 1))) (below n))
           _ none) v ((mem_below n).1 h)))
 
       module _ (fits : Fits n (t + 1) old.appearances old.stations) where
         -- the entry of an appearance, by its place
         placed :
-            (i : ℕ) → i < n * (t + 1) → EntryHolds x.appearances i (shortestWalks (plan_of bs n t terms) s (i / (t + 1)) (i % (t + 1)))
+            (i : ℕ) → i < n * (t + 1) → EntryHolds x.appearances i (shortest_walks (plan_of bs n t terms) s (i / (t + 1)) (i % (t + 1)))
         placed i h =
             let width : 0 < t + 1 = omega arith in
-            subst (λ k. EntryHolds x.appearances k (shortestWalks (plan_of bs n t terms) s (i / (t + 1)) (i % (t + 1))))
+            subst (λ k. EntryHolds x.appearances k (shortest_walks (plan_of bs n t terms) s (i / (t + 1)) (i % (t + 1))))
             (div-add-mod' i (t + 1))
             (f.appearance (i / (t + 1)) (i % (t + 1)) ((div-lt_iff_lt-mul width).1 h) (mod-lt i width))
 
-        hops-table : x.appearances.hops ≡ over (appearanceTable (plan_of bs n t terms) s hops) old.appearances.hops
-        unfolding appearanceTable plan_of
-        hops-table =
-            over_by (n * (t + 1)) _ _ old.appearances.hops (length-made _ (n * (t + 1)))
-            (let e = f.appearances-beyond.hops-length in let g = fits.hops in omega arith)
-            (λ i h. (placed i h).hops-there ∙ sym (getD-made _ (n * (t + 1)) i h)) f.appearances-beyond.hops
+        hops_table_law : x.appearances.hops ≡ over (appearance_table (plan_of bs n t terms) s hops) old.appearances.hops
+        unfolding appearance_table plan_of
+        hops_table_law =
+            over_by (n * (t + 1)) _ _ old.appearances.hops (length_made _ (n * (t + 1)))
+            (let e = f.appearances_beyond.hops_length in let g = fits.hops in omega arith)
+            (λ i h. (placed i h).hops_there ∙ sym (get_d_made_law _ (n * (t + 1)) i h)) f.appearances_beyond.hops
 
-        count-table : x.appearances.counts ≡ over (appearanceTable (plan_of bs n t terms) s count) old.appearances.counts
-        unfolding appearanceTable plan_of
-        count-table =
-            over_by (n * (t + 1)) _ _ old.appearances.counts (length-made _ (n * (t + 1)))
-            (let e = f.appearances-beyond.counts-length in let g = fits.counts in omega arith)
+        count_table_law : x.appearances.counts ≡ over (appearance_table (plan_of bs n t terms) s count) old.appearances.counts
+        unfolding appearance_table plan_of
+        count_table_law =
+            over_by (n * (t + 1)) _ _ old.appearances.counts (length_made _ (n * (t + 1)))
+            (let e = f.appearances_beyond.counts_length in let g = fits.counts in omega arith)
             (λ i h.
             let width : 0 < t + 1 = omega arith in
-            (placed i h).count-there ∙
-            small-walks (i / (t + 1)) (i % (t + 1)) ((div-lt_iff_lt-mul width).1 h) (mod-lt i width) ∙
-            sym (getD-made _ (n * (t + 1)) i h))
-            f.appearances-beyond.counts
+            (placed i h).count_there ∙
+            small_walks (i / (t + 1)) (i % (t + 1)) ((div-lt_iff_lt-mul width).1 h) (mod-lt i width) ∙
+            sym (get_d_made_law _ (n * (t + 1)) i h))
+            f.appearances_beyond.counts
 
-        station-hops : x.stations.hops ≡ over (stationTable (plan_of bs n t terms) s hops) old.stations.hops
-        unfolding stationTable plan_of
-        station-hops =
-            over_by n _ _ old.stations.hops (length-made _ n)
-            (let e = f.stations-beyond.hops-length in let g = fits.station-hops in omega arith)
-            (λ v h. (f.station v h).hops-there ∙ sym (getD-made _ n v h)) f.stations-beyond.hops
+        station_hops_law : x.stations.hops ≡ over (station_table (plan_of bs n t terms) s hops) old.stations.hops
+        unfolding station_table plan_of
+        station_hops_law =
+            over_by n _ _ old.stations.hops (length_made _ n)
+            (let e = f.stations_beyond.hops_length in let g = fits.station_hops_law in omega arith)
+            (λ v h. (f.station v h).hops_there ∙ sym (get_d_made_law _ n v h)) f.stations_beyond.hops
 
-        station-counts : x.stations.counts ≡ over (stationTable (plan_of bs n t terms) s count) old.stations.counts
-        unfolding stationTable plan_of
-        station-counts =
-            over_by n _ _ old.stations.counts (length-made _ n)
-            (let e = f.stations-beyond.counts-length in let g = fits.station-counts in omega arith)
-            (λ v h. (f.station v h).count-there ∙ small-paths v h ∙ sym (getD-made _ n v h)) f.stations-beyond.counts
+        station_counts_law : x.stations.counts ≡ over (station_table (plan_of bs n t terms) s count) old.stations.counts
+        unfolding station_table plan_of
+        station_counts_law =
+            over_by n _ _ old.stations.counts (length_made _ n)
+            (let e = f.stations_beyond.counts_length in let g = fits.station_counts_law in omega arith)
+            (λ v h. (f.station v h).count_there ∙ small_paths v h ∙ sym (get_d_made_law _ n v h)) f.stations_beyond.counts
 
   -- filled tables without an overflow are the answer
-  pub reached-filled :
+  pub reached_filled :
       (old x : Tables) → Fits n (t + 1) old.appearances old.stations → FilledTables bs n t terms s old x →
-      tablesOverflow n (t + 1) x ≡ false →
+      tables_overflow n (t + 1) x ≡ false →
       ◌≡◌ {A = Outcome (Unit {0}) ReachTables} (record { number = 0; values = tt; buffers = lent_of x })
       (reached (plan_of bs n t terms) s (lent_of old))
   unfolding reached
-  reached-filled old x fits f e =
-      let none = sym (overflow-exactly old x f) ∙ e in
+  reached_filled old x fits f e =
+      let none = sym (overflow_exactly old x f) ∙ e in
       rw none
       (cc (
-        hops-table old x f none fits,
-        count-table old x f none fits,
-        station-hops old x f none fits,
-        station-counts old x f none fits,
+        hops_table_law old x f none fits,
+        count_table_law old x f none fits,
+        station_hops_law old x f none fits,
+        station_counts_law old x f none fits,
       ))
 
   -- with an overflow the tables are cleared
-  pub reached-cleared :
-      (old x y : Tables) → FilledTables bs n t terms s old x → tablesOverflow n (t + 1) x ≡ true → y ≡ emptiedTables n (t + 1) x →
+  pub reached_cleared :
+      (old x y : Tables) → FilledTables bs n t terms s old x → tables_overflow n (t + 1) x ≡ true → y ≡ emptied_tables n (t + 1) x →
       ◌≡◌ {A = Outcome (Unit {0}) ReachTables} (record { number = 9; values = tt; buffers = lent_of y })
       (reached (plan_of bs n t terms) s (lent_of old))
-  unfolding reached emptiedTables cleared plan_of
-  reached-cleared old x y f e empty =
-      let many = sym (overflow-exactly old x f) ∙ e in
-      let a = fill-beyond (n * (t + 1)) 0 x.appearances.hops old.appearances.hops f.appearances-beyond.hops in
-      let b = fill-beyond (n * (t + 1)) 0 x.appearances.counts old.appearances.counts f.appearances-beyond.counts in
-      let c = fill-beyond n 0 x.stations.hops old.stations.hops f.stations-beyond.hops in
-      let d = fill-beyond n 0 x.stations.counts old.stations.counts f.stations-beyond.counts in
+  unfolding reached emptied_tables cleared plan_of
+  reached_cleared old x y f e empty =
+      let many = sym (overflow_exactly old x f) ∙ e in
+      let a = fill_beyond (n * (t + 1)) 0 x.appearances.hops old.appearances.hops f.appearances_beyond.hops in
+      let b = fill_beyond (n * (t + 1)) 0 x.appearances.counts old.appearances.counts f.appearances_beyond.counts in
+      let c = fill_beyond n 0 x.stations.hops old.stations.hops f.stations_beyond.hops in
+      let d = fill_beyond n 0 x.stations.counts old.stations.counts f.stations_beyond.counts in
       rw (many, empty) (cc (a, b, c, d))

@@ -1,18 +1,19 @@
 // Operation 2, reach: fills the tables of hops and counts from a source.
 // The tables are the state. The crates reach_lasting and reach_window fill them, where nothing goes stale and where readings do.
+#![tactic(auto)]
 ghost use Rattle.std.specs.Prelude.{◌≡◌};
 ghost use Rattle.temporal.specs.Plan.{units};
 ghost use Rattle.temporal.specs.Bytes.{plan_of};
-ghost use Rattle.temporal.specs.Cause.{planFault, first, termsCauses};
+ghost use Rattle.temporal.specs.Cause.{plan_fault, first, terms_causes};
 ghost use Rattle.temporal.specs.Outcome.{reached, reach};
 ghost use Rattle.reach_entries.specs.Pass.{tables_of, ReachReady, FilledTables};
-ghost use Rattle.reach.specs.Answer.{lentTables, reachOutcome};
+ghost use Rattle.reach.specs.Answer.{lent_tables, reach_outcome};
 
 use calls::CallCheck;
 use plan::{CallFault, CheckAnswer, Fault};
 
 // What reach answers.
-#[derive(Drop)]
+#[derive(Clone, Copy)]
 pub enum ReachAnswer {
     Reached,
     Refused(Fault),
@@ -81,10 +82,10 @@ fn work(
 ) -> ReachAnswer
     requires { ReachReady plan.now n t (units g h) source
         (tables_of hops.old counts.old station_hops.old station_counts.old) }
-    ensures { reachOutcome result (lentTables hops.new counts.new station_hops.new
+    ensures { reach_outcome result (lent_tables hops.new counts.new station_hops.new
         station_counts.new) ≡
         reached (plan_of plan.now n t (units g h)) source
-        (lentTables hops.old counts.old station_hops.old station_counts.old) }
+        (lent_tables hops.old counts.old station_hops.old station_counts.old) }
 {
     fill(
         hops,
@@ -118,11 +119,11 @@ fn reach_allowed(
     h: usize,
     source: usize,
 ) -> ReachAnswer
-    requires { (planFault plan.now n t ≡ 0) × (first (termsCauses (units g h)) ≡ 0) }
-    ensures { reachOutcome result (lentTables hops.new counts.new station_hops.new
+    requires { (plan_fault plan.now n t ≡ 0) × (first (terms_causes (units g h)) ≡ 0) }
+    ensures { reach_outcome result (lent_tables hops.new counts.new station_hops.new
         station_counts.new) ≡
         reach plan.now n t (units g h) source
-        (lentTables hops.old counts.old station_hops.old station_counts.old) }
+        (lent_tables hops.old counts.old station_hops.old station_counts.old) }
 {
     if n <= source {
         return ReachAnswer::Refused(Fault::Call(CallFault::Station));
@@ -167,11 +168,11 @@ fn reach_accepted(
     h: usize,
     source: usize,
 ) -> ReachAnswer
-    requires { planFault plan.now n t ≡ 0 }
-    ensures { reachOutcome result (lentTables hops.new counts.new station_hops.new
+    requires { plan_fault plan.now n t ≡ 0 }
+    ensures { reach_outcome result (lent_tables hops.new counts.new station_hops.new
         station_counts.new) ≡
         reach plan.now n t (units g h) source
-        (lentTables hops.old counts.old station_hops.old station_counts.old) }
+        (lent_tables hops.old counts.old station_hops.old station_counts.old) }
 {
     let CallCheck::Refused(fault) = calls::terms_call(g, h) else {
         return reach_allowed(
@@ -204,10 +205,10 @@ pub fn reach(
     station_hops: &mut [u16],
     station_counts: &mut [u64],
 ) -> ReachAnswer
-    ensures { reachOutcome result (lentTables hops.new counts.new station_hops.new
+    ensures { reach_outcome result (lent_tables hops.new counts.new station_hops.new
         station_counts.new) ≡
         reach plan.now n t (units g h) source
-        (lentTables hops.old counts.old station_hops.old station_counts.old) }
+        (lent_tables hops.old counts.old station_hops.old station_counts.old) }
 {
     let CheckAnswer::Refused(fault) = plan::check(plan, n, t) else {
         return reach_accepted(

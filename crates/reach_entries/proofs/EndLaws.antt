@@ -10,52 +10,52 @@ use lib.ListN.{length, get_or, set, drop, replicate, length-replicate, get_or-re
 use lib.ListN.{length-drop, length-set}
 use lib.Seq.{get_or-set_same, get_or-set_other, drop-set-lt, drop_at}
 use Rattle.temporal.specs.Plan.{start, Terms}
-use Rattle.temporal.specs.Walk.{is_at, isAppearance, isWalk}
-use Rattle.temporal.specs.Shortest.{shortestWalks, shortestWalksTo, hops, count}
+use Rattle.temporal.specs.Walk.{is_at, is_appearance, is_walk}
+use Rattle.temporal.specs.Shortest.{shortest_walks, shortest_walks_to, hops, count}
 use Rattle.temporal.specs.Bytes.{plan_of}
-use Rattle.temporal.specs.Cause.{planFault}
+use Rattle.temporal.specs.Cause.{plan_fault}
 use Rattle.temporal.specs.Outcome.{over}
 use Rattle.walks.proofs.Accepted.{accepted}
-use Rattle.walks.proofs.Adequacy.{bounded-ends}
-use Rattle.walks.proofs.PlanLaws.{slots-within}
+use Rattle.walks.proofs.Adequacy.{bounded_ends}
+use Rattle.walks.proofs.PlanLaws.{slots_within}
 use Rattle.counting.proofs.Weights.{total, everywhere}
-use Rattle.counting.proofs.Fewest.{fewest-intro, fewest-unique, fewest-shortest, count-shortest}
-use Rattle.counting.proofs.Recurrence.{atAppearance, arrivals-zero, start-here, start-other, heard-zero, heard_all}
+use Rattle.counting.proofs.Fewest.{fewest_intro, fewest_unique, fewest_shortest, count_shortest}
+use Rattle.counting.proofs.Recurrence.{at_appearance, arrivals_zero, start_here, start_other, heard_zero, heard_all}
 use Rattle.reach_entries.specs.Table.{Table, Fits}
 use Rattle.entries.specs.Entry.{stored}
-use Rattle.entries.proofs.CountLaws.{stored-small}
-use Rattle.entries.proofs.EntryLaws.{Entry, entry-none, entry-ext}
-use Rattle.entries.proofs.HopLaws.{few-slots}
-use Rattle.reach_entries.specs.Pass.{Tables, begunTables, Beyond, EntryHolds, FilledTables}
+use Rattle.entries.proofs.CountLaws.{stored_small}
+use Rattle.entries.proofs.EntryLaws.{Entry, entry_none, entry_ext}
+use Rattle.entries.proofs.HopLaws.{few_slots}
+use Rattle.reach_entries.specs.Pass.{Tables, begun_tables, Beyond, EntryHolds, FilledTables}
 use Rattle.reach_entries.proofs.EntryLaws.{EntryAt}
-use Rattle.reach_entries.proofs.TableLaws.{slots_apart, stations-apart}
-use Rattle.reach_entries.proofs.PlaceLaws.{place-below}
-use Rattle.reach_entries.proofs.StateLaws.{TablesState, reaching, present, arriving, fits-beyond}
+use Rattle.reach_entries.proofs.TableLaws.{slots_apart, stations_apart}
+use Rattle.reach_entries.proofs.PlaceLaws.{place_below}
+use Rattle.reach_entries.proofs.StateLaws.{TablesState, reaching, present, arriving, fits_beyond}
 
 -- ---- a list whose first k entries are x, but y at one of them
 
 module _ (k x y at : ℕ) (old : List ℕ) (inside : at < k) where
-  over-length : k ≤ length old → length (over (replicate k x) old) ≡ length old
+  over_length : k ≤ length old → length (over (replicate k x) old) ≡ length old
   unfolding over
-  over-length h = simp (length-append, length-drop, length-replicate) (omega arith)
+  over_length h = simp (length-append, length-drop, length-replicate) (omega arith)
 
-  filled-there : k ≤ length old → get_or (set (over (replicate k x) old) at y) at 0 ≡ y
-  filled-there h =
-      get_or-set_same (over (replicate k x) old) at y 0 (let same = over-length h in omega arith)
+  filled_there : k ≤ length old → get_or (set (over (replicate k x) old) at y) at 0 ≡ y
+  filled_there h =
+      get_or-set_same (over (replicate k x) old) at y 0 (let same = over_length h in omega arith)
 
-  filled-other : (i : ℕ) → i < k → i ≢ at → get_or (set (over (replicate k x) old) at y) i 0 ≡ x
+  filled_other : (i : ℕ) → i < k → i ≢ at → get_or (set (over (replicate k x) old) at y) i 0 ≡ x
   unfolding over
-  filled-other i h ne =
+  filled_other i h ne =
       get_or-set_other (over (replicate k x) old) at i y 0 ne ∙
       get_or-append (replicate k x) (drop (length (replicate k x)) old) 0 i (rw (length-replicate k x) h) ∙
       get_or-replicate k i x 0 h
 
-  filled-length : k ≤ length old → length (set (over (replicate k x) old) at y) ≡ length old
-  filled-length h = length-set (over (replicate k x) old) at y ∙ over-length h
+  filled_length : k ≤ length old → length (set (over (replicate k x) old) at y) ≡ length old
+  filled_length h = length-set (over (replicate k x) old) at y ∙ over_length h
 
-  filled-beyond : drop k (set (over (replicate k x) old) at y) ≡ drop k old
+  filled_beyond : drop k (set (over (replicate k x) old) at y) ≡ drop k old
   unfolding over
-  filled-beyond =
+  filled_beyond =
       drop-set-lt {A = ℕ} k (over (replicate k x) old) at y inside ∙
       ap (λ i. drop k (replicate k x ++ drop i old)) (length-replicate k x) ∙
       drop_at (replicate k x) (drop k old) k (length-replicate k x)
@@ -64,17 +64,17 @@ module _ (k x y at : ℕ) (old : List ℕ) (inside : at < k) where
 
 module _ (bs : List ℕ) (n t : ℕ) (terms : Terms) (s : ℕ) where
   -- the entry of the empty walk, at the source's start
-  start-entry : Entry (reaching bs n t terms s s 0) 0 1
-  start-entry =
-      let one = start-here (plan_of bs n t terms) s everywhere in
+  start_entry : Entry (reaching bs n t terms s s 0) 0 1
+  start_entry =
+      let one = start_here (plan_of bs n t terms) s everywhere in
       record {
-        fewest = fewest-intro (omega arith) (omega arith) (λ k h. absurd (omega arith));
-        count = sym (ap stored one ∙ stored-small 1 (omega arith));
+        fewest = fewest_intro (omega arith) (omega arith) (λ k h. absurd (omega arith));
+        count = sym (ap stored one ∙ stored_small 1 (omega arith));
       }
 
   -- every other station has none in slot 0
-  other-entry : (v : ℕ) → v ≢ s → Entry (reaching bs n t terms s v 0) 65535 0
-  other-entry v ne = entry-none (reaching bs n t terms s v 0) (λ k. start-other (plan_of bs n t terms) s everywhere v k ne)
+  other_entry : (v : ℕ) → v ≢ s → Entry (reaching bs n t terms s v 0) 65535 0
+  other_entry v ne = entry_none (reaching bs n t terms s v 0) (λ k. start_other (plan_of bs n t terms) s everywhere v k ne)
 
   -- a table that holds these two has the walks of slot 0 at a station
   started :
@@ -82,159 +82,159 @@ module _ (bs : List ℕ) (n t : ℕ) (terms : Terms) (s : ℕ) where
       (v ≢ s → (get_or x.hops i 0 ≡ 65535) × (get_or x.counts i 0 ≡ 0)) → EntryAt (reaching bs n t terms s v 0) x i
   started x i v here there =
       by_cases (ℕ_discrete v s)
-      (λ e. rw ((here e).0, (here e).1, e) start-entry)
-      (λ ne. rw ((there ne).0, (there ne).1) (other-entry v ne))
+      (λ e. rw ((here e).0, (here e).1, e) start_entry)
+      (λ ne. rw ((there ne).0, (there ne).1) (other_entry v ne))
 
-module _ (bs : List ℕ) (n t : ℕ) (terms : Terms) (s : ℕ) (ok : planFault bs n t ≡ 0) (source : s < n) (old : Tables)
+module _ (bs : List ℕ) (n t : ℕ) (terms : Terms) (s : ℕ) (ok : plan_fault bs n t ≡ 0) (source : s < n) (old : Tables)
     (fits : Fits n (t + 1) old.appearances old.stations) where
   -- the source's place in slot 0
-  start-place : s * (t + 1) ≡ s * (t + 1) + 0
-  start-place = omega arith
+  start_place : s * (t + 1) ≡ s * (t + 1) + 0
+  start_place = omega arith
 
-  start-below : s * (t + 1) < n * (t + 1)
-  start-below = let spot = place-below s 0 n (t + 1) (n * (t + 1)) source (omega arith) (omega arith) in omega arith
+  start_below : s * (t + 1) < n * (t + 1)
+  start_below = let spot = place_below s 0 n (t + 1) (n * (t + 1)) source (omega arith) (omega arith) in omega arith
 
   -- every other place has none
-  other-hops : (i : ℕ) → i < n * (t + 1) → i ≢ s * (t + 1) → get_or (begunTables n (t + 1) s old).appearances.hops i 0 ≡ 65535
-  unfolding begunTables
-  other-hops i h ne = filled-other (n * (t + 1)) 65535 0 (s * (t + 1)) old.appearances.hops start-below i h ne
+  other_hops : (i : ℕ) → i < n * (t + 1) → i ≢ s * (t + 1) → get_or (begun_tables n (t + 1) s old).appearances.hops i 0 ≡ 65535
+  unfolding begun_tables
+  other_hops i h ne = filled_other (n * (t + 1)) 65535 0 (s * (t + 1)) old.appearances.hops start_below i h ne
 
-  other-counts : (i : ℕ) → i < n * (t + 1) → i ≢ s * (t + 1) → get_or (begunTables n (t + 1) s old).appearances.counts i 0 ≡ 0
-  unfolding begunTables
-  other-counts i h ne = filled-other (n * (t + 1)) 0 1 (s * (t + 1)) old.appearances.counts start-below i h ne
+  other_counts : (i : ℕ) → i < n * (t + 1) → i ≢ s * (t + 1) → get_or (begun_tables n (t + 1) s old).appearances.counts i 0 ≡ 0
+  unfolding begun_tables
+  other_counts i h ne = filled_other (n * (t + 1)) 0 1 (s * (t + 1)) old.appearances.counts start_below i h ne
 
-  begun-appearances : Beyond (n * (t + 1)) old.appearances (begunTables n (t + 1) s old).appearances
-  unfolding begunTables
-  begun-appearances =
+  begun_appearances : Beyond (n * (t + 1)) old.appearances (begun_tables n (t + 1) s old).appearances
+  unfolding begun_tables
+  begun_appearances =
       record {
-        hops = filled-beyond (n * (t + 1)) 65535 0 (s * (t + 1)) old.appearances.hops start-below;
-        counts = filled-beyond (n * (t + 1)) 0 1 (s * (t + 1)) old.appearances.counts start-below;
-        hops-length = filled-length (n * (t + 1)) 65535 0 (s * (t + 1)) old.appearances.hops start-below fits.hops;
-        counts-length = filled-length (n * (t + 1)) 0 1 (s * (t + 1)) old.appearances.counts start-below fits.counts;
+        hops = filled_beyond (n * (t + 1)) 65535 0 (s * (t + 1)) old.appearances.hops start_below;
+        counts = filled_beyond (n * (t + 1)) 0 1 (s * (t + 1)) old.appearances.counts start_below;
+        hops_length = filled_length (n * (t + 1)) 65535 0 (s * (t + 1)) old.appearances.hops start_below fits.hops;
+        counts_length = filled_length (n * (t + 1)) 0 1 (s * (t + 1)) old.appearances.counts start_below fits.counts;
       }
 
-  begun-stations : Beyond n old.stations (begunTables n (t + 1) s old).stations
-  unfolding begunTables
-  begun-stations =
+  begun_stations : Beyond n old.stations (begun_tables n (t + 1) s old).stations
+  unfolding begun_tables
+  begun_stations =
       record {
-        hops = filled-beyond n 65535 0 s old.stations.hops source;
-        counts = filled-beyond n 0 1 s old.stations.counts source;
-        hops-length = filled-length n 65535 0 s old.stations.hops source fits.station-hops;
-        counts-length = filled-length n 0 1 s old.stations.counts source fits.station-counts;
+        hops = filled_beyond n 65535 0 s old.stations.hops source;
+        counts = filled_beyond n 0 1 s old.stations.counts source;
+        hops_length = filled_length n 65535 0 s old.stations.hops source fits.station_hops_law;
+        counts_length = filled_length n 0 1 s old.stations.counts source fits.station_counts_law;
       }
 
-  later-apart : (v r : ℕ) → v < n → 0 < r → r < t + 1 → v * (t + 1) + r ≢ s * (t + 1)
-  later-apart v r h low last e =
-      slots_apart v r s 0 (t + 1) last (omega arith) (λ e. omega arith) (e ∙ start-place)
+  later_apart : (v r : ℕ) → v < n → 0 < r → r < t + 1 → v * (t + 1) + r ≢ s * (t + 1)
+  later_apart v r h low last e =
+      slots_apart v r s 0 (t + 1) last (omega arith) (λ e. omega arith) (e ∙ start_place)
 
   -- slot 0 has its walks
-  begun-start :
-      (v : ℕ) → v < n → EntryAt (reaching bs n t terms s v 0) (begunTables n (t + 1) s old).appearances (v * (t + 1) + 0)
-  unfolding begunTables
-  begun-start v h =
-      started bs n t terms s (begunTables n (t + 1) s old).appearances (v * (t + 1) + 0) v
+  begun_start :
+      (v : ℕ) → v < n → EntryAt (reaching bs n t terms s v 0) (begun_tables n (t + 1) s old).appearances (v * (t + 1) + 0)
+  unfolding begun_tables
+  begun_start v h =
+      started bs n t terms s (begun_tables n (t + 1) s old).appearances (v * (t + 1) + 0) v
       (λ e.
       let same : v * (t + 1) + 0 ≡ s * (t + 1) = rw e (omega arith) in
       rw same (
-        filled-there (n * (t + 1)) 65535 0 (s * (t + 1)) old.appearances.hops start-below fits.hops,
-        filled-there (n * (t + 1)) 0 1 (s * (t + 1)) old.appearances.counts start-below fits.counts,
+        filled_there (n * (t + 1)) 65535 0 (s * (t + 1)) old.appearances.hops start_below fits.hops,
+        filled_there (n * (t + 1)) 0 1 (s * (t + 1)) old.appearances.counts start_below fits.counts,
       ))
       (λ ne.
-      let below = place-below v 0 n (t + 1) (n * (t + 1)) h (omega arith) (omega arith) in
+      let below = place_below v 0 n (t + 1) (n * (t + 1)) h (omega arith) (omega arith) in
       let away : v * (t + 1) + 0 ≢ s * (t + 1) =
-      λ e. stations-apart v 0 s 0 (t + 1) (omega arith) (omega arith) ne (e ∙ start-place) in
-      (other-hops (v * (t + 1) + 0) below away, other-counts (v * (t + 1) + 0) below away))
+      λ e. stations_apart v 0 s 0 (t + 1) (omega arith) (omega arith) ne (e ∙ start_place) in
+      (other_hops (v * (t + 1) + 0) below away, other_counts (v * (t + 1) + 0) below away))
 
   -- and a station has them too
-  begun-station : (v : ℕ) → v < n → EntryAt (present bs n t terms s v 0) (begunTables n (t + 1) s old).stations v
-  unfolding begunTables
-  begun-station v h =
-      entry-ext (λ k. sym (heard-zero (plan_of bs n t terms) s everywhere v k))
-      (started bs n t terms s (begunTables n (t + 1) s old).stations v v
+  begun_station : (v : ℕ) → v < n → EntryAt (present bs n t terms s v 0) (begun_tables n (t + 1) s old).stations v
+  unfolding begun_tables
+  begun_station v h =
+      entry_ext (λ k. sym (heard_zero (plan_of bs n t terms) s everywhere v k))
+      (started bs n t terms s (begun_tables n (t + 1) s old).stations v v
       (λ e. rw e (
-        filled-there n 65535 0 s old.stations.hops source fits.station-hops,
-        filled-there n 0 1 s old.stations.counts source fits.station-counts,
+        filled_there n 65535 0 s old.stations.hops source fits.station_hops_law,
+        filled_there n 0 1 s old.stations.counts source fits.station_counts_law,
       ))
       (λ ne. (
-        filled-other n 65535 0 s old.stations.hops source v h ne,
-        filled-other n 0 1 s old.stations.counts source v h ne,
+        filled_other n 65535 0 s old.stations.hops source v h ne,
+        filled_other n 0 1 s old.stations.counts source v h ne,
       )))
 
   -- the tables begun are in the state before slot 1 is done with
-  pub begin-state : (q : ℕ) → 0 < q → TablesState bs n t terms s q old 1 0 (begunTables n (t + 1) s old)
-  begin-state q some =
+  pub begin_state : (q : ℕ) → 0 < q → TablesState bs n t terms s q old 1 0 (begun_tables n (t + 1) s old)
+  begin_state q some =
       record {
-        after-start = omega arith;
+        after_start = omega arith;
         complete = λ v r h low last.
             let first : 0 ≡ r = omega arith in
-            subst (λ i. EntryAt (reaching bs n t terms s v i) (begunTables n (t + 1) s old).appearances (v * (t + 1) + i)) first
-            (begun-start v h);
+            subst (λ i. EntryAt (reaching bs n t terms s v i) (begun_tables n (t + 1) s old).appearances (v * (t + 1) + i)) first
+            (begun_start v h);
         pending = λ v h last.
-            rw (later-hops v 1 h (omega arith) last, later-counts v 1 h (omega arith) last)
-            (entry-none (arriving bs n t terms s 1 0 v) (arrivals-zero (plan_of bs n t terms) s everywhere v 1));
-        later-hops = λ v r h low last. later-hops v r h (omega arith) last;
-        later-counts = λ v r h low last. later-counts v r h (omega arith) last;
+            rw (later_hops v 1 h (omega arith) last, later_counts v 1 h (omega arith) last)
+            (entry_none (arriving bs n t terms s 1 0 v) (arrivals_zero (plan_of bs n t terms) s everywhere v 1));
+        later_hops = λ v r h low last. later_hops v r h (omega arith) last;
+        later_counts = λ v r h low last. later_counts v r h (omega arith) last;
         station = λ v h.
-            let start-only : 0 ≡ 1 - q = omega arith in
-            subst (λ e. EntryAt (present bs n t terms s v e) (begunTables n (t + 1) s old).stations v) start-only
-            (begun-station v h);
+            let start_only : 0 ≡ 1 - q = omega arith in
+            subst (λ e. EntryAt (present bs n t terms s v e) (begun_tables n (t + 1) s old).stations v) start_only
+            (begun_station v h);
         passed = λ i h. absurd (omega arith);
         rest = λ i low last. let from_one = ((accepted bs n t ok).contact i last).from_one in omega arith;
         within = omega arith;
-        fits = fits-beyond n (t + 1) old (begunTables n (t + 1) s old) fits begun-appearances begun-stations;
-        appearances-beyond = begun-appearances;
-        stations-beyond = begun-stations;
+        fits = fits_beyond n (t + 1) old (begun_tables n (t + 1) s old) fits begun_appearances begun_stations;
+        appearances_beyond = begun_appearances;
+        stations_beyond = begun_stations;
       }
     where
-      later-hops : (v r : ℕ) → v < n → 0 < r → r < t + 1 → get_or (begunTables n (t + 1) s old).appearances.hops (v * (t + 1) + r) 0 ≡ 65535
-      later-hops v r h low last =
-          other-hops (v * (t + 1) + r) (place-below v r n (t + 1) (n * (t + 1)) h last (omega arith)) (later-apart v r h low last)
+      later_hops : (v r : ℕ) → v < n → 0 < r → r < t + 1 → get_or (begun_tables n (t + 1) s old).appearances.hops (v * (t + 1) + r) 0 ≡ 65535
+      later_hops v r h low last =
+          other_hops (v * (t + 1) + r) (place_below v r n (t + 1) (n * (t + 1)) h last (omega arith)) (later_apart v r h low last)
 
-      later-counts : (v r : ℕ) → v < n → 0 < r → r < t + 1 → get_or (begunTables n (t + 1) s old).appearances.counts (v * (t + 1) + r) 0 ≡ 0
-      later-counts v r h low last =
-          other-counts (v * (t + 1) + r) (place-below v r n (t + 1) (n * (t + 1)) h last (omega arith)) (later-apart v r h low last)
+      later_counts : (v r : ℕ) → v < n → 0 < r → r < t + 1 → get_or (begun_tables n (t + 1) s old).appearances.counts (v * (t + 1) + r) 0 ≡ 0
+      later_counts v r h low last =
+          other_counts (v * (t + 1) + r) (place_below v r n (t + 1) (n * (t + 1)) h last (omega arith)) (later_apart v r h low last)
 
 -- ---- the end
 
-module _ (bs : List ℕ) (n t : ℕ) (terms : Terms) (s : ℕ) (ok : planFault bs n t ≡ 0) where
+module _ (bs : List ℕ) (n t : ℕ) (terms : Terms) (s : ℕ) (ok : plan_fault bs n t ≡ 0) where
   -- an entry of walks to an appearance holds its hops and count
-  pub holds-appearance :
-      (x : Table) (i v u : ℕ) → EntryAt (reaching bs n t terms s v u) x i → EntryHolds x i (shortestWalks (plan_of bs n t terms) s v u)
-  unfolding shortestWalks isWalk atAppearance
-  holds-appearance x i v u e =
-      let b = bounded-ends (plan_of bs n t terms) (slots-within bs n t terms ok) s (isAppearance v u) in
-      let same = fewest-unique e.fewest (fewest-shortest (plan_of bs n t terms) (start s) (isAppearance v u) b (few-slots bs n t terms ok)) in
+  pub holds_appearance :
+      (x : Table) (i v u : ℕ) → EntryAt (reaching bs n t terms s v u) x i → EntryHolds x i (shortest_walks (plan_of bs n t terms) s v u)
+  unfolding shortest_walks is_walk at_appearance
+  holds_appearance x i v u e =
+      let b = bounded_ends (plan_of bs n t terms) (slots_within bs n t terms ok) s (is_appearance v u) in
+      let same = fewest_unique e.fewest (fewest_shortest (plan_of bs n t terms) (start s) (is_appearance v u) b (few_slots bs n t terms ok)) in
       record {
-        hops-there = same;
-        count-there = e.count ∙
-            ap stored (ap (reaching bs n t terms s v u) same ∙ sym (count-shortest (plan_of bs n t terms) (start s) (isAppearance v u) b));
+        hops_there = same;
+        count_there = e.count ∙
+            ap stored (ap (reaching bs n t terms s v u) same ∙ sym (count_shortest (plan_of bs n t terms) (start s) (is_appearance v u) b));
       }
 
   -- an entry of all walks to a station holds its hops and count
-  pub holds-station :
-      (x : Table) (i v : ℕ) → EntryAt (present bs n t terms s v t) x i → EntryHolds x i (shortestWalksTo (plan_of bs n t terms) s v)
-  unfolding plan_of shortestWalksTo
-  holds-station x i v e =
-      let b = bounded-ends (plan_of bs n t terms) (slots-within bs n t terms ok) s (is_at v) in
-      let all = entry-ext (λ k. sym (heard_all (plan_of bs n t terms) s everywhere (slots-within bs n t terms ok) v k)) e in
-      let same = fewest-unique all.fewest (fewest-shortest (plan_of bs n t terms) (start s) (is_at v) b (few-slots bs n t terms ok)) in
+  pub holds_station :
+      (x : Table) (i v : ℕ) → EntryAt (present bs n t terms s v t) x i → EntryHolds x i (shortest_walks_to (plan_of bs n t terms) s v)
+  unfolding plan_of shortest_walks_to
+  holds_station x i v e =
+      let b = bounded_ends (plan_of bs n t terms) (slots_within bs n t terms ok) s (is_at v) in
+      let all = entry_ext (λ k. sym (heard_all (plan_of bs n t terms) s everywhere (slots_within bs n t terms ok) v k)) e in
+      let same = fewest_unique all.fewest (fewest_shortest (plan_of bs n t terms) (start s) (is_at v) b (few_slots bs n t terms ok)) in
       record {
-        hops-there = same;
-        count-there = all.count ∙
+        hops_there = same;
+        count_there = all.count ∙
             ap stored (ap (total (plan_of bs n t terms) everywhere (start s) (λ y. cond (is_at v y) 1 0)) same ∙
-            sym (count-shortest (plan_of bs n t terms) (start s) (is_at v) b));
+            sym (count_shortest (plan_of bs n t terms) (start s) (is_at v) b));
       }
 
   -- once the last slot is settled the tables are filled
-  pub end-state :
+  pub end_state :
       (q : ℕ) → 0 < q → (old x : Tables) (j : ℕ) → TablesState bs n t terms s q old (t + q) j x → FilledTables bs n t terms s old x
-  end-state q some old x j st =
+  end_state q some old x j st =
       let all : t + q - q ≡ t = omega arith in
       record {
-        appearance = λ v u h last. holds-appearance x.appearances _ v u (st.complete v u h (omega arith) last);
+        appearance = λ v u h last. holds_appearance x.appearances _ v u (st.complete v u h (omega arith) last);
         station = λ v h.
-            holds-station x.stations v v
+            holds_station x.stations v v
             (subst (λ e. EntryAt (present bs n t terms s v e) x.stations v) all (st.station v h));
-        appearances-beyond = st.appearances-beyond;
-        stations-beyond = st.stations-beyond;
+        appearances_beyond = st.appearances_beyond;
+        stations_beyond = st.stations_beyond;
       }

@@ -1,26 +1,27 @@
 // The tables of reach, hops and counts of appearances and of stations: how an entry is merged, sent on and settled, how a record is folded
 // in, and how the tables begin, are cleared and searched for a count over 2^64 - 1. Both fillings of the tables use them.
+#![tactic(auto)]
 ghost use Rattle.std.specs.Prelude.{◌≡◌, ◌<◌, ◌≤◌, length, get_or};
 ghost use Rattle.temporal.specs.Lists.{any, below};
-ghost use Rattle.temporal.specs.Bytes.{contactAt};
+ghost use Rattle.temporal.specs.Bytes.{contact_at};
 ghost use Rattle.reach_entries.specs.Table.{
   table_of,
-  mergedTable,
-  sentTable,
-  foldedTable,
-  settledTable,
-  tableOverflows,
+  merged_table,
+  sent_table,
+  folded_table,
+  settled_table,
+  table_overflows,
   PlacesWithin,
   Fits,
   FoldableTables,
 };
-ghost use Rattle.reach_entries.specs.Pass.{tables_of, begunTables, emptiedTables, tablesOverflow};
+ghost use Rattle.reach_entries.specs.Pass.{tables_of, begun_tables, emptied_tables, tables_overflow};
 
 // Takes c walks of h hops into the entry at a place.
 fn merge(hops: &mut [u16], counts: &mut [u64], at: usize, h: u16, c: u64)
     requires { (at < length hops.old) × (at < length counts.old) }
     ensures { table_of hops.new counts.new ≡
-        mergedTable (table_of hops.old counts.old) at h c }
+        merged_table (table_of hops.old counts.old) at h c }
 {
     let old = hops[at];
     if h < old {
@@ -44,7 +45,7 @@ fn send(
 )
     requires { PlacesWithin (table_of hops.old counts.old) (table_of station_hops.now station_counts.now) at v }
     ensures { table_of hops.new counts.new ≡
-        sentTable (table_of hops.old counts.old)
+        sent_table (table_of hops.old counts.old)
         (table_of station_hops.now station_counts.now) v at }
 {
     let h = station_hops[v];
@@ -64,7 +65,7 @@ pub fn settle_one(
 )
     requires { PlacesWithin (table_of station_hops.old station_counts.old) (table_of hops.now counts.now) v at }
     ensures { table_of station_hops.new station_counts.new ≡
-        mergedTable (table_of station_hops.old station_counts.old) v (get_or hops.now at 0)
+        merged_table (table_of station_hops.old station_counts.old) v (get_or hops.now at 0)
         (get_or counts.now at 0) }
 {
     merge(station_hops, station_counts, v, hops[at], counts[at]);
@@ -82,7 +83,7 @@ pub fn settle(
 )
     requires { Fits n width (table_of hops.now counts.now) (table_of station_hops.old station_counts.old) × (u < width) }
     ensures { table_of station_hops.new station_counts.new ≡
-        settledTable width u (table_of hops.now counts.now)
+        settled_table width u (table_of hops.now counts.now)
         (table_of station_hops.old station_counts.old) 0 n }
 {
     let mut v = 0;
@@ -102,7 +103,7 @@ fn wide(h: u16) -> u64
 // Whether the entry at j has a count over 2^64 - 1.
 fn entry_overflows(hops: &[u16], counts: &[u64], j: usize) -> bool
     requires { (j < length hops.now) × (j < length counts.now) }
-    ensures { result ≡ tableOverflows (table_of hops.now counts.now) j }
+    ensures { result ≡ table_overflows (table_of hops.now counts.now) j }
 {
     entries::too_many(wide(hops[j]), counts[j])
 }
@@ -110,7 +111,7 @@ fn entry_overflows(hops: &[u16], counts: &[u64], j: usize) -> bool
 // Whether one of the first k entries has a count over 2^64 - 1.
 fn any_overflows(hops: &[u16], counts: &[u64], k: usize) -> bool
     requires { (k ≤ length hops.now) × (k ≤ length counts.now) }
-    ensures { result ≡ any (tableOverflows (table_of hops.now counts.now)) (below k) }
+    ensures { result ≡ any (table_overflows (table_of hops.now counts.now)) (below k) }
 {
     let mut j = 0;
     while j < k {
@@ -136,8 +137,8 @@ pub fn fold_record(
     requires { FoldableTables plan.now n width j (table_of hops.old counts.old)
         (table_of station_hops.now station_counts.now) }
     ensures { table_of hops.new counts.new ≡
-        foldedTable width (table_of hops.old counts.old)
-        (table_of station_hops.now station_counts.now) (contactAt plan.now j) }
+        folded_table width (table_of hops.old counts.old)
+        (table_of station_hops.now station_counts.now) (contact_at plan.now j) }
 {
     let c = plan::contact_at(plan, j);
     send(
@@ -163,7 +164,7 @@ pub fn begin(
     requires { Fits n width (table_of hops.old counts.old) (table_of station_hops.old station_counts.old) × (source < n) ×
         (0 < width) }
     ensures { tables_of hops.new counts.new station_hops.new station_counts.new ≡
-        begunTables n width source
+        begun_tables n width source
         (tables_of hops.old counts.old station_hops.old station_counts.old) }
 {
     let places = n * width;
@@ -189,7 +190,7 @@ pub fn clear(
 )
     requires { Fits n width (table_of hops.old counts.old) (table_of station_hops.old station_counts.old) }
     ensures { tables_of hops.new counts.new station_hops.new station_counts.new ≡
-        emptiedTables n width (tables_of hops.old counts.old station_hops.old
+        emptied_tables n width (tables_of hops.old counts.old station_hops.old
         station_counts.old) }
 {
     let places = n * width;
@@ -209,7 +210,7 @@ pub fn overflowed(
     width: usize,
 ) -> bool
     requires { Fits n width (table_of hops.now counts.now) (table_of station_hops.now station_counts.now) }
-    ensures { result ≡ tablesOverflow n width
+    ensures { result ≡ tables_overflow n width
         (tables_of hops.now counts.now station_hops.now station_counts.now) }
 {
     if any_overflows(hops, counts, n * width) {

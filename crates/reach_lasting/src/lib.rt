@@ -1,15 +1,16 @@
 // Fills the tables of reach where nothing goes stale: the stations' tables hold what may be sent on, the appearances' tables what each slot
 // brings. A slot is taken into the stations' tables, settled, when it has waited as long as the turnaround asks, for the hearers of its
 // records.
+#![tactic(auto)]
 ghost use Rattle.std.specs.Prelude.{◌≡◌, ◌*◌, ◌-◌, ◌<◌, ◌≤◌, min, length};
 ghost use Rattle.temporal.specs.Plan.{units, Keeps};
 ghost use Rattle.reach_entries.specs.Table.{table_of, Fits};
 ghost use Rattle.reach_entries.specs.Pass.{tables_of, ReachReady, FilledTables};
 ghost use Rattle.reach_lasting.specs.Slot.{
-  hearerAt,
-  settledOnce,
-  unmarkedBy,
-  unmarkedAt,
+  hearer_at,
+  settled_once,
+  unmarked_by,
+  unmarked_at,
   HearerFits,
   HearersFit,
   Settleable,
@@ -34,9 +35,9 @@ fn settle_record(
     requires { Fits n width (table_of hops.now counts.old) (table_of station_hops.old station_counts.old) × (u < width) ×
         HearerFits plan.now n i }
     ensures { tables_of hops.now counts.new station_hops.new station_counts.new ≡
-        settledOnce width u
+        settled_once width u
         (tables_of hops.now counts.old station_hops.old station_counts.old)
-        (hearerAt plan.now i) }
+        (hearer_at plan.now i) }
 {
     let c = plan::contact_at(plan, i);
     let v = c.hearer;
@@ -51,7 +52,7 @@ fn settle_record(
 // Takes the mark of the hearer of the record at i away, where it has one.
 fn unmark_record(counts: &mut [u64], plan: &[u8], n: usize, width: usize, i: usize)
     requires { (n * width ≤ length counts.old) × (0 < width) × HearerFits plan.now n i }
-    ensures { counts.new ≡ unmarkedAt counts.old (hearerAt plan.now i * width) }
+    ensures { counts.new ≡ unmarked_at counts.old (hearer_at plan.now i * width) }
 {
     let c = plan::contact_at(plan, i);
     let mark = c.hearer * width;
@@ -65,7 +66,7 @@ fn unmark_record(counts: &mut [u64], plan: &[u8], n: usize, width: usize, i: usi
 // The same for the records from i to before end.
 fn unmark(counts: &mut [u64], plan: &[u8], n: usize, width: usize, i: usize, end: usize)
     requires { (n * width ≤ length counts.old) × (0 < width) × HearersFit plan.now n i end }
-    ensures { counts.new ≡ unmarkedBy plan.now width counts.old i (end - i) }
+    ensures { counts.new ≡ unmarked_by plan.now width counts.old i (end - i) }
 {
     let mut k = i;
     while k < end {

@@ -1,10 +1,11 @@
 // Fills the tables of reach where readings go stale: a station's entry is gathered anew for each record that it sends.
+#![tactic(auto)]
 ghost use Rattle.std.specs.Prelude.{◌≡◌, ◌-◌, ◌<◌, ◌≤◌, length};
 ghost use Rattle.temporal.specs.Plan.{units};
-ghost use Rattle.temporal.specs.Bytes.{contactAt};
+ghost use Rattle.temporal.specs.Bytes.{contact_at};
 ghost use Rattle.reach_entries.specs.Table.{table_of, Fits, FoldableTables};
 ghost use Rattle.reach_entries.specs.Pass.{tables_of, ReachReady, FilledTables};
-ghost use Rattle.reach_window.specs.Window.{gathered, emptiedEntry, windowTable, windowFolded, emptiedStations, settledSlots};
+ghost use Rattle.reach_window.specs.Window.{gathered, emptied_entry, window_table, window_folded, emptied_stations, settled_slots};
 
 // Takes the appearances of station v, of the slots from one on and before another, into its entry.
 fn gather(
@@ -35,7 +36,7 @@ fn gather(
 fn empty_entry(station_hops: &mut [u16], station_counts: &mut [u64], v: usize)
     requires { (v < length station_hops.old) × (v < length station_counts.old) }
     ensures { table_of station_hops.new station_counts.new ≡
-        emptiedEntry (table_of station_hops.old station_counts.old) v }
+        emptied_entry (table_of station_hops.old station_counts.old) v }
 {
     station_hops[v] = 65535;
     station_counts[v] = 0;
@@ -57,7 +58,7 @@ fn gather_window(
     requires { Fits n width (table_of hops.now counts.now) (table_of station_hops.old station_counts.old) × (v < n) ×
         (u < width) × (0 < g) }
     ensures { table_of station_hops.new station_counts.new ≡
-        windowTable width g h (table_of hops.now counts.now) v u
+        window_table width g h (table_of hops.now counts.now) v u
         (table_of station_hops.old station_counts.old) }
 {
     empty_entry(station_hops, station_counts, v);
@@ -103,9 +104,9 @@ fn fold_window(
     requires { FoldableTables plan.now n width j (table_of hops.old counts.old)
         (table_of station_hops.old station_counts.old) × (0 < g) }
     ensures { tables_of hops.new counts.new station_hops.new station_counts.new ≡
-        windowFolded width g h
+        window_folded width g h
         (tables_of hops.old counts.old station_hops.old station_counts.old)
-        (contactAt plan.now j) }
+        (contact_at plan.now j) }
 {
     let c = plan::contact_at(plan, j);
     gather_window(
@@ -143,8 +144,8 @@ fn settle_all(
 )
     requires { Fits n width (table_of hops.now counts.now) (table_of station_hops.old station_counts.old) }
     ensures { table_of station_hops.new station_counts.new ≡
-        settledSlots n width (table_of hops.now counts.now)
-        (emptiedStations n (table_of station_hops.old station_counts.old)) 0 width }
+        settled_slots n width (table_of hops.now counts.now)
+        (emptied_stations n (table_of station_hops.old station_counts.old)) 0 width }
 {
     memory::fill16(station_hops, n, 65535);
     memory::fill64(station_counts, n, 0);

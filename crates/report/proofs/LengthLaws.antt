@@ -12,15 +12,15 @@ use lib.ListN.{length, length-append}
 use borrow.Author.Tests.{ltb-false}
 use Rattle.temporal.specs.Lists.{from, below, select, any, sum}
 use Rattle.temporal.specs.Plan.{Plan}
-use Rattle.temporal.specs.Load.{Ends, endsBelow, throughOf, isPairOf, pairsBelow, partialPairs, pairs, load}
-use Rattle.lists.proofs.ListLaws.{length-select, mem_below, any_false}
+use Rattle.temporal.specs.Load.{Ends, ends_below, through_of, is_pair_of, pairs_below, partial_pairs, pairs, load}
+use Rattle.lists.proofs.ListLaws.{length_select, mem_below, any_false}
 use Rattle.counting.proofs.SumLaws.{sum_less}
-use Rattle.counting.proofs.ExactSum.{load-at-most}
+use Rattle.counting.proofs.ExactSum.{load_at_most}
 use Rattle.text.specs.Decimal.{decimal}
-use Rattle.text.proofs.DecimalLaws.{decimal-short}
-use Rattle.text.specs.Field.{ascii, space, lineFeed}
-use Rattle.text.proofs.FieldLaws.{fields-length, labelled-length}
-use Rattle.report.specs.Report.{heading, line, loadsText}
+use Rattle.text.proofs.DecimalLaws.{decimal_short}
+use Rattle.text.specs.Field.{ascii, space, line_feed}
+use Rattle.text.proofs.FieldLaws.{fields_length, labelled_length}
+use Rattle.report.specs.Report.{heading, line, loads_text}
 
 -- ---- the pairs of a station
 
@@ -29,21 +29,21 @@ unfoldable differs : Ends → Bool
 differs e = not (eqb e.source e.destination)
 
 -- up to 32 stations have at most 992 ordered pairs of two different ones
-few-differ : any (λ n. ltb 992 (length (select differs (endsBelow n n)))) (below 33) ≡ false
-unfolding differs any below from select endsBelow flat_map
-few-differ = refl
+few_differ : any (λ n. ltb 992 (length (select differs (ends_below n n)))) (below 33) ≡ false
+unfolding differs any below from select ends_below flat_map
+few_differ = refl
 
-pub few-pairs : (p : Plan) (v : ℕ) → p.stations ≤ 32 → pairs p v ≤ 992
-unfolding partialPairs pairsBelow differs
-few-pairs p v h =
-    let less : length (select (isPairOf p v) (endsBelow p.stations p.stations)) ≤ length (select differs (endsBelow p.stations p.stations)) =
-    (rw (length-select (isPairOf p v) (endsBelow p.stations p.stations), length-select differs (endsBelow p.stations p.stations))
-    (sum_less _ _ (endsBelow p.stations p.stations) (λ e. at_most (differs e) (ltb 0 (throughOf p v e))))) in
+pub few_pairs : (p : Plan) (v : ℕ) → p.stations ≤ 32 → pairs p v ≤ 992
+unfolding partial_pairs pairs_below differs
+few_pairs p v h =
+    let less : length (select (is_pair_of p v) (ends_below p.stations p.stations)) ≤ length (select differs (ends_below p.stations p.stations)) =
+    (rw (length_select (is_pair_of p v) (ends_below p.stations p.stations), length_select differs (ends_below p.stations p.stations))
+    (sum_less _ _ (ends_below p.stations p.stations) (λ e. at_most (differs e) (ltb 0 (through_of p v e))))) in
     omega (
       arith,
       less,
-      ltb-false 992 (length (select differs (endsBelow p.stations p.stations)))
-          ((any_false _ (below 33)).0 few-differ p.stations ((mem_below 33).1 (omega arith))),
+      ltb-false 992 (length (select differs (ends_below p.stations p.stations)))
+          ((any_false _ (below 33)).0 few_differ p.stations ((mem_below 33).1 (omega arith))),
     )
   where
     at_most : (a b : Bool) → cond (a && b) 1 0 ≤ cond a 1 0
@@ -51,72 +51,72 @@ few-pairs p v h =
     at_most true false = omega arith
     at_most false b = omega arith
 
-pub small-load : (p : Plan) (v : ℕ) → p.stations ≤ 32 → load p v < 10 ^ 13
-small-load p v h = omega (arith, load-at-most p p.stations v, few-pairs p v h)
+pub small_load : (p : Plan) (v : ℕ) → p.stations ≤ 32 → load p v < 10 ^ 13
+small_load p v h = omega (arith, load_at_most p p.stations v, few_pairs p v h)
 
 -- ---- lines
 
-line-length : (v p l : ℕ) → length (line v p l) ≡ length (decimal v) + length (decimal p) + length (decimal l) + 3
+line_length : (v p l : ℕ) → length (line v p l) ≡ length (decimal v) + length (decimal p) + length (decimal l) + 3
 unfolding line
-line-length v p l = omega (arith, fields-length v space p space l lineFeed)
+line_length v p l = omega (arith, fields_length v space p space l line_feed)
 
 module _ (p : Plan) (few : p.stations ≤ 32) where
   abbrev line_at : ℕ → List ℕ
   line_at v = line v (pairs p v) (load p v)
 
   -- a line has at most 21 bytes, and that of a station below 10 one less
-  line-short : (v k : ℕ) → 1 ≤ k → v < 10 ^ k → length (line_at v) ≤ k + 19
-  line-short v k some h =
+  line_short : (v k : ℕ) → 1 ≤ k → v < 10 ^ k → length (line_at v) ≤ k + 19
+  line_short v k some h =
       omega (
         arith,
-        line-length v (pairs p v) (load p v),
-        decimal-short v k some h,
-        decimal-short (pairs p v) 3 (lit< tt) (omega (arith, few-pairs p v few)),
-        decimal-short (load p v) 13 (lit< tt) (small-load p v few),
+        line_length v (pairs p v) (load p v),
+        decimal_short v k some h,
+        decimal_short (pairs p v) 3 (lit< tt) (omega (arith, few_pairs p v few)),
+        decimal_short (load p v) 13 (lit< tt) (small_load p v few),
       )
 
   -- the lines of k stations from i on, d of which are below 10
-  lines-short :
+  lines_short :
       (d k i : ℕ) → d ≤ k → d ≤ 10 - i → i + k ≤ 32 → length (flat_map line_at (from i k)) + d ≤ 21 * k
   unfolding from flat_map
-  lines-short d zero i a b c = omega arith
-  lines-short zero (suc k) i a b c =
+  lines_short d zero i a b c = omega arith
+  lines_short zero (suc k) i a b c =
       omega (
         arith,
         length-append (line_at i) (flat_map line_at (from (suc i) k)),
-        line-short i 2 (lit< tt) (omega arith),
-        lines-short zero k (suc i) (omega arith) (omega arith) (omega arith),
+        line_short i 2 (lit< tt) (omega arith),
+        lines_short zero k (suc i) (omega arith) (omega arith) (omega arith),
       )
-  lines-short (suc d) (suc k) i a b c =
+  lines_short (suc d) (suc k) i a b c =
       omega (
         arith,
         length-append (line_at i) (flat_map line_at (from (suc i) k)),
-        line-short i 1 (lit< tt) (omega arith),
-        lines-short d k (suc i) (omega arith) (omega arith) (omega arith),
+        line_short i 1 (lit< tt) (omega arith),
+        lines_short d k (suc i) (omega arith) (omega arith) (omega arith),
       )
 
-  all-lines-short : length (flat_map line_at (below p.stations)) ≤ 662
+  all_lines_short : length (flat_map line_at (below p.stations)) ≤ 662
   unfolding below
-  all-lines-short =
+  all_lines_short =
       by_cases (dec_le p.stations 10)
-      (λ h. omega (arith, lines-short p.stations p.stations 0 (omega arith) (omega arith) (omega arith)))
-      (λ h. omega (arith, lines-short 10 p.stations 0 (omega arith) (omega arith) (omega arith)))
+      (λ h. omega (arith, lines_short p.stations p.stations 0 (omega arith) (omega arith) (omega arith)))
+      (λ h. omega (arith, lines_short 10 p.stations 0 (omega arith) (omega arith) (omega arith)))
 
-heading-length : (n t m : ℕ) → length (heading n t m) ≡ length (decimal n) + length (decimal t) + length (decimal m) + 27
+heading_length : (n t m : ℕ) → length (heading n t m) ≡ length (decimal n) + length (decimal t) + length (decimal m) + 27
 unfolding heading
-heading-length n t m = omega (arith, labelled-length (ascii "stations ") n (ascii " slots ") t (ascii " contacts ") m lineFeed)
+heading_length n t m = omega (arith, labelled_length (ascii "stations ") n (ascii " slots ") t (ascii " contacts ") m line_feed)
 
 -- The longest text: 35 bytes of the first line, 10 lines of 20 and 22 of 21.
-pub text-length : (p : Plan) → p.stations ≤ 32 → p.slots ≤ 63 → length p.contacts ≤ 1024 → length (loadsText p) ≤ 697
-unfolding loadsText
-text-length p a b c =
+pub text_length : (p : Plan) → p.stations ≤ 32 → p.slots ≤ 63 → length p.contacts ≤ 1024 → length (loads_text p) ≤ 697
+unfolding loads_text
+text_length p a b c =
     omega (
       arith,
       length-append (heading p.stations p.slots (length p.contacts))
           (flat_map (λ v. line v (pairs p v) (load p v)) (below p.stations)),
-      heading-length p.stations p.slots (length p.contacts),
-      decimal-short p.stations 2 (lit< tt) (omega arith),
-      decimal-short p.slots 2 (lit< tt) (omega arith),
-      decimal-short (length p.contacts) 4 (lit< tt) (omega arith),
-      all-lines-short p a,
+      heading_length p.stations p.slots (length p.contacts),
+      decimal_short p.stations 2 (lit< tt) (omega arith),
+      decimal_short p.slots 2 (lit< tt) (omega arith),
+      decimal_short (length p.contacts) 4 (lit< tt) (omega arith),
+      all_lines_short p a,
     )

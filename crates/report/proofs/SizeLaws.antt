@@ -10,22 +10,22 @@ max_assoc : (a b c : ℕ) → max a (max b c) ≡ max (max a b) c
 max_assoc a b c = omega arith
 
 -- the largest of what was seen and of the k numbers from i on
-unfoldable pub largestFrom : (ℕ → ℕ) → ℕ → ℕ → ℕ → ℕ
-largestFrom f top i k = max top (largest (map f (from i k)))
+unfoldable pub largest_from : (ℕ → ℕ) → ℕ → ℕ → ℕ → ℕ
+largest_from f top i k = max top (largest (map f (from i k)))
 
-pub largest-begin : (f : ℕ → ℕ) (m : ℕ) → largestFrom f 0 0 (m - 0) ≡ largest (map f (below m))
-unfolding largestFrom below
-largest-begin f m =
+pub largest_begin : (f : ℕ → ℕ) (m : ℕ) → largest_from f 0 0 (m - 0) ≡ largest (map f (below m))
+unfolding largest_from below
+largest_begin f m =
     let same : m - 0 ≡ m = omega arith in
     rw same (omega arith)
 
-pub largest-next : (f : ℕ → ℕ) (top i m : ℕ) → i < m → largestFrom f top i (m - i) ≡ largestFrom f (max top (f i)) (i + 1) (m - (i + 1))
-unfolding largestFrom from largest
-largest-next f top i m h =
+pub largest_next : (f : ℕ → ℕ) (top i m : ℕ) → i < m → largest_from f top i (m - i) ≡ largest_from f (max top (f i)) (i + 1) (m - (i + 1))
+unfolding largest_from from largest
+largest_next f top i m h =
     let left : m - i ≡ suc (m - (i + 1)) = omega arith in
     let next : i + 1 ≡ suc i = omega arith in
     rw (left, next) (max_assoc top (f i) (largest (map f (from (suc i) (m - suc i)))))
 
-pub largest-end : (f : ℕ → ℕ) (top i : ℕ) → largestFrom f top i 0 ≡ top
-unfolding largestFrom from largest
-largest-end f top i = omega arith
+pub largest_end : (f : ℕ → ℕ) (top i : ℕ) → largest_from f top i 0 ≡ top
+unfolding largest_from from largest
+largest_end f top i = omega arith

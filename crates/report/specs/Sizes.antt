@@ -2,7 +2,7 @@
 -- Assumes nothing.
 use Rattle.std.specs.Prelude.{ℕ, ◌+◌, ◌-◌, ◌%◌, max, Bool, not, cond, ◌||◌, List, [], ◌∷◌, map, ltb, eqb, length}
 use Rattle.temporal.specs.Lists.{below}
-use Rattle.temporal.specs.Bytes.{contactAt, records}
+use Rattle.temporal.specs.Bytes.{contact_at, records}
 
 -- the largest of a list; 0 of none
 unfoldable pub largest : List ℕ → ℕ
@@ -10,21 +10,21 @@ largest [] = 0
 largest (x ∷ l) = max x (largest l)
 
 -- the larger station number of the record at a position
-unfoldable pub topStation : List ℕ → ℕ → ℕ
-topStation bs i = max (contactAt bs i).sender (contactAt bs i).hearer
+unfoldable pub top_station : List ℕ → ℕ → ℕ
+top_station bs i = max (contact_at bs i).sender (contact_at bs i).hearer
 
 -- n: one more than the largest station number of all records; 1 for an empty input
-unfoldable pub inputStations : List ℕ → ℕ
-inputStations bs = largest (map (topStation bs) (below (records bs))) + 1
+unfoldable pub input_stations : List ℕ → ℕ
+input_stations bs = largest (map (top_station bs) (below (records bs))) + 1
 
 -- T: the last record's slot; 1 for an empty input
-unfoldable pub inputSlots : List ℕ → ℕ
-inputSlots bs = cond (eqb (records bs) 0) 1 (contactAt bs (records bs - 1)).slot
+unfoldable pub input_slots : List ℕ → ℕ
+input_slots bs = cond (eqb (records bs) 0) 1 (contact_at bs (records bs - 1)).slot
 
 -- the program's 2: not a multiple of 6 bytes, or over 1,024 records
-unfoldable pub wrongInput : List ℕ → Bool
-wrongInput bs = not (eqb (length bs % 6) 0) || ltb 1024 (records bs)
+unfoldable pub wrong_input : List ℕ → Bool
+wrong_input bs = not (eqb (length bs % 6) 0) || ltb 1024 (records bs)
 
 -- the program's 1: n over 32, or T over 63. (T = 0 is 1 of every operation.)
-unfoldable pub overLimits : ℕ → ℕ → Bool
-overLimits n t = ltb 32 n || ltb 63 t
+unfoldable pub over_limits : ℕ → ℕ → Bool
+over_limits n t = ltb 32 n || ltb 63 t

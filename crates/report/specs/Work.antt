@@ -2,7 +2,7 @@
 -- Assumes nothing.
 use Rattle.std.specs.Prelude.{ℕ, ◌+◌, ◌≤◌, ◌≡◌, false, List, ◌++◌, length, get_or}
 use Rattle.text.specs.Pieces.{pieces}
-use Rattle.report.specs.Sizes.{inputStations, inputSlots, wrongInput, overLimits}
+use Rattle.report.specs.Sizes.{input_stations, input_slots, wrong_input, over_limits}
 use Rattle.report.specs.Report.{heading, line}
 
 -- the lines of n stations whose pairs and loads stand in two tables
@@ -15,17 +15,17 @@ table_of ps ls n t m = heading n t m ++ lines_of ps ls n
 
 -- both tables have an entry for each of n stations, and a text has room from a place on
 pub record Printable (at n : ℕ) (ps ls new out : List ℕ) : Type 0 where
-  pub pairs-room : n ≤ length ps
-  pub loads-room : n ≤ length ls
-  pub text-room : at + length new ≤ length out
+  pub pairs_room : n ≤ length ps
+  pub loads_room : n ≤ length ls
+  pub text_room : at + length new ≤ length out
 
 -- an input that the program's own causes do not refuse, its n and T, and buffers of at least the program's sizes
 pub record Within (bs : List ℕ) (n t : ℕ) (out ps ls work : List ℕ) : Type 0 where
-  pub right-input : wrongInput bs ≡ false
-  pub stations : n ≡ inputStations bs
-  pub slots : t ≡ inputSlots bs
-  pub limits : overLimits n t ≡ false
-  pub out-size : 697 ≤ length out
-  pub pairs-size : 32 ≤ length ps
-  pub loads-size : 32 ≤ length ls
-  pub work-size : 8192 ≤ length work
+  pub right_input : wrong_input bs ≡ false
+  pub stations : n ≡ input_stations bs
+  pub slots : t ≡ input_slots bs
+  pub limits : over_limits n t ≡ false
+  pub out_size : 697 ≤ length out
+  pub pairs_size : 32 ≤ length ps
+  pub loads_size : 32 ≤ length ls
+  pub work_size_law : 8192 ≤ length work

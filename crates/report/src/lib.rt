@@ -1,10 +1,11 @@
 // What the load programs print, as one function from the input to the whole text, over operation 5, loads.
+#![tactic(auto)]
 ghost use Rattle.std.specs.Prelude.{◌≡◌, ◌+◌, ◌*◌, ◌<◌, ◌≤◌, max, length};
 ghost use Rattle.text.specs.Written.{Put};
 ghost use Rattle.temporal.specs.Plan.{turning};
-ghost use Rattle.loads.specs.Answer.{loadBuffers};
-ghost use Rattle.report.specs.Sizes.{topStation, inputStations, inputSlots, wrongInput, overLimits};
-ghost use Rattle.report.specs.Report.{heading, line, refusalText, Reported};
+ghost use Rattle.loads.specs.Answer.{load_buffers};
+ghost use Rattle.report.specs.Sizes.{top_station, input_stations, input_slots, wrong_input, over_limits};
+ghost use Rattle.report.specs.Report.{heading, line, refusal_text, Reported};
 ghost use Rattle.report.specs.Work.{lines_of, table_of, Printable, Within};
 
 use loads::LoadsAnswer;
@@ -22,7 +23,7 @@ fn larger(a: usize, b: usize) -> usize
 // The larger station number of a record.
 fn top_station(input: &[u8], i: usize) -> usize
     requires { i * 6 + 5 < length input.now }
-    ensures { result ≡ topStation input.now i }
+    ensures { result ≡ top_station input.now i }
 {
     let c = plan::contact_at(input, i);
     larger(c.sender, c.hearer)
@@ -30,7 +31,7 @@ fn top_station(input: &[u8], i: usize) -> usize
 
 // The largest station number of all records; 0 where there is no record.
 pub fn top_of(input: &[u8]) -> usize
-    ensures { result + 1 ≡ inputStations input.now }
+    ensures { result + 1 ≡ input_stations input.now }
 {
     let m = input.len() / 6;
     let mut top = 0;
@@ -44,7 +45,7 @@ pub fn top_of(input: &[u8]) -> usize
 
 // The last record's slot; 1 where there is no record.
 pub fn slots_of(input: &[u8]) -> usize
-    ensures { result ≡ inputSlots input.now }
+    ensures { result ≡ input_slots input.now }
 {
     let m = input.len() / 6;
     if m == 0 {
@@ -56,7 +57,7 @@ pub fn slots_of(input: &[u8]) -> usize
 
 // Whether the input is not a multiple of 6 bytes, or over 1,024 records.
 pub fn wrong_input(input: &[u8]) -> bool
-    ensures { result ≡ wrongInput input.now }
+    ensures { result ≡ wrong_input input.now }
 {
     if input.len() % 6 != 0 {
         return true;
@@ -66,7 +67,7 @@ pub fn wrong_input(input: &[u8]) -> bool
 
 // Whether stations up to this one are over 32, or slots over 63.
 pub fn over_limits(top: usize, t: usize) -> bool
-    ensures { result ≡ overLimits (top + 1) t }
+    ensures { result ≡ over_limits (top + 1) t }
 {
     if 31 < top {
         return true;
@@ -76,8 +77,8 @@ pub fn over_limits(top: usize, t: usize) -> bool
 
 // Writes the one line of a refusal.
 pub fn put_refusal(out: &mut [u8], at: usize, k: u64) -> usize
-    requires { at + length (refusalText k) ≤ length out.old }
-    ensures { Put at (refusalText k) out.old result out.new }
+    requires { at + length (refusal_text k) ≤ length out.old }
+    ensures { Put at (refusal_text k) out.old result out.new }
 {
     let end = text::put_bytes(out, at, b"refused ");
     text::put_field(out, end, k, b"\n")
@@ -145,8 +146,8 @@ fn report_within(
 ) -> usize
     requires { Within input.now n t out.old pairs.old sums.old work.old }
     ensures { Reported input.now (turning g) out.old
-        (loadBuffers pairs.old sums.old work.old) result out.new
-        (loadBuffers pairs.new sums.new work.new) }
+        (load_buffers pairs.old sums.old work.old) result out.new
+        (load_buffers pairs.new sums.new work.new) }
 {
     let LoadsAnswer::Refused(fault) = loads::loads(input, n, t, g, 255, pairs, sums, work) else {
         return put_table(out, n, t, input.len() / 6, pairs, sums);
@@ -165,8 +166,8 @@ pub fn report(
     work: &mut [u64; 8192],
 ) -> usize
     ensures { Reported input.now (turning g) out.old
-        (loadBuffers pairs.old sums.old work.old) result out.new
-        (loadBuffers pairs.new sums.new work.new) }
+        (load_buffers pairs.old sums.old work.old) result out.new
+        (load_buffers pairs.new sums.new work.new) }
 {
     if wrong_input(input) {
         return put_refusal(out, 0, 2);

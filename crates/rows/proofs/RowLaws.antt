@@ -9,80 +9,80 @@ use mathlib.Core.List.{List, []}
 use borrow.Author.Tests.{lt-ltb, le-ltb, le-leb, lt-leb, eq-eqb, ne_eqb, leb-false, ltb-false}
 use lib.Dec.{ltb, eqb}
 use lib.ListN.{length, take, drop}
-use Rattle.temporal.specs.Cause.{first, outside, stationCauses}
-use Rattle.temporal.specs.Outcome.{rowNumber, row}
-use Rattle.temporal.proofs.CauseLaws.{first-true, first-false, first_head, first_tail, or-false-right}
-use Rattle.walks.proofs.EnteredLaws.{unless-some, unless-none}
+use Rattle.temporal.specs.Cause.{first, outside, station_causes}
+use Rattle.temporal.specs.Outcome.{row_number, row}
+use Rattle.temporal.proofs.CauseLaws.{first_true, first_false, first_head, first_tail, or_false_right}
+use Rattle.walks.proofs.EnteredLaws.{unless_some, unless_none}
 
-first-nothing : first [] ≡ 0
+first_nothing : first [] ≡ 0
 unfolding first
-first-nothing = refl
+first_nothing = refl
 
 module _ (n t v : ℕ) (table : List ℕ) where
-  pub row-no-station : n ≡ 0 → rowNumber n t v table ≡ 1
-  unfolding rowNumber outside
-  row-no-station h = first-true 0 _ _ (rw (eq-eqb n 0 h))
+  pub row_no_station : n ≡ 0 → row_number n t v table ≡ 1
+  unfolding row_number outside
+  row_no_station h = first_true 0 _ _ (rw (eq-eqb n 0 h))
 
-  pub row-many-stations : 256 < n → rowNumber n t v table ≡ 1
-  unfolding rowNumber outside
-  row-many-stations h = first-true 0 _ _ (rw (ne_eqb n 0 (omega arith), lt-ltb 256 n h))
+  pub row_many_stations : 256 < n → row_number n t v table ≡ 1
+  unfolding row_number outside
+  row_many_stations h = first_true 0 _ _ (rw (ne_eqb n 0 (omega arith), lt-ltb 256 n h))
 
-  module _ (some-station : n ≢ 0) (stations : n ≤ 256) where
-    pub row-no-slot : t ≡ 0 → rowNumber n t v table ≡ 1
-    unfolding rowNumber outside
-    row-no-slot h = first-true 0 _ _ (rw (ne_eqb n 0 some-station, le-ltb 256 n stations, eq-eqb t 0 h))
+  module _ (some_station : n ≢ 0) (stations : n ≤ 256) where
+    pub row_no_slot : t ≡ 0 → row_number n t v table ≡ 1
+    unfolding row_number outside
+    row_no_slot h = first_true 0 _ _ (rw (ne_eqb n 0 some_station, le-ltb 256 n stations, eq-eqb t 0 h))
 
-    pub row-many-slots : 255 < t → rowNumber n t v table ≡ 1
-    unfolding rowNumber outside
-    row-many-slots h =
-        first-true 0 _ _
-        (rw (ne_eqb n 0 some-station, le-ltb 256 n stations, ne_eqb t 0 (omega arith), lt-ltb 255 t h))
+    pub row_many_slots : 255 < t → row_number n t v table ≡ 1
+    unfolding row_number outside
+    row_many_slots h =
+        first_true 0 _ _
+        (rw (ne_eqb n 0 some_station, le-ltb 256 n stations, ne_eqb t 0 (omega arith), lt-ltb 255 t h))
 
-    module _ (some-slot : t ≢ 0) (slots : t ≤ 255) where
+    module _ (some_slot : t ≢ 0) (slots : t ≤ 255) where
       within : outside n t ≡ false
       unfolding outside
-      within = rw (ne_eqb n 0 some-station, le-ltb 256 n stations, ne_eqb t 0 some-slot, le-ltb 255 t slots)
+      within = rw (ne_eqb n 0 some_station, le-ltb 256 n stations, ne_eqb t 0 some_slot, le-ltb 255 t slots)
 
-      pub row-station : n ≤ v → rowNumber n t v table ≡ 6
-      unfolding rowNumber stationCauses
-      row-station h = first-false 1 _ _ within ∙ first-true 5 _ _ (le-leb n v h)
+      pub row_station : n ≤ v → row_number n t v table ≡ 6
+      unfolding row_number station_causes
+      row_station h = first_false 1 _ _ within ∙ first_true 5 _ _ (le-leb n v h)
 
-      pub row-short : v < n → length table < n * (t + 1) → rowNumber n t v table ≡ 8
-      unfolding rowNumber stationCauses
-      row-short inside h =
-          first-false 1 _ _ within ∙ first-false 6 _ _ (lt-leb n v inside) ∙
-          first-true 7 _ [] (lt-ltb (length table) (n * (t + 1)) h)
+      pub row_short : v < n → length table < n * (t + 1) → row_number n t v table ≡ 8
+      unfolding row_number station_causes
+      row_short inside h =
+          first_false 1 _ _ within ∙ first_false 6 _ _ (lt-leb n v inside) ∙
+          first_true 7 _ [] (lt-ltb (length table) (n * (t + 1)) h)
 
-      pub row-accepted : v < n → n * (t + 1) ≤ length table → rowNumber n t v table ≡ 0
-      unfolding rowNumber stationCauses
-      row-accepted inside h =
-          first-false 1 _ _ within ∙ first-false 6 _ _ (lt-leb n v inside) ∙
-          first-false 8 _ [] (le-ltb (length table) (n * (t + 1)) h) ∙ first-nothing
+      pub row_accepted : v < n → n * (t + 1) ≤ length table → row_number n t v table ≡ 0
+      unfolding row_number station_causes
+      row_accepted inside h =
+          first_false 1 _ _ within ∙ first_false 6 _ _ (lt-leb n v inside) ∙
+          first_false 8 _ [] (le-ltb (length table) (n * (t + 1)) h) ∙ first_nothing
 
   -- a refused row is empty, an accepted one the station's part
-  pub row-refused : 0 < rowNumber n t v table → row n t v table ≡ []
+  pub row_refused : 0 < row_number n t v table → row n t v table ≡ []
   unfolding row
-  row-refused h = unless-some (rowNumber n t v table) _ _ h
+  row_refused h = unless_some (row_number n t v table) _ _ h
 
-  pub row-part : rowNumber n t v table ≡ 0 → row n t v table ≡ take (t + 1) (drop (v * (t + 1)) table)
+  pub row_part : row_number n t v table ≡ 0 → row n t v table ≡ take (t + 1) (drop (v * (t + 1)) table)
   unfolding row
-  row-part e = unless-none (rowNumber n t v table) _ _ e
+  row_part e = unless_none (row_number n t v table) _ _ e
 
   -- an accepted row lies within the table
-  pub row_within : rowNumber n t v table ≡ 0 → (v < n) × (t ≤ 255) × (n * (t + 1) ≤ length table)
-  unfolding rowNumber stationCauses outside
+  pub row_within : row_number n t v table ≡ 0 → (v < n) × (t ≤ 255) × (n * (t + 1) ≤ length table)
+  unfolding row_number station_causes outside
   row_within e =
       let limits = first_head 0 _ _ e in
       let station = first_head 5 _ _ (first_tail 0 _ _ e) in
       let room = first_head 7 _ [] (first_tail 5 _ _ (first_tail 0 _ _ e)) in (
         leb-false n v station,
-        ltb-false 255 t (or-false-right (eqb t 0) _ (or-false-right (eqb n 0 || ltb 256 n) _ limits)),
+        ltb-false 255 t (or_false_right (eqb t 0) _ (or_false_right (eqb n 0 || ltb 256 n) _ limits)),
         ltb-false (length table) (n * (t + 1)) room,
       )
 
 -- a station's entries end within the table
-pub row-end : (v n width size : ℕ) → v < n → n * width ≤ size → v * width + width ≤ size
-row-end v n width size h fits =
+pub row_end : (v n width size : ℕ) → v < n → n * width ≤ size → v * width + width ≤ size
+row_end v n width size h fits =
     let next : suc v * width ≤ n * width = mul-le-mul_right width h in
     let one_more = suc-mul v width in
     omega arith

@@ -2,7 +2,7 @@
 -- Assumes nothing.
 use Rattle.std.specs.Prelude.{ℕ, ◌+◌, ◌*◌, ◌≡◌, List}
 use Rattle.std.specs.Borrow.{Bor}
-use Rattle.temporal.specs.Outcome.{rowNumber, row}
+use Rattle.temporal.specs.Outcome.{row_number, row}
 
 -- where a place of a table of 64-bit entries stands in memory: in the table's block, 8 bytes an entry behind its beginning
 abbrev pub place_in : Bor (List ℕ) → ℕ → ℕ × ℕ
@@ -12,4 +12,4 @@ place_in table i = (table.ptr.0, table.ptr.1 + i * 8)
 -- caller's table. A refused row is the empty part, wherever it stands.
 pub record RowPart (n t v : ℕ) (table part : Bor (List ℕ)) : Type 0 where
   pub entries : part.now ≡ row n t v table.now
-  pub place : rowNumber n t v table.now ≡ 0 → part.ref_ptr ≡ place_in table (v * (t + 1))
+  pub place : row_number n t v table.now ≡ 0 → part.ref_ptr ≡ place_in table (v * (t + 1))

@@ -1,11 +1,12 @@
 // Operation 3, row, and its sister. They read no plan.
+#![tactic(auto)]
 ghost use Rattle.std.specs.Prelude.{◌≡◌};
-ghost use Rattle.temporal.specs.Outcome.{rowNumber};
+ghost use Rattle.temporal.specs.Outcome.{row_number};
 ghost use Rattle.rows.specs.Part.{RowPart};
 
 // Row's number of refusal, 0 where row is accepted. It reads no plan.
 pub fn row_number(table: &[u64], n: usize, t: usize, station: usize) -> usize
-    ensures { result ≡ rowNumber n t station table.now }
+    ensures { result ≡ row_number n t station table.now }
 {
     if n == 0 {
         return 1;

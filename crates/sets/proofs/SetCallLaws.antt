@@ -12,93 +12,93 @@ use lib.Dec.{ltb}
 use lib.ListN.{length, get_or, replicate}
 use Rattle.temporal.specs.Plan.{Terms, Allowed}
 use Rattle.temporal.specs.Lists.{any, from, below}
-use Rattle.temporal.specs.Shortest.{shortestWalksTo, hops}
+use Rattle.temporal.specs.Shortest.{shortest_walks_to, hops}
 use Rattle.temporal.specs.Set.{touched}
 use Rattle.temporal.specs.Bytes.{plan_of}
-use Rattle.temporal.specs.Cause.{cause, first, planFault}
-use Rattle.temporal.specs.Outcome.{Outcome, entered, over, cleared, workSize}
-use Rattle.temporal.specs.OutcomeSet.{isMember, wrongSet, setCauses, setCounted, throughSet}
+use Rattle.temporal.specs.Cause.{cause, first, plan_fault}
+use Rattle.temporal.specs.Outcome.{Outcome, entered, over, cleared, work_size}
+use Rattle.temporal.specs.OutcomeSet.{is_member, wrong_set, set_causes, set_counted, through_set}
 use Rattle.walks.proofs.Accepted.{accepted}
-use Rattle.walks.proofs.Adequacy.{few-hops}
-use Rattle.lists.proofs.BufferLaws.{fill-beyond, later-drop}
-use Rattle.temporal.proofs.CauseLaws.{first-append-none, first-append-some, first-true, first-false}
-use Rattle.walks.proofs.EnteredLaws.{entered-plan, entered-call, unless-some, unless-none, refusedWith}
-use Rattle.walks.proofs.SetLaws.{touched-empty}
-use Rattle.walks.proofs.ShortestLaws.{hops-empty}
-use Rattle.plan.specs.Fault.{planNumber, callNumber, checkNumber}
+use Rattle.walks.proofs.Adequacy.{few_hops}
+use Rattle.lists.proofs.BufferLaws.{fill_beyond, later_drop}
+use Rattle.temporal.proofs.CauseLaws.{first_append_none, first_append_some, first_true, first_false}
+use Rattle.walks.proofs.EnteredLaws.{entered_plan, entered_call, unless_some, unless_none, refused_with}
+use Rattle.walks.proofs.SetLaws.{touched_empty}
+use Rattle.walks.proofs.ShortestLaws.{hops_empty}
+use Rattle.plan.specs.Fault.{plan_number, call_number, check_number}
 use Rattle.plan.specs.declared.PlanFault.{PlanFault}
 use Rattle.plan.specs.declared.CallFault.{CallFault}
 use Rattle.plan.specs.declared.CheckAnswer.{CheckAnswer}
 use Rattle.plan.specs.declared.CheckAnswer.TheVariants as check-answer
 use Rattle.plan.proofs.Answers.{number-positive, call-number-within}
-use Rattle.calls.specs.Call.{pairCallFault, callCheckNumber}
+use Rattle.calls.specs.Call.{pair_call_fault, call_check_number}
 use Rattle.calls.specs.declared.CallCheck.{CallCheck}
 use Rattle.calls.specs.declared.CallCheck.TheVariants as call-check
-use Rattle.calls.proofs.CallLaws.{free-call}
-use Rattle.entries.proofs.SearchLaws.{any_found, any-pass, any-end, any-start}
+use Rattle.calls.proofs.CallLaws.{free_call}
+use Rattle.entries.proofs.SearchLaws.{any_found, any_pass, any_end, any_start}
 use Rattle.forward.specs.Passed.{pass_size, Counted, SetReady, SetPassed}
-use Rattle.forward.proofs.SizeLaws.{small-fits, first_part}
-use Rattle.sets.specs.Work.{SetAsked, touchedEntry, Readable}
+use Rattle.forward.proofs.SizeLaws.{small_fits, first_part}
+use Rattle.sets.specs.Work.{SetAsked, touched_entry, Readable}
 
 -- ---- reading the entry
 
 module _ (work : List ℕ) (n z : ℕ) where
-  pub entry-none : get_or work z 0 ≡ 65535 → touchedEntry work n z ≡ 0
-  unfolding touchedEntry
-  entry-none e = rw (eq-eqb (get_or work z 0) 65535 e)
+  pub entry_none : get_or work z 0 ≡ 65535 → touched_entry work n z ≡ 0
+  unfolding touched_entry
+  entry_none e = rw (eq-eqb (get_or work z 0) 65535 e)
 
-  pub entry-some : get_or work z 0 ≢ 65535 → touchedEntry work n z ≡ get_or work (n + z) 0 - get_or work (2 * n + z) 0
-  unfolding touchedEntry
-  entry-some e = rw (ne_eqb (get_or work z 0) 65535 e)
+  pub entry_some : get_or work z 0 ≢ 65535 → touched_entry work n z ≡ get_or work (n + z) 0 - get_or work (2 * n + z) 0
+  unfolding touched_entry
+  entry_some e = rw (ne_eqb (get_or work z 0) 65535 e)
 
 -- ---- the search of the bytes
 
 -- whether a byte is neither 0 nor 1
-abbrev pub wrongByte : List ℕ → ℕ → Bool
-wrongByte set v = ltb 1 (get_or set v 0)
+abbrev pub wrong_byte : List ℕ → ℕ → Bool
+wrong_byte set v = ltb 1 (get_or set v 0)
 
-pub search-start : (set : List ℕ) (n : ℕ) → wrongSet n set ≡ any (wrongByte set) (from 0 (n - 0))
-unfolding wrongSet
-search-start set n = any-start (wrongByte set) n
+pub search_start : (set : List ℕ) (n : ℕ) → wrong_set n set ≡ any (wrong_byte set) (from 0 (n - 0))
+unfolding wrong_set
+search_start set n = any_start (wrong_byte set) n
 
-module _ (set : List ℕ) (n v : ℕ) (rest : wrongSet n set ≡ any (wrongByte set) (from v (n - v))) where
-  pub search-found : v < n → 1 < get_or set v 0 → wrongSet n set ≡ true
-  search-found h e = rest ∙ any_found (wrongByte set) v n h (lt-ltb 1 (get_or set v 0) e)
+module _ (set : List ℕ) (n v : ℕ) (rest : wrong_set n set ≡ any (wrong_byte set) (from v (n - v))) where
+  pub search_found : v < n → 1 < get_or set v 0 → wrong_set n set ≡ true
+  search_found h e = rest ∙ any_found (wrong_byte set) v n h (lt-ltb 1 (get_or set v 0) e)
 
-  pub search-pass : v < n → get_or set v 0 ≤ 1 → wrongSet n set ≡ any (wrongByte set) (from (v + 1) (n - (v + 1)))
-  search-pass h e = rest ∙ any-pass (wrongByte set) v n h (le-ltb 1 (get_or set v 0) e)
+  pub search_pass : v < n → get_or set v 0 ≤ 1 → wrong_set n set ≡ any (wrong_byte set) (from (v + 1) (n - (v + 1)))
+  search_pass h e = rest ∙ any_pass (wrong_byte set) v n h (le-ltb 1 (get_or set v 0) e)
 
-  pub search-end : n ≤ v → wrongSet n set ≡ false
-  search-end h = rest ∙ any-end (wrongByte set) v n h
+  pub search_end : n ≤ v → wrong_set n set ≡ false
+  search_end h = rest ∙ any_end (wrong_byte set) v n h
 
 -- ---- the work
 
 -- the pass's part lies within the work area
-few-rows : (bs : List ℕ) (n t : ℕ) (terms : Terms) → planFault bs n t ≡ 0 → Allowed terms
-    → pass_size n t terms terms.keeping 1 ≤ workSize n t
-few-rows bs n t terms ok units =
+few_rows : (bs : List ℕ) (n t : ℕ) (terms : Terms) → plan_fault bs n t ≡ 0 → Allowed terms
+    → pass_size n t terms terms.keeping 1 ≤ work_size n t
+few_rows bs n t terms ok units =
     let a = accepted bs n t ok in
-    small-fits n t terms 1 units a.some-station a.some-slot a.slots (omega arith)
+    small_fits n t terms 1 units a.some_station a.some_slot a.slots (omega arith)
 
 module _ (bs : List ℕ) (n t : ℕ) (terms : Terms) (s z : ℕ) (set area : List ℕ) (asked : SetAsked bs n t terms s z set area) (area' : List ℕ) (r : Bool)
     (f : SetPassed bs n t terms s z set area area' r) where
-  cleared-area : (area'' : List ℕ) → area'' ≡ over (replicate (workSize n t) 0) area' → area'' ≡ cleared (workSize n t) area
+  cleared_area : (area'' : List ℕ) → area'' ≡ over (replicate (work_size n t) 0) area' → area'' ≡ cleared (work_size n t) area
   unfolding cleared
-  cleared-area area'' e =
-      e ∙ fill-beyond (workSize n t) 0 area' area (later-drop (pass_size n t terms terms.keeping 1) (workSize n t) area' area
-      (few-rows bs n t terms asked.accepted asked.units) f.beyond)
+  cleared_area area'' e =
+      e ∙ fill_beyond (work_size n t) 0 area' area (later_drop (pass_size n t terms terms.keeping 1) (work_size n t) area' area
+      (few_rows bs n t terms asked.accepted asked.units) f.beyond)
 
   module _ (none : r ≡ false) where
     c : Counted bs n t terms s 0 0 area'
     c = f.counted none
 
     -- hops that are not 65535 are fewer
-    with-path : get_or area' z 0 ≢ 65535 → hops (shortestWalksTo (plan_of bs n t terms) s z) < 65535
-    with-path ne =
+    with_path : get_or area' z 0 ≢ 65535 → hops (shortest_walks_to (plan_of bs n t terms) s z) < 65535
+    with_path ne =
         ⊎_elim
-        (λ empty. absurd (ne (c.station-hops z asked.destination ∙ hops-empty _ empty)))
+        (λ empty. absurd (ne (c.station_hops_law z asked.destination ∙ hops_empty _ empty)))
         (λ h. h)
-        (few-hops bs n t terms s z asked.accepted)
+        (few_hops bs n t terms s z asked.accepted)
 
     -- what reading the entry asks
     pub readable : Readable n z area'
@@ -107,61 +107,61 @@ module _ (bs : List ℕ) (n t : ℕ) (terms : Terms) (s z : ℕ) (set area : Lis
         record {
           station = asked.destination;
           few = a.stations;
-          fits = let room = asked.area in let rows = few-rows bs n t terms asked.accepted asked.units in
+          fits = let room = asked.area in let rows = few_rows bs n t terms asked.accepted asked.units in
               let first = first_part n t terms terms.keeping 1 in let same = f.same_length in omega arith;
           at_most = λ some.
-              let number = c.station-counts z asked.destination in
-              let parts = f.members none (with-path some) in
+              let number = c.station_counts_law z asked.destination in
+              let parts = f.members none (with_path some) in
               omega arith;
         }
 
     -- the entry is the number of walks that a member touches
-    entry-touched : touchedEntry area' n z ≡ touched (plan_of bs n t terms) s z (isMember set)
-    entry-touched =
+    entry_touched : touched_entry area' n z ≡ touched (plan_of bs n t terms) s z (is_member set)
+    entry_touched =
         by_cases (ℕ_discrete (get_or area' z 0) 65535)
-        (λ far. entry-none area' n z far ∙ sym (no-path far))
+        (λ far. entry_none area' n z far ∙ sym (no_path far))
         (λ some.
-        let number = c.station-counts z asked.destination in
-        let parts = f.members none (with-path some) in
-        entry-some area' n z some ∙ omega arith)
+        let number = c.station_counts_law z asked.destination in
+        let parts = f.members none (with_path some) in
+        entry_some area' n z some ∙ omega arith)
       where
-        no-path : get_or area' z 0 ≡ 65535 → touched (plan_of bs n t terms) s z (isMember set) ≡ 0
-        no-path far =
+        no_path : get_or area' z 0 ≡ 65535 → touched (plan_of bs n t terms) s z (is_member set) ≡ 0
+        no_path far =
             ⊎_elim
-            (λ empty. touched-empty (plan_of bs n t terms) s z (isMember set) empty)
-            (λ some. let same = c.station-hops z asked.destination in absurd (omega arith))
-            (few-hops bs n t terms s z asked.accepted)
+            (λ empty. touched_empty (plan_of bs n t terms) s z (is_member set) empty)
+            (λ some. let same = c.station_hops_law z asked.destination in absurd (omega arith))
+            (few_hops bs n t terms s z asked.accepted)
 
   -- too many
-  pub counted-refused :
-      r ≡ true → (area'' : List ℕ) → area'' ≡ over (replicate (workSize n t) 0) area' →
+  pub counted_refused :
+      r ≡ true → (area'' : List ℕ) → area'' ≡ over (replicate (work_size n t) 0) area' →
       ◌≡◌ {A = Outcome ℕ (List ℕ)} (record { number = 9; values = 0; buffers = area'' })
-      (setCounted (plan_of bs n t terms) s z set area)
-  unfolding setCounted plan_of
-  counted-refused e area'' c =
+      (set_counted (plan_of bs n t terms) s z set area)
+  unfolding set_counted plan_of
+  counted_refused e area'' c =
       let many = sym f.too_many ∙ e in
-      rw many (ap (λ l. record { number = 9; values = 0; buffers = l }) (cleared-area area'' c))
+      rw many (ap (λ l. record { number = 9; values = 0; buffers = l }) (cleared_area area'' c))
 
-  pub counted-found :
-      r ≡ false → (k : ℕ) (area'' : List ℕ) → k ≡ touchedEntry area' n z → area'' ≡ over (replicate (workSize n t) 0) area' →
+  pub counted_found :
+      r ≡ false → (k : ℕ) (area'' : List ℕ) → k ≡ touched_entry area' n z → area'' ≡ over (replicate (work_size n t) 0) area' →
       ◌≡◌ {A = Outcome ℕ (List ℕ)} (record { number = 0; values = k; buffers = area'' })
-      (setCounted (plan_of bs n t terms) s z set area)
-  unfolding setCounted plan_of
-  counted-found e k area'' found c =
+      (set_counted (plan_of bs n t terms) s z set area)
+  unfolding set_counted plan_of
+  counted_found e k area'' found c =
       let few = sym f.too_many ∙ e in
       rw few
-      (ap₂ (λ v l. record { number = 0; values = v; buffers = l }) (found ∙ entry-touched e) (cleared-area area'' c))
+      (ap₂ (λ v l. record { number = 0; values = v; buffers = l }) (found ∙ entry_touched e) (cleared_area area'' c))
 
 -- what the pass asks
-pub pass-ready :
+pub pass_ready :
     (bs : List ℕ) (n t : ℕ) (terms : Terms) (s z : ℕ) (set area : List ℕ) → SetAsked bs n t terms s z set area → SetReady bs n t terms s z area
-pass-ready bs n t terms s z set area asked =
+pass_ready bs n t terms s z set area asked =
     record {
       accepted = asked.accepted;
       units = asked.units;
       source = asked.source;
       destination = asked.destination;
-      fits = let room = asked.area in omega (arith, few-rows bs n t terms asked.accepted asked.units);
+      fits = let room = asked.area in omega (arith, few_rows bs n t terms asked.accepted asked.units);
     }
 
 -- ---- how the operation begins
@@ -172,63 +172,63 @@ none_first = refl
 
 module _ (bs : List ℕ) (n t : ℕ) (terms : Terms) (s z : ℕ) (set area : List ℕ) where
   work : Outcome ℕ (List ℕ)
-  work = setCounted (plan_of bs n t terms) s z set area
+  work = set_counted (plan_of bs n t terms) s z set area
 
   -- a plan that check refuses
-  pub set-plan :
-      (r : CheckAnswer) (f : PlanFault) → checkNumber r ≡ planFault bs n t → r ≡ check-answer.Refused f →
-      ◌≡◌ {A = Outcome ℕ (List ℕ)} (record { number = planNumber f; values = 0; buffers = area })
-      (throughSet bs n t terms s z set area)
-  unfolding throughSet work
-  set-plan r f answer e =
-      let number : planNumber f ≡ planFault bs n t = ap checkNumber (sym e) ∙ answer in
+  pub set_plan :
+      (r : CheckAnswer) (f : PlanFault) → check_number r ≡ plan_fault bs n t → r ≡ check-answer.Refused f →
+      ◌≡◌ {A = Outcome ℕ (List ℕ)} (record { number = plan_number f; values = 0; buffers = area })
+      (through_set bs n t terms s z set area)
+  unfolding through_set work
+  set_plan r f answer e =
+      let number : plan_number f ≡ plan_fault bs n t = ap check_number (sym e) ∙ answer in
       let some = number-positive f in
-      ap (refusedWith 0 area work) number ∙ sym (entered-plan 0 area work bs n t _ (omega arith))
+      ap (refused_with 0 area work) number ∙ sym (entered_plan 0 area work bs n t _ (omega arith))
 
-  module _ (ok : planFault bs n t ≡ 0) where
-    module _ (r : CallCheck) (answer : callCheckNumber r ≡ pairCallFault n t terms s z (length set) n (length area)) where
+  module _ (ok : plan_fault bs n t ≡ 0) where
+    module _ (r : CallCheck) (answer : call_check_number r ≡ pair_call_fault n t terms s z (length set) n (length area)) where
       -- 12, 14, 6, 7 or 8
-      pub set-call :
+      pub set_call :
           (f : CallFault) → r ≡ call-check.Refused f →
-          ◌≡◌ {A = Outcome ℕ (List ℕ)} (record { number = callNumber f; values = 0; buffers = area })
-          (throughSet bs n t terms s z set area)
-      unfolding throughSet entered setCauses pairCallFault work
-      set-call f e =
-          let number : callNumber f ≡ pairCallFault n t terms s z (length set) n (length area) = ap callCheckNumber (sym e) ∙ answer in
+          ◌≡◌ {A = Outcome ℕ (List ℕ)} (record { number = call_number f; values = 0; buffers = area })
+          (through_set bs n t terms s z set area)
+      unfolding through_set entered set_causes pair_call_fault work
+      set_call f e =
+          let number : call_number f ≡ pair_call_fault n t terms s z (length set) n (length area) = ap call_check_number (sym e) ∙ answer in
           let some = (call-number-within f).0 in
-          let first-there = first-append-some _ (cause 11 (wrongSet n set) ∷ []) (subst (λ k. 0 < k) number some) in
-          ap (refusedWith 0 area work) (number ∙ sym first-there) ∙
-          sym (entered-call 0 area work bs n t _ ok ∙ unless-some _ _ _ (omega arith))
+          let first_there = first_append_some _ (cause 11 (wrong_set n set) ∷ []) (subst (λ k. 0 < k) number some) in
+          ap (refused_with 0 area work) (number ∙ sym first_there) ∙
+          sym (entered_call 0 area work bs n t _ ok ∙ unless_some _ _ _ (omega arith))
 
       -- none of them
-      pub set-asked : r ≡ call-check.Free → SetAsked bs n t terms s z set area
-      set-asked e =
-          let f = free-call n t terms s z (length set) n (length area) (sym answer ∙ ap callCheckNumber e) in
+      pub set_asked : r ≡ call-check.Free → SetAsked bs n t terms s z set area
+      set_asked e =
+          let f = free_call n t terms s z (length set) n (length area) (sym answer ∙ ap call_check_number e) in
           record {
             accepted = ok;
-            free = sym answer ∙ ap callCheckNumber e;
+            free = sym answer ∙ ap call_check_number e;
             units = f.units;
             source = f.source;
             destination = f.destination;
             different = f.different;
-            set_room = f.lent-room;
-            area = f.area-room;
+            set_room = f.lent_room;
+            area = f.area_room;
           }
 
   module _ (asked : SetAsked bs n t terms s z set area) where
     -- 11
-    pub set-byte :
-        wrongSet n set ≡ true →
-        ◌≡◌ {A = Outcome ℕ (List ℕ)} (record { number = 11; values = 0; buffers = area }) (throughSet bs n t terms s z set area)
-    unfolding throughSet entered setCauses pairCallFault work
-    set-byte e =
-        let number : first (setCauses n t terms s z set area) ≡ 11 = first-append-none _ _ asked.free ∙ first-true 10 _ [] e in
-        ap (refusedWith 0 area work) (sym number) ∙
-        sym (entered-call 0 area work bs n t _ asked.accepted ∙ unless-some _ _ _ (omega arith))
+    pub set_byte :
+        wrong_set n set ≡ true →
+        ◌≡◌ {A = Outcome ℕ (List ℕ)} (record { number = 11; values = 0; buffers = area }) (through_set bs n t terms s z set area)
+    unfolding through_set entered set_causes pair_call_fault work
+    set_byte e =
+        let number : first (set_causes n t terms s z set area) ≡ 11 = first_append_none _ _ asked.free ∙ first_true 10 _ [] e in
+        ap (refused_with 0 area work) (sym number) ∙
+        sym (entered_call 0 area work bs n t _ asked.accepted ∙ unless_some _ _ _ (omega arith))
 
-    pub set-works : wrongSet n set ≡ false → throughSet bs n t terms s z set area ≡ setCounted (plan_of bs n t terms) s z set area
-    unfolding throughSet entered setCauses pairCallFault work
-    set-works e =
-        let number : first (setCauses n t terms s z set area) ≡ 0 =
-        first-append-none _ _ asked.free ∙ first-false 11 (wrongSet n set) [] e ∙ none_first in
-        entered-call 0 area work bs n t _ asked.accepted ∙ unless-none _ _ _ number
+    pub set_works : wrong_set n set ≡ false → through_set bs n t terms s z set area ≡ set_counted (plan_of bs n t terms) s z set area
+    unfolding through_set entered set_causes pair_call_fault work
+    set_works e =
+        let number : first (set_causes n t terms s z set area) ≡ 0 =
+        first_append_none _ _ asked.free ∙ first_false 11 (wrong_set n set) [] e ∙ none_first in
+        entered_call 0 area work bs n t _ asked.accepted ∙ unless_none _ _ _ number

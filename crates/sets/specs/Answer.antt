@@ -2,19 +2,19 @@
 -- Assumes nothing.
 use Rattle.std.specs.Prelude.{ℕ, List}
 use Rattle.temporal.specs.Outcome.{Outcome}
-use Rattle.plan.specs.Fault.{faultNumber}
+use Rattle.plan.specs.Fault.{fault_number}
 use Rattle.sets.specs.declared.SetAnswer.{SetAnswer}
 use Rattle.sets.specs.declared.SetAnswer.TheVariants.{Counted, Refused}
 
-abbrev pub setNumber : SetAnswer → ℕ
-setNumber (Counted c) = 0
-setNumber (Refused f) = faultNumber f
+abbrev pub set_number : SetAnswer → ℕ
+set_number (Counted c) = 0
+set_number (Refused f) = fault_number f
 
 -- zero beside a refusal
-abbrev pub setCount : SetAnswer → ℕ
-setCount (Counted c) = c
-setCount (Refused f) = 0
+abbrev pub set_count : SetAnswer → ℕ
+set_count (Counted c) = c
+set_count (Refused f) = 0
 
 -- the answer with the work area at exit
-abbrev pub setOutcome : SetAnswer → List ℕ → Outcome ℕ (List ℕ)
-setOutcome r work = record { number = setNumber r; values = setCount r; buffers = work }
+abbrev pub set_outcome : SetAnswer → List ℕ → Outcome ℕ (List ℕ)
+set_outcome r work = record { number = set_number r; values = set_count r; buffers = work }

@@ -1,18 +1,19 @@
 // Document 02's operation on a pair and a set of stations (C-12), over the pass: how many shortest walks of the pair have at
 // least one member of the set inside.
+#![tactic(auto)]
 ghost use Rattle.std.specs.Prelude.{◌≡◌, ◌≤◌, length};
 ghost use Rattle.temporal.specs.Plan.{units};
 ghost use Rattle.temporal.specs.Bytes.{plan_of};
-ghost use Rattle.temporal.specs.Cause.{planFault};
-ghost use Rattle.temporal.specs.OutcomeSet.{wrongSet, setCounted, throughSet};
-ghost use Rattle.sets.specs.Answer.{setOutcome};
-ghost use Rattle.sets.specs.Work.{SetAsked, touchedEntry, Readable};
+ghost use Rattle.temporal.specs.Cause.{plan_fault};
+ghost use Rattle.temporal.specs.OutcomeSet.{wrong_set, set_counted, through_set};
+ghost use Rattle.sets.specs.Answer.{set_outcome};
+ghost use Rattle.sets.specs.Work.{SetAsked, touched_entry, Readable};
 
 use calls::CallCheck;
 use plan::{CallFault, CheckAnswer, Fault};
 
 // What the operation answers.
-#[derive(Drop)]
+#[derive(Clone, Copy)]
 pub enum SetAnswer {
     Counted(u64),
     Refused(Fault),
@@ -21,7 +22,7 @@ pub enum SetAnswer {
 // Whether one of the first n bytes is neither 0 nor 1.
 fn wrong_set(set: &[u8], n: usize) -> bool
     requires { n ≤ length set.now }
-    ensures { result ≡ wrongSet n set.now }
+    ensures { result ≡ wrong_set n set.now }
 {
     let mut v = 0;
     while v < n {
@@ -36,7 +37,7 @@ fn wrong_set(set: &[u8], n: usize) -> bool
 // How many shortest walks to the destination have a member inside, from what the pass left.
 fn touched_at(work: &[u64], n: usize, z: usize) -> u64
     requires { Readable n z work.now }
-    ensures { result ≡ touchedEntry work.now n z }
+    ensures { result ≡ touched_entry work.now n z }
 {
     if work[z] == 65535 {
         return 0;
@@ -57,8 +58,8 @@ fn set_work(
     set: &[u8],
 ) -> SetAnswer
     requires { SetAsked plan.now n t (units g h) s z set.now work.old }
-    ensures { setOutcome result work.new ≡
-        setCounted (plan_of plan.now n t (units g h)) s z set.now work.old }
+    ensures { set_outcome result work.new ≡
+        set_counted (plan_of plan.now n t (units g h)) s z set.now work.old }
 {
     if forward::set_pass(work, plan, n, t, g, h, s, z, set) {
         memory::clear(work, 4 * (n * (t + 1)));
@@ -82,8 +83,8 @@ fn set_free(
     set: &[u8],
 ) -> SetAnswer
     requires { SetAsked plan.now n t (units g h) s z set.now work.old }
-    ensures { setOutcome result work.new ≡
-        throughSet plan.now n t (units g h) s z set.now work.old }
+    ensures { set_outcome result work.new ≡
+        through_set plan.now n t (units g h) s z set.now work.old }
 {
     if wrong_set(set, n) {
         return SetAnswer::Refused(Fault::Call(CallFault::SetByte));
@@ -103,9 +104,9 @@ fn set_accepted(
     z: usize,
     set: &[u8],
 ) -> SetAnswer
-    requires { planFault plan.now n t ≡ 0 }
-    ensures { setOutcome result work.new ≡
-        throughSet plan.now n t (units g h) s z set.now work.old }
+    requires { plan_fault plan.now n t ≡ 0 }
+    ensures { set_outcome result work.new ≡
+        through_set plan.now n t (units g h) s z set.now work.old }
 {
     let CallCheck::Refused(fault) = calls::pair_call(n, t, g, h, s, z, set.len(), n, work.len())
     else {
@@ -127,8 +128,8 @@ pub fn through_set(
     set: &[u8],
     work: &mut [u64],
 ) -> SetAnswer
-    ensures { setOutcome result work.new ≡
-        throughSet plan.now n t (units g h) s z set.now work.old }
+    ensures { set_outcome result work.new ≡
+        through_set plan.now n t (units g h) s z set.now work.old }
 {
     let CheckAnswer::Refused(fault) = plan::check(plan, n, t) else {
         return set_accepted(work, plan, n, t, g, h, s, z, set);

@@ -7,21 +7,21 @@ use native.Mathlib.Nat.{mul-add-mod_self_right}
 use mathlib.Core.Logic.{by_cases}
 use lib.Arith.{digits_div}
 use Rattle.counting.proofs.Fewest.{plus}
-use Rattle.pass.specs.Row.{partSize, row_at}
+use Rattle.pass.specs.Row.{part_size, row_at}
 use Rattle.pass.specs.Column.{Lanes}
 use Rattle.pass.proofs.PlaceLaws.{row_inside}
-use Rattle.pass.proofs.BestLaws.{best-ext}
+use Rattle.pass.proofs.BestLaws.{best_ext}
 use Rattle.stale.specs.Depth.{spread}
-use Rattle.stale.specs.Size.{windowSize}
-use Rattle.stale.specs.Window.{ringAt, markAt, numberPart, numberPlace, numberMark, head_of, oldestOf, takenCell, emptiedCell}
-use Rattle.stale.specs.Window.{keptCell, followedCell, lowerLink, nextHead, gatheredCell, pushedEntry, pushedMarks, pushedCell}
+use Rattle.stale.specs.Size.{window_size}
+use Rattle.stale.specs.Window.{ring_at, mark_at, number_part, number_place, number_mark, head_of, oldest_of, taken_cell, emptied_cell}
+use Rattle.stale.specs.Window.{kept_cell, followed_cell, lower_link, next_head, gathered_cell, pushed_entry, pushed_marks, pushed_cell}
 use Rattle.stale.specs.Window.{TwoParts, WindowArea}
-use Rattle.stale.proofs.SpreadLaws.{picked, picked-early, picked-late, picked-in, spread-cells, spread-last, spread-zero}
-use Rattle.stale.proofs.RingPlaces.{Apart, ring-before, ring-first, ring-apart, parts-end, mark-behind, mark-inside, mark-apart}
-use Rattle.stale.proofs.RingPlaces.{number-inside, number-place, number-apart, area_same, ring-fits, mark-fits, ring-heard}
-use Rattle.stale.proofs.WindowCells.{Holds, Alike, OnlyCell, OnlyPart, holds-alike, cell-refl, cell-then, cell-part}
-use Rattle.stale.proofs.WindowCells.{cell-alike, part-alike}
-use Rattle.stale.proofs.WindowCells.{taken-cell, same-holds, emptied-cell, emptied-holds}
+use Rattle.stale.proofs.SpreadLaws.{picked, picked_early, picked_late, picked_in, spread_cells, spread_last, spread_zero}
+use Rattle.stale.proofs.RingPlaces.{Apart, ring_before, ring_first, ring_apart, parts_end, mark_behind, mark_inside, mark_apart}
+use Rattle.stale.proofs.RingPlaces.{number_inside, number_place_law, number_apart, area_same, ring_fits, mark_fits, ring_heard}
+use Rattle.stale.proofs.WindowCells.{Holds, Alike, OnlyCell, OnlyPart, holds_alike, cell_refl, cell_then, cell_part}
+use Rattle.stale.proofs.WindowCells.{cell_alike, part_alike}
+use Rattle.stale.proofs.WindowCells.{taken_cell_law, same_holds, emptied_cell_law, emptied_holds}
 
 -- of K appearances that were kept, number k is still there in a ring of q cells
 pub record Recent (q K k : ℕ) : Type 0 where
@@ -43,45 +43,45 @@ pub record Ring (lay : Lanes) (n block d c v K : ℕ) (B : ℕ → ℕ) (F : ℕ
   pub rising : (k l : ℕ) → 0 < at k → k < l → 0 < at l → at k < at l
   pub young : (k : ℕ) → 0 < at k → K ≤ k + B (at k)
   pub head : head_of n block d w v ≡ newest at K
-  pub marks : (k : ℕ) → Recent (n * d) K k → 0 < at k → get_or w (numberMark n block d k) 0 ≡ newest at k * 256 + at k
+  pub marks : (k : ℕ) → Recent (n * d) K k → 0 < at k → get_or w (number_mark n block d k) 0 ≡ newest at k * 256 + at k
   pub holds : (k : ℕ) → Recent (n * d) K k → 0 < at k
-      → Holds lay n block w (numberPart n block d k) (numberPlace n d k) (F (at k)) (λ j. F' j (at k))
+      → Holds lay n block w (number_part n block d k) (number_place n d k) (F (at k)) (λ j. F' j (at k))
   pub whole : (x : ℕ) → 0 < x → x ≤ c → ((k : ℕ) × (k < K) × (at k ≡ x)) ⊎ ((i : ℕ) → F x i ≡ 0)
 
 -- ---- heads
 
-newest-least : (at : ℕ → ℕ) (k : ℕ) → newest at k ≤ k
+newest_least : (at : ℕ → ℕ) (k : ℕ) → newest at k ≤ k
 unfolding newest
-newest-least at zero = omega arith
-newest-least at (suc k) =
+newest_least at zero = omega arith
+newest_least at (suc k) =
     by_cases (ℕ_discrete (at k) 0)
-    (λ none. rw (eq-eqb (at k) 0 none) (omega (arith, newest-least at k)))
+    (λ none. rw (eq-eqb (at k) 0 none) (omega (arith, newest_least at k)))
     (λ some. rw (ne_eqb (at k) 0 some) (omega arith))
 
-newest-skip : (at : ℕ → ℕ) (k : ℕ) → at k ≡ 0 → newest at (suc k) ≡ newest at k
+newest_skip : (at : ℕ → ℕ) (k : ℕ) → at k ≡ 0 → newest at (suc k) ≡ newest at k
 unfolding newest
-newest-skip at k none = rw (eq-eqb (at k) 0 none)
+newest_skip at k none = rw (eq-eqb (at k) 0 none)
 
-newest-here : (at : ℕ → ℕ) (k : ℕ) → at k ≢ 0 → newest at (suc k) ≡ suc k
+newest_here : (at : ℕ → ℕ) (k : ℕ) → at k ≢ 0 → newest at (suc k) ≡ suc k
 unfolding newest
-newest-here at k some = rw (ne_eqb (at k) 0 some)
+newest_here at k some = rw (ne_eqb (at k) 0 some)
 
-newest-same : (at at' : ℕ → ℕ) (k : ℕ) → ((i : ℕ) → i < k → at' i ≡ at i) → newest at' k ≡ newest at k
+newest_same : (at at' : ℕ → ℕ) (k : ℕ) → ((i : ℕ) → i < k → at' i ≡ at i) → newest at' k ≡ newest at k
 unfolding newest
-newest-same at at' zero e = refl
-newest-same at at' (suc k) e =
-    rw (e k (omega arith), newest-same at at' k (λ i h. e i (omega arith)))
+newest_same at at' zero e = refl
+newest_same at at' (suc k) e =
+    rw (e k (omega arith), newest_same at at' k (λ i h. e i (omega arith)))
 
 -- ---- what stays
 
 -- the ring is the same in two lists
 pub record SameRing (n block d : ℕ) (old new : List ℕ) : Type 0 where
-  pub cells : (i x : ℕ) → i < d → x < n → Alike n block (ringAt n block i) x old new
-  pub marks : (i x : ℕ) → i ≤ d → x < n → get_or new (markAt n block d i x) 0 ≡ get_or old (markAt n block d i x) 0
+  pub cells : (i x : ℕ) → i < d → x < n → Alike n block (ring_at n block i) x old new
+  pub marks : (i x : ℕ) → i ≤ d → x < n → get_or new (mark_at n block d i x) 0 ≡ get_or old (mark_at n block d i x) 0
 
-pub ring-same : {lay : Lanes} {n block d c v K : ℕ} {B : ℕ → ℕ} {F : ℕ → ℕ → ℕ} {F' : ℕ → ℕ → ℕ → ℕ} {old new : List ℕ} → 0 < n → 0 < d
+pub ring_same : {lay : Lanes} {n block d c v K : ℕ} {B : ℕ → ℕ} {F : ℕ → ℕ → ℕ} {F' : ℕ → ℕ → ℕ → ℕ} {old new : List ℕ} → 0 < n → 0 < d
     → v < n → SameRing n block d old new → Ring lay n block d c v K B F F' old → Ring lay n block d c v K B F F' new
-ring-same {n = n} {d = d} {v = v} some deep hv same r =
+ring_same {n = n} {d = d} {v = v} some deep hv same r =
     record {
       at = r.at;
       ahead = r.ahead;
@@ -90,29 +90,29 @@ ring-same {n = n} {d = d} {v = v} some deep hv same r =
       young = r.young;
       head = same.marks d v (omega arith) hv ∙ r.head;
       marks = λ k q own.
-          same.marks (k % (n * d) / n) (k % (n * d) % n) (let l = number-inside n d some k deep in omega arith) (number-place n d some k)
+          same.marks (k % (n * d) / n) (k % (n * d) % n) (let l = number_inside n d some k deep in omega arith) (number_place_law n d some k)
           ∙ r.marks k q own;
       holds = λ k q own.
-          holds-alike (same.cells (k % (n * d) / n) (k % (n * d) % n) (number-inside n d some k deep) (number-place n d some k))
+          holds_alike (same.cells (k % (n * d) / n) (k % (n * d) % n) (number_inside n d some k deep) (number_place_law n d some k))
           (r.holds k q own);
       whole = r.whole;
     }
 
 -- a change of another part leaves it
-pub part-ring : {n block d base : ℕ} {old new : List ℕ} → ((i : ℕ) → i < d → Apart n block (ringAt n block i) base)
-    → base + partSize n block ≤ (3 + d) * partSize n block → OnlyPart n block base old new
+pub part_ring : {n block d base : ℕ} {old new : List ℕ} → ((i : ℕ) → i < d → Apart n block (ring_at n block i) base)
+    → base + part_size n block ≤ (3 + d) * part_size n block → OnlyPart n block base old new
     → SameRing n block d old new
-part-ring {n} {block} {d} {base} apart end o =
+part_ring {n} {block} {d} {base} apart end o =
     record {
-      cells = λ i x h hx. part-alike (ringAt n block i) x (apart i h) hx o;
-      marks = λ i x h hx. o.other (markAt n block d i x) (inr (omega (arith, mark-behind n block d i x)));
+      cells = λ i x h hx. part_alike (ring_at n block i) x (apart i h) hx o;
+      marks = λ i x h hx. o.other (mark_at n block d i x) (inr (omega (arith, mark_behind n block d i x)));
     }
 
 -- ---- nothing more is heard
 
-pub ring-skip : {lay : Lanes} {n block d c v K : ℕ} {B : ℕ → ℕ} {F : ℕ → ℕ → ℕ} {F' : ℕ → ℕ → ℕ → ℕ} {w : List ℕ}
+pub ring_skip : {lay : Lanes} {n block d c v K : ℕ} {B : ℕ → ℕ} {F : ℕ → ℕ → ℕ} {F' : ℕ → ℕ → ℕ → ℕ} {w : List ℕ}
     → ((i : ℕ) → F (c + 1) i ≡ 0) → Ring lay n block d c v K B F F' w → Ring lay n block d (c + 1) v K B F F' w
-ring-skip {c = c} {F = F} none r =
+ring_skip {c = c} {F = F} none r =
     record {
       at = r.at;
       ahead = r.ahead;
@@ -126,9 +126,9 @@ ring-skip {c = c} {F = F} none r =
     }
 
 -- more may have been kept since a slot
-pub ring-wider : {lay : Lanes} {n block d c v K : ℕ} {B B' : ℕ → ℕ} {F : ℕ → ℕ → ℕ} {F' : ℕ → ℕ → ℕ → ℕ} {w : List ℕ}
+pub ring_wider : {lay : Lanes} {n block d c v K : ℕ} {B B' : ℕ → ℕ} {F : ℕ → ℕ → ℕ} {F' : ℕ → ℕ → ℕ → ℕ} {w : List ℕ}
     → ((x : ℕ) → 0 < x → x ≤ c → B x ≤ B' x) → Ring lay n block d c v K B F F' w → Ring lay n block d c v K B' F F' w
-ring-wider wider r =
+ring_wider wider r =
     record {
       at = r.at;
       ahead = r.ahead;
@@ -153,192 +153,192 @@ module _ (n block d s : ℕ) (w : List ℕ) (u v K : ℕ) (area : WindowArea n b
 
   low : part < d
   unfolding part
-  low = number-inside n d area.some K area.deep
+  low = number_inside n d area.some K area.deep
 
   inside : place < n
   unfolding place
-  inside = number-place n d area.some K
+  inside = number_place_law n d area.some K
 
   bare : List ℕ
-  bare = emptiedCell n w (ringAt n block part) place
+  bare = emptied_cell n w (ring_at n block part) place
 
   taken : List ℕ
-  taken = takenCell n block bare (ringAt n block part) place (partSize n block) v 0
+  taken = taken_cell n block bare (ring_at n block part) place (part_size n block) v 0
 
   mark : ℕ
   mark = head_of n block d taken v % 2 ^ 56 * 256 + u % 256
 
   marked : List ℕ
-  marked = set taken (markAt n block d part place) mark
+  marked = set taken (mark_at n block d part place) mark
 
   headed : List ℕ
-  headed = set marked (markAt n block d d v) ((K + 1) % 2 ^ 64)
+  headed = set marked (mark_at n block d d v) ((K + 1) % 2 ^ 64)
 
-  pushed-is : pushedCell n block d s w u v ≡ set headed (markAt n block d d s) ((K + 1) % 2 ^ 64)
-  unfolding pushedCell pushedMarks pushedEntry headed marked mark taken bare part place
-  pushed-is = rw (ne_eqb v s apart, is)
+  pushed_is : pushed_cell n block d s w u v ≡ set headed (mark_at n block d d s) ((K + 1) % 2 ^ 64)
+  unfolding pushed_cell pushed_marks pushed_entry headed marked mark taken bare part place
+  pushed_is = rw (ne_eqb v s apart, is)
 
-  away : Apart n block (ringAt n block part) (partSize n block)
-  away = inr (ring-first n block part)
+  away : Apart n block (ring_at n block part) (part_size n block)
+  away = inr (ring_first n block part)
 
-  bare-only : OnlyCell n block (ringAt n block part) place w bare
+  bare_only : OnlyCell n block (ring_at n block part) place w bare
   unfolding bare
-  bare-only = emptied-cell n block w (ringAt n block part) place inside (ring-fits area part (let l = low in omega arith))
+  bare_only = emptied_cell_law n block w (ring_at n block part) place inside (ring_fits area part (let l = low in omega arith))
 
-  bare_parts : TwoParts n block (ringAt n block part) (partSize n block) bare
-  bare_parts = ring-heard (area_same area bare-only.same) part (let l = low in omega arith)
+  bare_parts : TwoParts n block (ring_at n block part) (part_size n block) bare
+  bare_parts = ring_heard (area_same area bare_only.same) part (let l = low in omega arith)
 
-  cell-only : OnlyCell n block (ringAt n block part) place w taken
+  cell_only : OnlyCell n block (ring_at n block part) place w taken
   unfolding taken
-  cell-only =
-      cell-then bare-only
-      (taken-cell n block bare (ringAt n block part) place (partSize n block) v 0 bare_parts inside hv away)
+  cell_only =
+      cell_then bare_only
+      (taken_cell_law n block bare (ring_at n block part) place (part_size n block) v 0 bare_parts inside hv away)
 
   -- marks and heads stay until they are written
-  mark-stays : (i x : ℕ) → get_or taken (markAt n block d i x) 0 ≡ get_or w (markAt n block d i x) 0
-  mark-stays i x =
+  mark_stays : (i x : ℕ) → get_or taken (mark_at n block d i x) 0 ≡ get_or w (mark_at n block d i x) 0
+  mark_stays i x =
       let l = low in
-      (cell-part inside cell-only).other (markAt n block d i x)
-      (inr (let e = parts-end n block d part (omega arith) in omega (arith, mark-behind n block d i x)))
+      (cell_part inside cell_only).other (mark_at n block d i x)
+      (inr (let e = parts_end n block d part (omega arith) in omega (arith, mark_behind n block d i x)))
 
   -- a place outside of the cell, its mark and the heads stays
-  kept-place : (q : ℕ) → q ≢ markAt n block d part place → q ≢ markAt n block d d v → q ≢ markAt n block d d s
-      → get_or taken q 0 ≡ get_or w q 0 → get_or (pushedCell n block d s w u v) q 0 ≡ get_or w q 0
+  kept_place : (q : ℕ) → q ≢ mark_at n block d part place → q ≢ mark_at n block d d v → q ≢ mark_at n block d d s
+      → get_or taken q 0 ≡ get_or w q 0 → get_or (pushed_cell n block d s w u v) q 0 ≡ get_or w q 0
   unfolding headed marked
-  kept-place q a b c e =
-      rw pushed-is
-      (get_or-set_other headed (markAt n block d d s) q _ 0 c ∙ get_or-set_other marked (markAt n block d d v) q _ 0 b
-      ∙ get_or-set_other taken (markAt n block d part place) q mark 0 a ∙ e)
+  kept_place q a b c e =
+      rw pushed_is
+      (get_or-set_other headed (mark_at n block d d s) q _ 0 c ∙ get_or-set_other marked (mark_at n block d d v) q _ 0 b
+      ∙ get_or-set_other taken (mark_at n block d part place) q mark 0 a ∙ e)
 
-  marked-length : length marked ≡ length w
+  marked_length : length marked ≡ length w
   unfolding marked
-  marked-length = length-set taken (markAt n block d part place) mark ∙ cell-only.same
+  marked_length = length-set taken (mark_at n block d part place) mark ∙ cell_only.same
 
-  headed-length : length headed ≡ length w
+  headed_length : length headed ≡ length w
   unfolding headed
-  headed-length = length-set marked (markAt n block d d v) _ ∙ marked-length
+  headed_length = length-set marked (mark_at n block d d v) _ ∙ marked_length
 
-  pub pushed-length : length (pushedCell n block d s w u v) ≡ length w
-  pushed-length = rw pushed-is (length-set headed (markAt n block d d s) _ ∙ headed-length)
+  pub pushed_length : length (pushed_cell n block d s w u v) ≡ length w
+  pushed_length = rw pushed_is (length-set headed (mark_at n block d d s) _ ∙ headed_length)
 
   -- a place of a part is no mark and no head
-  inside-part : (q : ℕ) → q < (3 + d) * partSize n block → get_or taken q 0 ≡ get_or w q 0
-      → get_or (pushedCell n block d s w u v) q 0 ≡ get_or w q 0
-  inside-part q h e =
-      kept-place q (λ x. omega (arith, mark-behind n block d part place)) (λ x. omega (arith, mark-behind n block d d v))
-      (λ x. omega (arith, mark-behind n block d d s)) e
+  inside_part : (q : ℕ) → q < (3 + d) * part_size n block → get_or taken q 0 ≡ get_or w q 0
+      → get_or (pushed_cell n block d s w u v) q 0 ≡ get_or w q 0
+  inside_part q h e =
+      kept_place q (λ x. omega (arith, mark_behind n block d part place)) (λ x. omega (arith, mark_behind n block d d v))
+      (λ x. omega (arith, mark_behind n block d d s)) e
 
   -- so a cell of a part is the same where it is the same before they are written
-  part-cell : (base z : ℕ) → z < n → base + partSize n block ≤ (3 + d) * partSize n block → Alike n block base z w taken
-      → Alike n block base z w (pushedCell n block d s w u v)
-  part-cell base z hz end a =
+  part_cell : (base z : ℕ) → z < n → base + part_size n block ≤ (3 + d) * part_size n block → Alike n block base z w taken
+      → Alike n block base z w (pushed_cell n block d s w u v)
+  part_cell base z hz end a =
       let row = row_inside n block z hz in
       record {
-        hops = inside-part (base + z) (omega arith) a.hops;
-        count = inside-part (base + z + n) (omega arith) a.count;
-        row = λ j q. inside-part (base + row_at n block z + j) (omega arith) (a.row j q);
+        hops = inside_part (base + z) (omega arith) a.hops;
+        count = inside_part (base + z + n) (omega arith) a.count;
+        row = λ j q. inside_part (base + row_at n block z + j) (omega arith) (a.row j q);
       }
 
   -- every cell of a part that is not the ring's
-  pub pushed-first : (base z : ℕ) → z < n → base + partSize n block ≤ ringAt n block 0
-      → Alike n block base z w (pushedCell n block d s w u v)
-  pushed-first base z hz end =
-      part-cell base z hz (let e = parts-end n block d 0 (omega arith) in omega arith)
-      (part-alike base z
+  pub pushed_first : (base z : ℕ) → z < n → base + part_size n block ≤ ring_at n block 0
+      → Alike n block base z w (pushed_cell n block d s w u v)
+  pushed_first base z hz end =
+      part_cell base z hz (let e = parts_end n block d 0 (omega arith) in omega arith)
+      (part_alike base z
       (inl (by_cases (ℕ_discrete part 0) (λ same. rw same end)
-      (λ other. let b = ring-before n block 0 part (omega arith) in omega arith)))
-      hz (cell-part inside cell-only))
+      (λ other. let b = ring_before n block 0 part (omega arith) in omega arith)))
+      hz (cell_part inside cell_only))
 
-  pub pushed-beyond : (q : ℕ) → windowSize n d block ≤ q → get_or (pushedCell n block d s w u v) q 0 ≡ get_or w q 0
-  pushed-beyond q far =
+  pub pushed_beyond : (q : ℕ) → window_size n d block ≤ q → get_or (pushed_cell n block d s w u v) q 0 ≡ get_or w q 0
+  pushed_beyond q far =
       let l = low in
-      kept-place q (λ x. omega (arith, mark-inside n block d part place (omega arith) inside))
-      (λ x. omega (arith, mark-inside n block d d v (omega arith) hv))
-      (λ x. omega (arith, mark-inside n block d d s (omega arith) hs))
-      ((cell-part inside cell-only).other q (inr (let e = parts-end n block d part (omega arith) in omega arith)))
+      kept_place q (λ x. omega (arith, mark_inside n block d part place (omega arith) inside))
+      (λ x. omega (arith, mark_inside n block d d v (omega arith) hv))
+      (λ x. omega (arith, mark_inside n block d d s (omega arith) hs))
+      ((cell_part inside cell_only).other q (inr (let e = parts_end n block d part (omega arith) in omega arith)))
 
   -- another cell of the ring
-  other-cell : (i x : ℕ) → i < d → x < n → (i ≢ part) ⊎ (x ≢ place)
-      → Alike n block (ringAt n block i) x w (pushedCell n block d s w u v)
-  other-cell i x hi hx differ =
-      part-cell (ringAt n block i) x hx (parts-end n block d i (omega arith))
+  other_cell : (i x : ℕ) → i < d → x < n → (i ≢ part) ⊎ (x ≢ place)
+      → Alike n block (ring_at n block i) x w (pushed_cell n block d s w u v)
+  other_cell i x hi hx differ =
+      part_cell (ring_at n block i) x hx (parts_end n block d i (omega arith))
       (by_cases (ℕ_discrete i part)
-      (λ same. rw same (cell-alike x (⊎_elim (λ (o : i ≢ part). absurd (o same)) (λ (o : x ≢ place). o) differ) hx inside cell-only))
-      (λ other. part-alike (ringAt n block i) x (ring-apart n block i part other) hx (cell-part inside cell-only)))
+      (λ same. rw same (cell_alike x (⊎_elim (λ (o : i ≢ part). absurd (o same)) (λ (o : x ≢ place). o) differ) hx inside cell_only))
+      (λ other. part_alike (ring_at n block i) x (ring_apart n block i part other) hx (cell_part inside cell_only)))
 
-  other-mark : (i x : ℕ) → i < d → x < n → (i ≢ part) ⊎ (x ≢ place)
-      → get_or (pushedCell n block d s w u v) (markAt n block d i x) 0 ≡ get_or w (markAt n block d i x) 0
-  other-mark i x hi hx differ =
-      kept-place (markAt n block d i x) (mark-apart n block d i part x place hx inside differ)
-      (mark-apart n block d i d x v hx hv (inl (omega arith))) (mark-apart n block d i d x s hx hs (inl (omega arith))) (mark-stays i x)
+  other_mark : (i x : ℕ) → i < d → x < n → (i ≢ part) ⊎ (x ≢ place)
+      → get_or (pushed_cell n block d s w u v) (mark_at n block d i x) 0 ≡ get_or w (mark_at n block d i x) 0
+  other_mark i x hi hx differ =
+      kept_place (mark_at n block d i x) (mark_apart n block d i part x place hx inside differ)
+      (mark_apart n block d i d x v hx hv (inl (omega arith))) (mark_apart n block d i d x s hx hs (inl (omega arith))) (mark_stays i x)
 
-  other-head : (z : ℕ) → z < n → z ≢ v → z ≢ s → head_of n block d (pushedCell n block d s w u v) z ≡ head_of n block d w z
-  other-head z hz a b =
+  other_head : (z : ℕ) → z < n → z ≢ v → z ≢ s → head_of n block d (pushed_cell n block d s w u v) z ≡ head_of n block d w z
+  other_head z hz a b =
       let l = low in
-      kept-place (markAt n block d d z) (mark-apart n block d d part z place hz inside (inl (omega arith)))
-      (mark-apart n block d d d z v hz hv (inr a)) (mark-apart n block d d d z s hz hs (inr b)) (mark-stays d z)
+      kept_place (mark_at n block d d z) (mark_apart n block d d part z place hz inside (inl (omega arith)))
+      (mark_apart n block d d d z v hz hv (inr a)) (mark_apart n block d d d z s hz hs (inr b)) (mark_stays d z)
 
-  new-mark : u < 256 → head_of n block d w v < 2 ^ 56
-      → get_or (pushedCell n block d s w u v) (numberMark n block d K) 0 ≡ head_of n block d w v * 256 + u
+  new_mark : u < 256 → head_of n block d w v < 2 ^ 56
+      → get_or (pushed_cell n block d s w u v) (number_mark n block d K) 0 ≡ head_of n block d w v * 256 + u
   unfolding headed marked mark part place
-  new-mark few small =
+  new_mark few small =
       let l = low in
-      rw pushed-is
-      (get_or-set_other headed (markAt n block d d s) (markAt n block d part place) _ 0
-      (mark-apart n block d part d place s inside hs (inl (omega arith)))
-      ∙ get_or-set_other marked (markAt n block d d v) (markAt n block d part place) _ 0
-      (mark-apart n block d part d place v inside hv (inl (omega arith)))
-      ∙ get_or-set_same taken (markAt n block d part place) mark 0
-      (omega (arith, cell-only.same, mark-fits area part place (omega arith) inside))
-      ∙ rw (mark-stays d v, mod-eq_of_lt small, mod-eq_of_lt few))
+      rw pushed_is
+      (get_or-set_other headed (mark_at n block d d s) (mark_at n block d part place) _ 0
+      (mark_apart n block d part d place s inside hs (inl (omega arith)))
+      ∙ get_or-set_other marked (mark_at n block d d v) (mark_at n block d part place) _ 0
+      (mark_apart n block d part d place v inside hv (inl (omega arith)))
+      ∙ get_or-set_same taken (mark_at n block d part place) mark 0
+      (omega (arith, cell_only.same, mark_fits area part place (omega arith) inside))
+      ∙ rw (mark_stays d v, mod-eq_of_lt small, mod-eq_of_lt few))
 
-  new-head : K + 1 < 2 ^ 64 → head_of n block d (pushedCell n block d s w u v) v ≡ K + 1
+  new_head : K + 1 < 2 ^ 64 → head_of n block d (pushed_cell n block d s w u v) v ≡ K + 1
   unfolding headed
-  new-head small =
-      rw pushed-is
-      (get_or-set_other headed (markAt n block d d s) (markAt n block d d v) _ 0 (mark-apart n block d d d v s hv hs (inr apart))
-      ∙ get_or-set_same marked (markAt n block d d v) ((K + 1) % 2 ^ 64) 0
-      (omega (arith, marked-length, mark-fits area d v (omega arith) hv))
+  new_head small =
+      rw pushed_is
+      (get_or-set_other headed (mark_at n block d d s) (mark_at n block d d v) _ 0 (mark_apart n block d d d v s hv hs (inr apart))
+      ∙ get_or-set_same marked (mark_at n block d d v) ((K + 1) % 2 ^ 64) 0
+      (omega (arith, marked_length, mark_fits area d v (omega arith) hv))
       ∙ mod-eq_of_lt small)
 
-  pub new-counter : K + 1 < 2 ^ 64 → head_of n block d (pushedCell n block d s w u v) s ≡ K + 1
-  new-counter small =
-      rw pushed-is
-      (get_or-set_same headed (markAt n block d d s) ((K + 1) % 2 ^ 64) 0
-      (omega (arith, headed-length, mark-fits area d s (omega arith) hs))
+  pub new_counter : K + 1 < 2 ^ 64 → head_of n block d (pushed_cell n block d s w u v) s ≡ K + 1
+  new_counter small =
+      rw pushed_is
+      (get_or-set_same headed (mark_at n block d d s) ((K + 1) % 2 ^ 64) 0
+      (omega (arith, headed_length, mark_fits area d s (omega arith) hs))
       ∙ mod-eq_of_lt small)
 
-  new-holds : {lay : Lanes} {A : ℕ → ℕ} {A' : ℕ → ℕ → ℕ} → ((j i : ℕ) → A' j i ≤ A i) → Holds lay n block w (partSize n block) v A A'
-      → Holds lay n block (pushedCell n block d s w u v) (numberPart n block d K) (numberPlace n d K) A A'
+  new_holds : {lay : Lanes} {A : ℕ → ℕ} {A' : ℕ → ℕ → ℕ} → ((j i : ℕ) → A' j i ≤ A i) → Holds lay n block w (part_size n block) v A A'
+      → Holds lay n block (pushed_cell n block d s w u v) (number_part n block d K) (number_place n d K) A A'
   unfolding plus taken bare marked headed part place
-  new-holds {lay} {A} {A'} less heard =
-      holds-alike wrote
-      (best-ext {N = plus (λ i. 0) A} {M = λ j. plus (λ i. 0) (A' j)} (λ i. omega arith) (λ j i. omega arith)
-      (same-holds n block bare (ringAt n block part) place (partSize n block) v bare_parts inside hv away (λ i. 0) A (λ j i. 0) A'
+  new_holds {lay} {A} {A'} less heard =
+      holds_alike wrote
+      (best_ext {N = plus (λ i. 0) A} {M = λ j. plus (λ i. 0) (A' j)} (λ i. omega arith) (λ j i. omega arith)
+      (same_holds n block bare (ring_at n block part) place (part_size n block) v bare_parts inside hv away (λ i. 0) A (λ j i. 0) A'
       (λ j i. omega arith) less
-      (bare-holds (λ i. refl))
-      (holds-alike (part-alike (partSize n block) v (inl (ring-first n block part)) hv (cell-part inside bare-only)) heard)))
+      (bare_holds (λ i. refl))
+      (holds_alike (part_alike (part_size n block) v (inl (ring_first n block part)) hv (cell_part inside bare_only)) heard)))
     where
-      bare-holds : {N : ℕ → ℕ} {M : ℕ → ℕ → ℕ} → ((i : ℕ) → N i ≡ 0) → Holds lay n block bare (ringAt n block part) place N M
-      bare-holds none = emptied-holds n block w (ringAt n block part) place inside (ring-fits area part (let l = low in omega arith)) none
+      bare_holds : {N : ℕ → ℕ} {M : ℕ → ℕ → ℕ} → ((i : ℕ) → N i ≡ 0) → Holds lay n block bare (ring_at n block part) place N M
+      bare_holds none = emptied_holds n block w (ring_at n block part) place inside (ring_fits area part (let l = low in omega arith)) none
 
-      stays : (q : ℕ) → q < (3 + d) * partSize n block → get_or (pushedCell n block d s w u v) q 0 ≡ get_or taken q 0
+      stays : (q : ℕ) → q < (3 + d) * part_size n block → get_or (pushed_cell n block d s w u v) q 0 ≡ get_or taken q 0
       stays q h =
-          rw pushed-is
-          (get_or-set_other headed (markAt n block d d s) q _ 0 (λ x. omega (arith, mark-behind n block d d s))
-          ∙ get_or-set_other marked (markAt n block d d v) q _ 0 (λ x. omega (arith, mark-behind n block d d v))
-          ∙ get_or-set_other taken (markAt n block d part place) q mark 0 (λ x. omega (arith, mark-behind n block d part place)))
+          rw pushed_is
+          (get_or-set_other headed (mark_at n block d d s) q _ 0 (λ x. omega (arith, mark_behind n block d d s))
+          ∙ get_or-set_other marked (mark_at n block d d v) q _ 0 (λ x. omega (arith, mark_behind n block d d v))
+          ∙ get_or-set_other taken (mark_at n block d part place) q mark 0 (λ x. omega (arith, mark_behind n block d part place)))
 
-      wrote : Alike n block (ringAt n block part) place taken (pushedCell n block d s w u v)
+      wrote : Alike n block (ring_at n block part) place taken (pushed_cell n block d s w u v)
       wrote =
           let l = low in
           let h = inside in
           let row = row_inside n block place inside in
-          let end = parts-end n block d part (omega arith) in
+          let end = parts_end n block d part (omega arith) in
           record {
-            hops = stays (ringAt n block part + place) (omega arith);
-            count = stays (ringAt n block part + place + n) (omega arith);
-            row = λ j q. stays (ringAt n block part + row_at n block place + j) (omega arith);
+            hops = stays (ring_at n block part + place) (omega arith);
+            count = stays (ring_at n block part + place + n) (omega arith);
+            row = λ j q. stays (ring_at n block part + row_at n block place + j) (omega arith);
           }
 
   -- what is there of the numbers before stays, but for the one that is overwritten
@@ -349,34 +349,34 @@ module _ (n block d s : ℕ) (w : List ℕ) (u v K : ℕ) (area : WindowArea n b
   unfolding part place
   differs k q other =
       let a = q.kept in let b = q.young in
-      number-apart n d area.some k K (omega arith) (omega arith)
+      number_apart n d area.some k K (omega arith) (omega arith)
 
-  older-mark : (k : ℕ) → Recent (n * d) (K + 1) k → k ≢ K
-      → get_or (pushedCell n block d s w u v) (numberMark n block d k) 0 ≡ get_or w (numberMark n block d k) 0
-  older-mark k q other =
-      other-mark (k % (n * d) / n) (k % (n * d) % n) (number-inside n d area.some k area.deep) (number-place n d area.some k)
+  older_mark : (k : ℕ) → Recent (n * d) (K + 1) k → k ≢ K
+      → get_or (pushed_cell n block d s w u v) (number_mark n block d k) 0 ≡ get_or w (number_mark n block d k) 0
+  older_mark k q other =
+      other_mark (k % (n * d) / n) (k % (n * d) % n) (number_inside n d area.some k area.deep) (number_place_law n d area.some k)
       (differs k q other)
 
-  older-cell : (k : ℕ) → Recent (n * d) (K + 1) k → k ≢ K
-      → Alike n block (numberPart n block d k) (numberPlace n d k) w (pushedCell n block d s w u v)
-  older-cell k q other =
-      other-cell (k % (n * d) / n) (k % (n * d) % n) (number-inside n d area.some k area.deep) (number-place n d area.some k)
+  older_cell : (k : ℕ) → Recent (n * d) (K + 1) k → k ≢ K
+      → Alike n block (number_part n block d k) (number_place n d k) w (pushed_cell n block d s w u v)
+  older_cell k q other =
+      other_cell (k % (n * d) / n) (k % (n * d) % n) (number_inside n d area.some k area.deep) (number_place_law n d area.some k)
       (differs k q other)
 
   -- the numbers of another station
-  pub ring-other : {lay : Lanes} {c z : ℕ} {B B' : ℕ → ℕ} {F : ℕ → ℕ → ℕ} {F' : ℕ → ℕ → ℕ → ℕ} → z < n → z ≢ v → z ≢ s
+  pub ring_other : {lay : Lanes} {c z : ℕ} {B B' : ℕ → ℕ} {F : ℕ → ℕ → ℕ} {F' : ℕ → ℕ → ℕ → ℕ} → z < n → z ≢ v → z ≢ s
       → ((x : ℕ) → 0 < x → x ≤ c → B x + 1 ≤ B' x) → Ring lay n block d c z K B F F' w
-      → Ring lay n block d c z (K + 1) B' F F' (pushedCell n block d s w u v)
-  ring-other {z = z} hz a b wider r =
+      → Ring lay n block d c z (K + 1) B' F F' (pushed_cell n block d s w u v)
+  ring_other {z = z} hz a b wider r =
       record {
         at = r.at;
         ahead = λ k h. r.ahead k (omega arith);
         before = r.before;
         rising = r.rising;
         young = λ k own. omega (arith, r.young k own, wider (r.at k) own (r.before k));
-        head = other-head z hz a b ∙ r.head ∙ sym (ap (newest r.at) one ∙ newest-skip r.at K (r.ahead K (omega arith)));
-        marks = λ k q own. older-mark k q (mine k own) ∙ r.marks k (back k q (mine k own)) own;
-        holds = λ k q own. holds-alike (older-cell k q (mine k own)) (r.holds k (back k q (mine k own)) own);
+        head = other_head z hz a b ∙ r.head ∙ sym (ap (newest r.at) one ∙ newest_skip r.at K (r.ahead K (omega arith)));
+        marks = λ k q own. older_mark k q (mine k own) ∙ r.marks k (back k q (mine k own)) own;
+        holds = λ k q own. holds_alike (older_cell k q (mine k own)) (r.holds k (back k q (mine k own)) own);
         whole = λ x low high. ⊎_elim
             (λ (y : (k : ℕ) × (k < K) × (r.at k ≡ x)). inl (y.0, omega (arith, y.1), y.2)) inr (r.whole x low high);
       }
@@ -388,173 +388,173 @@ module _ (n block d s : ℕ) (w : List ℕ) (u v K : ℕ) (area : WindowArea n b
       mine k own same = omega (arith, r.ahead k (omega arith))
 
   -- and those of its own: in slot c + 1 it has a number more
-  pub ring-push : {lay : Lanes} {c : ℕ} {B B' : ℕ → ℕ} {F : ℕ → ℕ → ℕ} {F' : ℕ → ℕ → ℕ → ℕ} → u ≡ c + 1 → u < 256 → K < 2 ^ 56
+  pub ring_push : {lay : Lanes} {c : ℕ} {B B' : ℕ → ℕ} {F : ℕ → ℕ → ℕ} {F' : ℕ → ℕ → ℕ → ℕ} → u ≡ c + 1 → u < 256 → K < 2 ^ 56
       → ((x : ℕ) → 0 < x → x ≤ c → B x + 1 ≤ B' x) → 0 < B' u → ((j i : ℕ) → F' j u i ≤ F u i)
-      → Holds lay n block w (partSize n block) v (F u) (λ j. F' j u)
-      → Ring lay n block d c v K B F F' w → Ring lay n block d u v (K + 1) B' F F' (pushedCell n block d s w u v)
-  ring-push {lay} {c} {B} {B'} {F} {F'} slot few small wider some less heard r =
+      → Holds lay n block w (part_size n block) v (F u) (λ j. F' j u)
+      → Ring lay n block d c v K B F F' w → Ring lay n block d u v (K + 1) B' F F' (pushed_cell n block d s w u v)
+  ring_push {lay} {c} {B} {B'} {F} {F'} slot few small wider some less heard r =
       record {
         at = next;
-        ahead = λ k h. next-other k (omega arith) ∙ r.ahead k (omega arith);
+        ahead = λ k h. next_other k (omega arith) ∙ r.ahead k (omega arith);
         before = λ k. by_cases (ℕ_discrete k K)
-            (λ same. omega (arith, next-own k same)) (λ o. omega (arith, next-other k o, r.before k));
+            (λ same. omega (arith, next_own k same)) (λ o. omega (arith, next_other k o, r.before k));
         rising = λ k l own below mine. by_cases (ℕ_discrete l K)
-            (λ same. omega (arith, next-own l same, next-other k (omega arith), r.before k))
+            (λ same. omega (arith, next_own l same, next_other k (omega arith), r.before k))
             (λ o. by_cases (ℕ_discrete k K)
-            (λ same. absurd (omega (arith, mine, next-other l o, r.ahead l (omega arith))))
+            (λ same. absurd (omega (arith, mine, next_other l o, r.ahead l (omega arith))))
             (λ p. omega (
               arith,
-              next-other l o,
-              next-other k p,
-              r.rising k l (omega (arith, next-other k p, own)) below (omega (arith, next-other l o, mine)),
+              next_other l o,
+              next_other k p,
+              r.rising k l (omega (arith, next_other k p, own)) below (omega (arith, next_other l o, mine)),
             )));
         young = λ k own. by_cases (ℕ_discrete k K)
-            (λ same. omega (arith, ap B' (next-own k same), same, some))
+            (λ same. omega (arith, ap B' (next_own k same), same, some))
             (λ o.
-            let e = next-other k o in
+            let e = next_other k o in
             let old : 0 < r.at k = omega arith in
             omega (arith, ap B' e, r.young k old, wider (r.at k) old (r.before k)));
-        head = new-head (omega arith) ∙ sym (ap (newest next) one ∙ newest-here next K (λ z. omega (arith, next-own K refl)) ∙ sym one);
+        head = new_head (omega arith) ∙ sym (ap (newest next) one ∙ newest_here next K (λ z. omega (arith, next_own K refl)) ∙ sym one);
         marks = λ k q own. by_cases (ℕ_discrete k K)
-            (λ same. rw (same, next-own K refl)
-            (new-mark few (omega (arith, r.head, newest-least r.at K))
+            (λ same. rw (same, next_own K refl)
+            (new_mark few (omega (arith, r.head, newest_least r.at K))
             ∙ ap (λ x. x * 256 + u) (r.head ∙ sym (unchanged K (omega arith)))))
-            (λ o. older-mark k q o ∙ r.marks k (back k q o) (older k own o)
-            ∙ sym (rw (unchanged k (let h = q.kept in omega arith), next-other k o)));
+            (λ o. older_mark k q o ∙ r.marks k (back k q o) (older k own o)
+            ∙ sym (rw (unchanged k (let h = q.kept in omega arith), next_other k o)));
         holds = λ k q own. by_cases (ℕ_discrete k K)
-            (λ same. rw (same, next-own K refl) (new-holds less heard))
-            (λ o. rw (next-other k o) (holds-alike (older-cell k q o) (r.holds k (back k q o) (older k own o))));
+            (λ same. rw (same, next_own K refl) (new_holds less heard))
+            (λ o. rw (next_other k o) (holds_alike (older_cell k q o) (r.holds k (back k q o) (older k own o))));
         whole = λ x low high. by_cases (ℕ_discrete x u)
-            (λ same. inl (K, omega arith, next-own K refl ∙ sym same))
+            (λ same. inl (K, omega arith, next_own K refl ∙ sym same))
             (λ sooner. ⊎_elim
             (λ (y : (k : ℕ) × (k < K) × (r.at k ≡ x)).
-            inl (y.0, omega (arith, y.1), next-other y.0 (let b = y.1 in omega arith) ∙ y.2))
+            inl (y.0, omega (arith, y.1), next_other y.0 (let b = y.1 in omega arith) ∙ y.2))
             inr (r.whole x low (omega arith)));
       }
     where
       next : ℕ → ℕ
       next k = cond (eqb k K) u (r.at k)
 
-      next-own : (k : ℕ) → k ≡ K → next k ≡ u
-      next-own k e = rw (eq-eqb k K e)
+      next_own : (k : ℕ) → k ≡ K → next k ≡ u
+      next_own k e = rw (eq-eqb k K e)
 
-      next-other : (k : ℕ) → k ≢ K → next k ≡ r.at k
-      next-other k o = rw (ne_eqb k K o)
+      next_other : (k : ℕ) → k ≢ K → next k ≡ r.at k
+      next_other k o = rw (ne_eqb k K o)
 
       one : K + 1 ≡ suc K
       one = omega arith
 
       unchanged : (k : ℕ) → k ≤ K → newest next k ≡ newest r.at k
-      unchanged k h = newest-same r.at next k (λ i below. next-other i (omega arith))
+      unchanged k h = newest_same r.at next k (λ i below. next_other i (omega arith))
 
       older : (k : ℕ) → 0 < next k → k ≢ K → 0 < r.at k
-      older k own o = omega (arith, next-other k o, own)
+      older k own o = omega (arith, next_other k o, own)
 
 -- ---- gathering
 
 module _ (n block d v first end : ℕ) (hv : v < n) where
   module _ (w : List ℕ) (k : ℕ) (area : WindowArea n block d w) where
-    cell_parts : TwoParts n block (ringAt n block d) (numberPart n block d k) w
+    cell_parts : TwoParts n block (ring_at n block d) (number_part n block d k) w
     cell_parts =
-        let low = number-inside n d area.some k area.deep in
+        let low = number_inside n d area.some k area.deep in
         record {
           some = area.some;
-          to-fits = ring-fits area d (omega arith);
-          from-fits = ring-fits area (k % (n * d) / n) (omega arith);
+          to_fits = ring_fits area d (omega arith);
+          from_fits = ring_fits area (k % (n * d) / n) (omega arith);
         }
 
-    cell_apart : Apart n block (ringAt n block d) (numberPart n block d k)
-    cell_apart = inr (ring-before n block (k % (n * d) / n) d (number-inside n d area.some k area.deep))
+    cell_apart : Apart n block (ring_at n block d) (number_part n block d k)
+    cell_apart = inr (ring_before n block (k % (n * d) / n) d (number_inside n d area.some k area.deep))
 
     -- only the window changes
-    kept-only : (slot : ℕ) → OnlyCell n block (ringAt n block d) v w (keptCell n block d w (ringAt n block d) v slot end k)
-    unfolding keptCell
-    kept-only slot =
+    kept_only : (slot : ℕ) → OnlyCell n block (ring_at n block d) v w (kept_cell n block d w (ring_at n block d) v slot end k)
+    unfolding kept_cell
+    kept_only slot =
         by_cases (dec_le end slot)
-        (λ late. rw (le-ltb slot end late) cell-refl)
+        (λ late. rw (le-ltb slot end late) cell_refl)
         (λ inside. rw (lt-ltb slot end (omega arith))
-        (taken-cell n block w (ringAt n block d) v (numberPart n block d k) (numberPlace n d k) 0 cell_parts hv
-        (number-place n d area.some k) cell_apart))
+        (taken_cell_law n block w (ring_at n block d) v (number_part n block d k) (number_place n d k) 0 cell_parts hv
+        (number_place_law n d area.some k) cell_apart))
 
     -- and it holds the cell's walks besides, where their slot is one of the window's
-    kept-holds : {lay : Lanes} (F : ℕ → ℕ → ℕ) (F' : ℕ → ℕ → ℕ → ℕ) → ((j x i : ℕ) → F' j x i ≤ F x i)
+    kept_holds : {lay : Lanes} (F : ℕ → ℕ → ℕ) (F' : ℕ → ℕ → ℕ → ℕ) → ((j x i : ℕ) → F' j x i ≤ F x i)
         → (x : ℕ) (N : ℕ → ℕ) (M : ℕ → ℕ → ℕ) → ((j i : ℕ) → M j i ≤ N i) → first ≤ x
-        → Holds lay n block w (ringAt n block d) v N M
-        → Holds lay n block w (numberPart n block d k) (numberPlace n d k) (F x) (λ j. F' j x)
-        → Holds lay n block (keptCell n block d w (ringAt n block d) v x end k) (ringAt n block d) v
+        → Holds lay n block w (ring_at n block d) v N M
+        → Holds lay n block w (number_part n block d k) (number_place n d k) (F x) (λ j. F' j x)
+        → Holds lay n block (kept_cell n block d w (ring_at n block d) v x end k) (ring_at n block d) v
         (plus N (λ i. picked first end (λ y. F y i) x)) (λ j. plus (M j) (λ i. picked first end (λ y. F' j y i) x))
-    unfolding plus keptCell
-    kept-holds F F' less x N M fewer from held came =
+    unfolding plus kept_cell
+    kept_holds F F' less x N M fewer from held came =
         by_cases (dec_le end x)
         (λ late. rw (le-ltb x end late)
-        (best-ext (λ i. omega (arith, picked-late (λ y. F y i) first end x from late))
-        (λ j i. omega (arith, picked-late (λ y. F' j y i) first end x from late)) held))
+        (best_ext (λ i. omega (arith, picked_late (λ y. F y i) first end x from late))
+        (λ j i. omega (arith, picked_late (λ y. F' j y i) first end x from late)) held))
         (λ inside. rw (lt-ltb x end (omega arith))
-        (best-ext {N = plus N (F x)} {M = λ j. plus (M j) (F' j x)}
-        (λ i. omega (arith, picked-in (λ y. F y i) first end x from (omega arith)))
-        (λ j i. omega (arith, picked-in (λ y. F' j y i) first end x from (omega arith)))
-        (same-holds n block w (ringAt n block d) v (numberPart n block d k) (numberPlace n d k) cell_parts hv
-        (number-place n d area.some k) cell_apart N (F x) M (λ j. F' j x) fewer (λ j i. less j x i) held came)))
+        (best_ext {N = plus N (F x)} {M = λ j. plus (M j) (F' j x)}
+        (λ i. omega (arith, picked_in (λ y. F y i) first end x from (omega arith)))
+        (λ j i. omega (arith, picked_in (λ y. F' j y i) first end x from (omega arith)))
+        (same_holds n block w (ring_at n block d) v (number_part n block d k) (number_place n d k) cell_parts hv
+        (number_place_law n d area.some k) cell_apart N (F x) M (λ j. F' j x) fewer (λ j i. less j x i) held came)))
 
-  followed-only : (w : List ℕ) (head : ℕ) → WindowArea n block d w
-      → OnlyCell n block (ringAt n block d) v w (followedCell n block d w (ringAt n block d) v first end head)
-  unfolding followedCell
-  followed-only w head area =
-      by_cases (dec_le first (get_or w (numberMark n block d (head - 1)) 0 % 256))
-      (λ from. rw (le-ltb (get_or w (numberMark n block d (head - 1)) 0 % 256) first from) (kept-only w (head - 1) area _))
-      (λ early. rw (lt-ltb (get_or w (numberMark n block d (head - 1)) 0 % 256) first (omega arith)) cell-refl)
+  followed_only : (w : List ℕ) (head : ℕ) → WindowArea n block d w
+      → OnlyCell n block (ring_at n block d) v w (followed_cell n block d w (ring_at n block d) v first end head)
+  unfolding followed_cell
+  followed_only w head area =
+      by_cases (dec_le first (get_or w (number_mark n block d (head - 1)) 0 % 256))
+      (λ from. rw (le-ltb (get_or w (number_mark n block d (head - 1)) 0 % 256) first from) (kept_only w (head - 1) area _))
+      (λ early. rw (lt-ltb (get_or w (number_mark n block d (head - 1)) 0 % 256) first (omega arith)) cell_refl)
 
-  pub gathered-only : (oldest k : ℕ) (w : List ℕ) (head : ℕ) → WindowArea n block d w
-      → OnlyCell n block (ringAt n block d) v w (gatheredCell n block d w (ringAt n block d) v oldest first end head k)
-  unfolding gatheredCell
-  gathered-only oldest zero w head area = cell-refl
-  gathered-only oldest (suc k) w head area =
-      let one = followed-only w head area in
-      let rest = gathered-only oldest k _ (nextHead n block d w first head) (area_same area one.same) in
+  pub gathered_only : (oldest k : ℕ) (w : List ℕ) (head : ℕ) → WindowArea n block d w
+      → OnlyCell n block (ring_at n block d) v w (gathered_cell n block d w (ring_at n block d) v oldest first end head k)
+  unfolding gathered_cell
+  gathered_only oldest zero w head area = cell_refl
+  gathered_only oldest (suc k) w head area =
+      let one = followed_only w head area in
+      let rest = gathered_only oldest k _ (next_head n block d w first head) (area_same area one.same) in
       by_cases (dec_le head oldest)
-      (λ gone. rw (le-ltb oldest head gone) cell-refl)
-      (λ there. rw (lt-ltb oldest head (omega arith)) (cell-then one rest))
+      (λ gone. rw (le-ltb oldest head gone) cell_refl)
+      (λ there. rw (lt-ltb oldest head (omega arith)) (cell_then one rest))
 
   -- where a head's number is no longer there, nothing is gathered
   gathered_none : (oldest k : ℕ) (w : List ℕ) (head : ℕ) → head ≤ oldest
-      → gatheredCell n block d w (ringAt n block d) v oldest first end head k ≡ w
-  unfolding gatheredCell
+      → gathered_cell n block d w (ring_at n block d) v oldest first end head k ≡ w
+  unfolding gathered_cell
   gathered_none oldest zero w head gone = refl
   gathered_none oldest (suc k) w head gone = rw (le-ltb oldest head gone)
 
   module _ (oldest k : ℕ) (w : List ℕ) (m link x : ℕ) (there : oldest ≤ m) (few : x < 256)
-      (is : get_or w (numberMark n block d m) 0 ≡ link * 256 + x) where
+      (is : get_or w (number_mark n block d m) 0 ≡ link * 256 + x) where
     here : suc m - 1 ≡ m
     here = omega arith
 
-    slot_is : get_or w (numberMark n block d (suc m - 1)) 0 % 256 ≡ x
-    slot_is = ap (λ i. get_or w (numberMark n block d i) 0 % 256) here ∙ ap (λ i. i % 256) is ∙ mul-add-mod_self_right link 256 x
+    slot_is : get_or w (number_mark n block d (suc m - 1)) 0 % 256 ≡ x
+    slot_is = ap (λ i. get_or w (number_mark n block d i) 0 % 256) here ∙ ap (λ i. i % 256) is ∙ mul-add-mod_self_right link 256 x
         ∙ mod-eq_of_lt few
 
-    link-is : get_or w (numberMark n block d (suc m - 1)) 0 / 256 ≡ link
-    link-is = ap (λ i. get_or w (numberMark n block d i) 0 / 256) here ∙ ap (λ i. i / 256) is ∙ digits_div link few
+    link_is : get_or w (number_mark n block d (suc m - 1)) 0 / 256 ≡ link
+    link_is = ap (λ i. get_or w (number_mark n block d i) 0 / 256) here ∙ ap (λ i. i / 256) is ∙ digits_div link few
 
     -- nor where its slot is too old
-    gathered-end : x < first → gatheredCell n block d w (ringAt n block d) v oldest first end (suc m) (suc k) ≡ w
-    unfolding gatheredCell followedCell nextHead
-    gathered-end early =
+    gathered_end : x < first → gathered_cell n block d w (ring_at n block d) v oldest first end (suc m) (suc k) ≡ w
+    unfolding gathered_cell followed_cell next_head
+    gathered_end early =
         rw (lt-ltb oldest (suc m) (omega arith), slot_is, lt-ltb x first early) (gathered_none oldest k w 0 (omega arith))
 
     -- else its cell, and what its link leads to
-    gathered-step : first ≤ x → link ≤ m
-        → gatheredCell n block d w (ringAt n block d) v oldest first end (suc m) (suc k)
-        ≡ gatheredCell n block d (keptCell n block d w (ringAt n block d) v x end m) (ringAt n block d) v oldest first end link k
-    unfolding gatheredCell followedCell nextHead lowerLink
-    gathered-step from lower =
-        rw (lt-ltb oldest (suc m) (omega arith), slot_is, link-is, le-ltb x first from, lt-ltb link (suc m) (omega arith), here)
+    gathered_step : first ≤ x → link ≤ m
+        → gathered_cell n block d w (ring_at n block d) v oldest first end (suc m) (suc k)
+        ≡ gathered_cell n block d (kept_cell n block d w (ring_at n block d) v x end m) (ring_at n block d) v oldest first end link k
+    unfolding gathered_cell followed_cell next_head lower_link
+    gathered_step from lower =
+        rw (lt-ltb oldest (suc m) (omega arith), slot_is, link_is, le-ltb x first from, lt-ltb link (suc m) (omega arith), here)
 
-  picked-less : (f g : ℕ → ℕ) (x : ℕ) → f x ≤ g x → picked first end f x ≤ picked first end g x
-  picked-less f g x h =
+  picked_less : (f g : ℕ → ℕ) (x : ℕ) → f x ≤ g x → picked first end f x ≤ picked first end g x
+  picked_less f g x h =
       by_cases (dec_le first x)
       (λ from. by_cases (dec_le end x)
-      (λ late. omega (arith, picked-late f first end x from late, picked-late g first end x from late))
-      (λ inside. omega (arith, picked-in f first end x from (omega arith), picked-in g first end x from (omega arith))))
-      (λ early. omega (arith, picked-early f first end x (omega arith), picked-early g first end x (omega arith)))
+      (λ late. omega (arith, picked_late f first end x from late, picked_late g first end x from late))
+      (λ inside. omega (arith, picked_in f first end x from (omega arith), picked_in g first end x from (omega arith))))
+      (λ early. omega (arith, picked_early f first end x (omega arith), picked_early g first end x (omega arith)))
 
   -- Along the links: over the numbers below m, those whose slots are in the window.
   module _ (lay : Lanes) (F : ℕ → ℕ → ℕ) (F' : ℕ → ℕ → ℕ → ℕ) (less : (j x i : ℕ) → F' j x i ≤ F x i) (at : ℕ → ℕ) (K oldest : ℕ)
@@ -568,52 +568,52 @@ module _ (n block d v first end : ℕ) (hv : v < n) where
     sums_none : (f : ℕ → ℕ) (m : ℕ) → ((k : ℕ) → k < m → at k < first) → sums f m ≡ 0
     unfolding sums
     sums_none f m old =
-        spread-zero (λ b. picked first end f (at b)) m 0 (λ b from to. picked-early f first end (at b) (old b (omega arith)))
+        spread_zero (λ b. picked first end f (at b)) m 0 (λ b from to. picked_early f first end (at b) (old b (omega arith)))
 
-    sums-last : (f : ℕ → ℕ) (m : ℕ) → sums f (suc m) ≡ sums f m + picked first end f (at m)
+    sums_last : (f : ℕ → ℕ) (m : ℕ) → sums f (suc m) ≡ sums f m + picked first end f (at m)
     unfolding sums
-    sums-last f m =
+    sums_last f m =
         let place : 0 + m ≡ m = omega arith in
-        spread-last (λ b. picked first end f (at b)) m 0
+        spread_last (λ b. picked first end f (at b)) m 0
         ∙ ap (λ b. spread (λ b. picked first end f (at b)) 0 m + picked first end f (at b)) place
 
     recent : (k : ℕ) → k < K → oldest ≤ k → Recent (n * d) K k
     recent k h there = record { kept = h; young = omega arith }
 
-    gathered-holds : (m k : ℕ) (w : List ℕ) (N : ℕ → ℕ) (M : ℕ → ℕ → ℕ) → m ≤ K → newest at m ≤ k → WindowArea n block d w
-        → ((j i : ℕ) → M j i ≤ N i) → Holds lay n block w (ringAt n block d) v N M
-        → ((b : ℕ) → Recent (n * d) K b → 0 < at b → get_or w (numberMark n block d b) 0 ≡ newest at b * 256 + at b)
+    gathered_holds : (m k : ℕ) (w : List ℕ) (N : ℕ → ℕ) (M : ℕ → ℕ → ℕ) → m ≤ K → newest at m ≤ k → WindowArea n block d w
+        → ((j i : ℕ) → M j i ≤ N i) → Holds lay n block w (ring_at n block d) v N M
+        → ((b : ℕ) → Recent (n * d) K b → 0 < at b → get_or w (number_mark n block d b) 0 ≡ newest at b * 256 + at b)
         → ((b : ℕ) → Recent (n * d) K b → 0 < at b
-        → Holds lay n block w (numberPart n block d b) (numberPlace n d b) (F (at b)) (λ j. F' j (at b)))
-        → Holds lay n block (gatheredCell n block d w (ringAt n block d) v oldest first end (newest at m) k) (ringAt n block d) v
+        → Holds lay n block w (number_part n block d b) (number_place n d b) (F (at b)) (λ j. F' j (at b)))
+        → Holds lay n block (gathered_cell n block d w (ring_at n block d) v oldest first end (newest at m) k) (ring_at n block d) v
         (λ i. N i + sums (λ y. F y i) m) (λ j i. M j i + sums (λ y. F' j y i) m)
     unfolding newest plus
-    gathered-holds zero k w N M within fuel area fewer held marks cells =
+    gathered_holds zero k w N M within fuel area fewer held marks cells =
         rw (gathered_none oldest k w 0 (omega arith))
-        (best-ext (λ i. omega (arith, sums_none (λ y. F y i) 0 (λ b h. absurd (omega arith))))
+        (best_ext (λ i. omega (arith, sums_none (λ y. F y i) 0 (λ b h. absurd (omega arith))))
         (λ j i. omega (arith, sums_none (λ y. F' j y i) 0 (λ b h. absurd (omega arith)))) held)
-    gathered-holds (suc m) k w N M within fuel area fewer held marks cells =
+    gathered_holds (suc m) k w N M within fuel area fewer held marks cells =
         by_cases (ℕ_discrete (at m) 0)
-        (λ none. rw (newest-skip at m none)
-        (best-ext (λ i. omega (arith, sums-last (λ y. F y i) m, picked-early (λ y. F y i) first end (at m) (omega arith)))
-        (λ j i. omega (arith, sums-last (λ y. F' j y i) m, picked-early (λ y. F' j y i) first end (at m) (omega arith)))
-        (gathered-holds m k w N M (omega arith) (rw (newest-skip at m none) at fuel) area fewer held marks cells)))
+        (λ none. rw (newest_skip at m none)
+        (best_ext (λ i. omega (arith, sums_last (λ y. F y i) m, picked_early (λ y. F y i) first end (at m) (omega arith)))
+        (λ j i. omega (arith, sums_last (λ y. F' j y i) m, picked_early (λ y. F' j y i) first end (at m) (omega arith)))
+        (gathered_holds m k w N M (omega arith) (rw (newest_skip at m none) at fuel) area fewer held marks cells)))
         (λ own.
-        let room : suc m ≤ k = rw (newest-here at m own) at fuel in
-        rw (newest-here at m own)
+        let room : suc m ≤ k = rw (newest_here at m own) at fuel in
+        rw (newest_here at m own)
         (by_cases (dec_le oldest m)
         (λ there. by_cases (dec_le first (at m))
         (λ from.
         let some : 0 < at m = omega arith in
         let now = recent m (omega arith) there in
         rw (step room there from (marks m now some))
-        (best-ext (λ i. omega (arith, sums-last (λ y. F y i) m)) (λ j i. omega (arith, sums-last (λ y. F' j y i) m))
-        (gathered-holds m (k - 1) (keptCell n block d w (ringAt n block d) v (at m) end m) (more N (λ y i. F y i))
-        (λ j. more (M j) (F' j)) (omega arith) (omega (arith, newest-least at m)) (area_same area only.same)
-        (λ j i. omega (arith, fewer j i, picked-less (λ y. F' j y i) (λ y. F y i) (at m) (less j (at m) i)))
-        (kept-holds w m area F F' less (at m) N M fewer from held (cells m now some))
+        (best_ext (λ i. omega (arith, sums_last (λ y. F y i) m)) (λ j i. omega (arith, sums_last (λ y. F' j y i) m))
+        (gathered_holds m (k - 1) (kept_cell n block d w (ring_at n block d) v (at m) end m) (more N (λ y i. F y i))
+        (λ j. more (M j) (F' j)) (omega arith) (omega (arith, newest_least at m)) (area_same area only.same)
+        (λ j i. omega (arith, fewer j i, picked_less (λ y. F' j y i) (λ y. F y i) (at m) (less j (at m) i)))
+        (kept_holds w m area F F' less (at m) N M fewer from held (cells m now some))
         (λ b q mine. mark_on b ∙ marks b q mine)
-        (λ b q mine. holds-alike (cell-on b) (cells b q mine)))))
+        (λ b q mine. holds_alike (cell_on b) (cells b q mine)))))
         (λ early.
         let some : 0 < at m = omega arith in
         rw (stop room there (omega arith) (marks m (recent m (omega arith) there) some))
@@ -627,71 +627,71 @@ module _ (n block d v first end : ℕ) (hv : v < n) where
         more : (ℕ → ℕ) → (ℕ → ℕ → ℕ) → ℕ → ℕ
         more N F i = N i + picked first end (λ y. F y i) (at m)
 
-        only : OnlyCell n block (ringAt n block d) v w (keptCell n block d w (ringAt n block d) v (at m) end m)
-        only = kept-only w m area (at m)
+        only : OnlyCell n block (ring_at n block d) v w (kept_cell n block d w (ring_at n block d) v (at m) end m)
+        only = kept_only w m area (at m)
 
-        mark_on : (b : ℕ) → get_or (keptCell n block d w (ringAt n block d) v (at m) end m) (numberMark n block d b) 0
-            ≡ get_or w (numberMark n block d b) 0
+        mark_on : (b : ℕ) → get_or (kept_cell n block d w (ring_at n block d) v (at m) end m) (number_mark n block d b) 0
+            ≡ get_or w (number_mark n block d b) 0
         mark_on b =
-            (cell-part hv only).other (numberMark n block d b)
-            (inr (omega (arith, parts-end n block d d (omega arith), mark-behind n block d (b % (n * d) / n) (b % (n * d) % n))))
+            (cell_part hv only).other (number_mark n block d b)
+            (inr (omega (arith, parts_end n block d d (omega arith), mark_behind n block d (b % (n * d) / n) (b % (n * d) % n))))
 
-        cell-on : (b : ℕ) → Alike n block (numberPart n block d b) (numberPlace n d b) w
-            (keptCell n block d w (ringAt n block d) v (at m) end m)
-        cell-on b =
-            part-alike (numberPart n block d b) (numberPlace n d b)
-            (inl (ring-before n block (b % (n * d) / n) d (number-inside n d area.some b area.deep)))
-            (number-place n d area.some b) (cell-part hv only)
+        cell_on : (b : ℕ) → Alike n block (number_part n block d b) (number_place n d b) w
+            (kept_cell n block d w (ring_at n block d) v (at m) end m)
+        cell_on b =
+            part_alike (number_part n block d b) (number_place n d b)
+            (inl (ring_before n block (b % (n * d) / n) d (number_inside n d area.some b area.deep)))
+            (number_place_law n d area.some b) (cell_part hv only)
 
         nothing : ((b : ℕ) → b < suc m → at b < first)
-            → Holds lay n block w (ringAt n block d) v (λ i. N i + sums (λ y. F y i) (suc m)) (λ j i. M j i + sums (λ y. F' j y i) (suc m))
+            → Holds lay n block w (ring_at n block d) v (λ i. N i + sums (λ y. F y i) (suc m)) (λ j i. M j i + sums (λ y. F' j y i) (suc m))
         nothing old =
-            best-ext (λ i. omega (arith, sums_none (λ y. F y i) (suc m) old)) (λ j i. omega (arith, sums_none (λ y. F' j y i) (suc m) old))
+            best_ext (λ i. omega (arith, sums_none (λ y. F y i) (suc m) old)) (λ j i. omega (arith, sums_none (λ y. F' j y i) (suc m) old))
             held
 
-        step : suc m ≤ k → oldest ≤ m → first ≤ at m → get_or w (numberMark n block d m) 0 ≡ newest at m * 256 + at m
-            → gatheredCell n block d w (ringAt n block d) v oldest first end (suc m) k
-            ≡ gatheredCell n block d (keptCell n block d w (ringAt n block d) v (at m) end m) (ringAt n block d) v oldest first end
+        step : suc m ≤ k → oldest ≤ m → first ≤ at m → get_or w (number_mark n block d m) 0 ≡ newest at m * 256 + at m
+            → gathered_cell n block d w (ring_at n block d) v oldest first end (suc m) k
+            ≡ gathered_cell n block d (kept_cell n block d w (ring_at n block d) v (at m) end m) (ring_at n block d) v oldest first end
             (newest at m) (k - 1)
         step room there from e =
             let one : k ≡ suc (k - 1) = omega arith in
-            ap (gatheredCell n block d w (ringAt n block d) v oldest first end (suc m)) one
-            ∙ gathered-step oldest (k - 1) w m (newest at m) (at m) there (few m) e from (newest-least at m)
+            ap (gathered_cell n block d w (ring_at n block d) v oldest first end (suc m)) one
+            ∙ gathered_step oldest (k - 1) w m (newest at m) (at m) there (few m) e from (newest_least at m)
 
-        stop : suc m ≤ k → oldest ≤ m → at m < first → get_or w (numberMark n block d m) 0 ≡ newest at m * 256 + at m
-            → gatheredCell n block d w (ringAt n block d) v oldest first end (suc m) k ≡ w
+        stop : suc m ≤ k → oldest ≤ m → at m < first → get_or w (number_mark n block d m) 0 ≡ newest at m * 256 + at m
+            → gathered_cell n block d w (ring_at n block d) v oldest first end (suc m) k ≡ w
         stop room there early e =
             let one : k ≡ suc (k - 1) = omega arith in
-            ap (gatheredCell n block d w (ringAt n block d) v oldest first end (suc m)) one
-            ∙ gathered-end oldest (k - 1) w m (newest at m) (at m) there (few m) e early
+            ap (gathered_cell n block d w (ring_at n block d) v oldest first end (suc m)) one
+            ∙ gathered_end oldest (k - 1) w m (newest at m) (at m) there (few m) e early
 
 module _ {lay : Lanes} {n block d c v K : ℕ} {B : ℕ → ℕ} {F : ℕ → ℕ → ℕ} {F' : ℕ → ℕ → ℕ → ℕ} {w : List ℕ}
     (r : Ring lay n block d c v K B F F' w) where
   -- A window that had none, with the numbers of slots that may be followed, holds the walks of those slots. There are no more numbers since
   -- such a slot than cells.
-  pub ring-window : (first end s : ℕ) (one : List ℕ) → v < n → ((j x i : ℕ) → F' j x i ≤ F x i) → 0 < first → end ≤ c + 1 → c < 256
+  pub ring_window : (first end s : ℕ) (one : List ℕ) → v < n → ((j x i : ℕ) → F' j x i ≤ F x i) → 0 < first → end ≤ c + 1 → c < 256
       → head_of n block d w s ≡ K → ((x : ℕ) → first ≤ x → x ≤ c → B x ≤ n * d)
       → WindowArea n block d one → SameRing n block d w one
-      → Holds lay n block one (ringAt n block d) v (λ i. 0) (λ j i. 0)
-      → Holds lay n block (gatheredCell n block d one (ringAt n block d) v (oldestOf n block d s w) first end (head_of n block d w v)
-      (head_of n block d w v)) (ringAt n block d) v
+      → Holds lay n block one (ring_at n block d) v (λ i. 0) (λ j i. 0)
+      → Holds lay n block (gathered_cell n block d one (ring_at n block d) v (oldest_of n block d s w) first end (head_of n block d w v)
+      (head_of n block d w v)) (ring_at n block d) v
       (λ i. spread (λ x. F x i) first (end - first)) (λ j i. spread (λ x. F' j x i) first (end - first))
   unfolding sums
-  ring-window first end s one hv less low late few is room area same bare =
+  ring_window first end s one hv less low late few is room area same bare =
       rw r.head
-      (best-ext (λ i. all (λ x. F x i) (λ x from to. named x i from to))
+      (best_ext (λ i. all (λ x. F x i) (λ x from to. named x i from to))
       (λ j i. all (λ x. F' j x i) (λ x from to.
       ⊎_elim inl (λ (z : F x i ≡ 0). inr (omega (arith, less j x i))) (named x i from to)))
-      (gathered-holds n block d v first end hv lay F F' less r.at K (oldestOf n block d s w) low (ap (λ k. k - n * d) is)
+      (gathered_holds n block d v first end hv lay F F' less r.at K (oldest_of n block d s w) low (ap (λ k. k - n * d) is)
       (λ k. omega (arith, r.before k)) r.rising
       (λ k h from. omega (arith, r.young k (omega arith), room (r.at k) from (r.before k)))
       K (newest r.at K) one (λ i. 0) (λ j i. 0) (omega arith) (omega arith) area (λ j i. omega arith) bare
       (λ b q own.
-      same.marks (b % (n * d) / n) (b % (n * d) % n) (let l = number-inside n d area.some b area.deep in omega arith)
-      (number-place n d area.some b) ∙ r.marks b q own)
+      same.marks (b % (n * d) / n) (b % (n * d) % n) (let l = number_inside n d area.some b area.deep in omega arith)
+      (number_place_law n d area.some b) ∙ r.marks b q own)
       (λ b q own.
-      holds-alike (same.cells (b % (n * d) / n) (b % (n * d) % n) (number-inside n d area.some b area.deep)
-      (number-place n d area.some b)) (r.holds b q own))))
+      holds_alike (same.cells (b % (n * d) / n) (b % (n * d) % n) (number_inside n d area.some b area.deep)
+      (number_place_law n d area.some b)) (r.holds b q own))))
     where
       named : (x i : ℕ) → first ≤ x → x < end → ((k : ℕ) × (k < K) × (r.at k ≡ x)) ⊎ (F x i ≡ 0)
       named x i from to =
@@ -701,7 +701,7 @@ module _ {lay : Lanes} {n block d c v K : ℕ} {B : ℕ → ℕ} {F : ℕ → �
           → 0 + spread (λ b. picked first end f (r.at b)) 0 K ≡ spread f first (end - first)
       all f given =
           let none : 0 + spread (λ b. picked first end f (r.at b)) 0 K ≡ spread (λ b. picked first end f (r.at b)) 0 K = omega arith in
-          none ∙ spread-cells r.at f K (λ a b ha hb other some e. apart a b other some e) first end low given
+          none ∙ spread_cells r.at f K (λ a b ha hb other some e. apart a b other some e) first end low given
         where
           apart : (a b : ℕ) → a ≢ b → 0 < r.at b → r.at a ≢ r.at b
           apart a b other some e =

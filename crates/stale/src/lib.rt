@@ -2,44 +2,45 @@
 // them. What the stations heard lately is kept in one ring of cells, a cell for each slot in which a station heard something, linked to that
 // station's cell before it; what a station may send on in a slot is gathered along these links, from the cells of the slots that a contact
 // may follow. Everything lives in a lent work area.
+#![tactic(auto)]
 ghost use Rattle.std.specs.Prelude.{◌≡◌, ◌+◌, ◌-◌, ◌*◌, ◌^◌, ◌<◌, ◌≤◌, min, length};
 ghost use Rattle.temporal.specs.Plan.{units};
-ghost use Rattle.temporal.specs.Bytes.{contactAt};
-ghost use Rattle.temporal.specs.Struck.{lackingRecord};
-ghost use Rattle.pass.specs.Row.{partSize};
-ghost use Rattle.pass.specs.Sweep.{sweepOf};
-ghost use Rattle.pass.specs.Column.{columnOf, lanesBy, splitOf};
+ghost use Rattle.temporal.specs.Bytes.{contact_at};
+ghost use Rattle.temporal.specs.Struck.{lacking_record};
+ghost use Rattle.pass.specs.Row.{part_size};
+ghost use Rattle.pass.specs.Sweep.{sweep_of};
+ghost use Rattle.pass.specs.Column.{column_of, lanes_by, split_of};
 ghost use Rattle.pass.specs.PassedColumns.{ColumnsPassed};
 ghost use Rattle.stale.specs.Depth.{DepthReady, Deep};
-ghost use Rattle.stale.specs.Size.{windowSize, windowColumns};
+ghost use Rattle.stale.specs.Size.{window_size, window_columns};
 ghost use Rattle.stale.specs.Window.{
-  ringAt,
-  markAt,
-  numberPart,
-  numberPlace,
-  numberMark,
+  ring_at,
+  mark_at,
+  number_part,
+  number_place,
+  number_mark,
   head_of,
-  oldestOf,
-  takenCell,
-  openedCell,
-  emptiedCell,
-  maskedRow,
-  wideEntry,
-  maskedCell,
-  keptCell,
-  lowerLink,
-  gatheredCell,
-  windowCell,
-  windowNext,
-  windowsOf,
-  sentRecords,
-  pushedEntry,
-  pushedMarks,
-  pushedCell,
-  keptNext,
-  keptRecords,
-  windowSlot,
-  begunWindow,
+  oldest_of,
+  taken_cell,
+  opened_cell,
+  emptied_cell,
+  masked_row,
+  wide_entry,
+  masked_cell,
+  kept_cell,
+  lower_link,
+  gathered_cell,
+  window_cell,
+  window_next,
+  windows_of,
+  sent_records,
+  pushed_entry,
+  pushed_marks,
+  pushed_cell,
+  kept_next,
+  kept_records,
+  window_slot,
+  begun_window,
   TwoParts,
   WindowArea,
   Followed,
@@ -63,7 +64,7 @@ fn take(
     more: u64,
 )
     requires { TwoParts n block to from work.old × (v < n) × (x < n) × (more ≤ 1) }
-    ensures { work.new ≡ takenCell n block work.old to v from x more }
+    ensures { work.new ≡ taken_cell n block work.old to v from x more }
 {
     let at = from + x;
     let l = work[at];
@@ -77,8 +78,8 @@ fn take(
 
 // Leaves the empty walk alone in the entry of station v in the part that begins at base; one is what each entry of its row holds.
 fn open_entry(work: &mut [u64], n: usize, block: usize, base: usize, v: usize, one: u64)
-    requires { (v < n) × (base + partSize n block ≤ length work.old) }
-    ensures { work.new ≡ openedCell n block work.old base v one }
+    requires { (v < n) × (base + part_size n block ≤ length work.old) }
+    ensures { work.new ≡ opened_cell n block work.old base v one }
 {
     let at = base + v;
     work[at] = 0;
@@ -90,7 +91,7 @@ fn open_entry(work: &mut [u64], n: usize, block: usize, base: usize, v: usize, o
 // Leaves no walks in it.
 fn empty_entry(work: &mut [u64], n: usize, base: usize, v: usize)
     requires { (v < n) × (base + 2 * n ≤ length work.old) }
-    ensures { work.new ≡ emptiedCell n work.old base v }
+    ensures { work.new ≡ emptied_cell n work.old base v }
 {
     let at = base + v;
     work[at] = 65535;
@@ -99,9 +100,9 @@ fn empty_entry(work: &mut [u64], n: usize, base: usize, v: usize)
 
 // Writes 0 to the column that stands for v in the row at a place, where there is one.
 fn mask_row(work: &mut [u64], block: usize, columns: Columns, set: &[u8], row: usize, v: usize)
-    requires { (row + block ≤ length work.old) × (splitOf columns ≤ 3) }
-    ensures { work.new ≡ maskedRow (lanesBy (splitOf columns)) block
-        (columnOf columns set.now (block * 2 ^ splitOf columns)) work.old row v }
+    requires { (row + block ≤ length work.old) × (split_of columns ≤ 3) }
+    ensures { work.new ≡ masked_row (lanes_by (split_of columns)) block
+        (column_of columns set.now (block * 2 ^ split_of columns)) work.old row v }
 {
     let split = pass::split_of(columns);
     let count = lanes::columns_of(block, split);
@@ -113,8 +114,8 @@ fn mask_row(work: &mut [u64], block: usize, columns: Columns, set: &[u8], row: u
 
 // Whether the entry at a place has walks, and a count that does not fit a lane.
 fn wide_entry(work: &[u64], n: usize, at: usize, columns: Columns) -> bool
-    requires { (at + n < length work.now) × (splitOf columns ≤ 3) }
-    ensures { result ≡ wideEntry (lanesBy (splitOf columns)) n work.now at }
+    requires { (at + n < length work.now) × (split_of columns ≤ 3) }
+    ensures { result ≡ wide_entry (lanes_by (split_of columns)) n work.now at }
 {
     let split = pass::split_of(columns);
     if split == 0 {
@@ -139,9 +140,9 @@ fn mask_entry(
     base: usize,
     v: usize,
 ) -> bool
-    requires { (v < n) × (base + partSize n block ≤ length work.old) × (splitOf columns ≤ 3) }
-    ensures { sweepOf result work.new ≡ maskedCell (lanesBy (splitOf columns)) n block
-        (columnOf columns set.now (block * 2 ^ splitOf columns)) work.old base v }
+    requires { (v < n) × (base + part_size n block ≤ length work.old) × (split_of columns ≤ 3) }
+    ensures { sweep_of result work.new ≡ masked_cell (lanes_by (split_of columns)) n block
+        (column_of columns set.now (block * 2 ^ split_of columns)) work.old base v }
 {
     let at = base + v;
     if wide_entry(work, n, at, columns) {
@@ -154,32 +155,32 @@ fn mask_entry(
 
 // How many entries a part has.
 fn part_size(n: usize, block: usize) -> usize
-    requires { partSize n block < 18446744073709551616 }
-    ensures { result ≡ partSize n block }
+    requires { part_size n block < 18446744073709551616 }
+    ensures { result ≡ part_size n block }
 {
     2 * n + n * block
 }
 
 // Where part i of the ring begins; behind the last, where the windows do.
 fn ring_at(n: usize, block: usize, depth: usize, i: usize) -> usize
-    requires { (i ≤ depth) × (0 < n) × (windowSize n depth block < 18446744073709551616) }
-    ensures { result ≡ ringAt n block i }
+    requires { (i ≤ depth) × (0 < n) × (window_size n depth block < 18446744073709551616) }
+    ensures { result ≡ ring_at n block i }
 {
     (2 + i) * part_size(n, block)
 }
 
 // Where the mark of the cell of part i of the ring at place v stands; behind the last, where the head of station v does.
 fn mark_at(n: usize, block: usize, depth: usize, i: usize, v: usize) -> usize
-    requires { (i ≤ depth) × (v < n) × (windowSize n depth block < 18446744073709551616) }
-    ensures { result ≡ markAt n block depth i v }
+    requires { (i ≤ depth) × (v < n) × (window_size n depth block < 18446744073709551616) }
+    ensures { result ≡ mark_at n block depth i v }
 {
     (3 + depth) * part_size(n, block) + i * n + v
 }
 
 // Where the part of the cell of number k begins.
 fn number_part(n: usize, block: usize, depth: usize, k: usize) -> usize
-    requires { (0 < n) × (0 < depth) × (windowSize n depth block < 18446744073709551616) }
-    ensures { result ≡ numberPart n block depth k }
+    requires { (0 < n) × (0 < depth) × (window_size n depth block < 18446744073709551616) }
+    ensures { result ≡ number_part n block depth k }
 {
     ring_at(n, block, depth, k % (n * depth) / n)
 }
@@ -187,15 +188,15 @@ fn number_part(n: usize, block: usize, depth: usize, k: usize) -> usize
 // Its place there.
 fn number_place(n: usize, depth: usize, k: usize) -> usize
     requires { (0 < n) × (0 < depth) × (n * depth < 18446744073709551616) }
-    ensures { result ≡ numberPlace n depth k }
+    ensures { result ≡ number_place n depth k }
 {
     k % (n * depth) % n
 }
 
 // Where its mark stands.
 fn number_mark(n: usize, block: usize, depth: usize, k: usize) -> usize
-    requires { (0 < n) × (0 < depth) × (windowSize n depth block < 18446744073709551616) }
-    ensures { result ≡ numberMark n block depth k }
+    requires { (0 < n) × (0 < depth) × (window_size n depth block < 18446744073709551616) }
+    ensures { result ≡ number_mark n block depth k }
 {
     let cell = k % (n * depth);
     mark_at(n, block, depth, cell / n, cell % n)
@@ -213,7 +214,7 @@ fn head_of(work: &[u64], n: usize, block: usize, depth: usize, v: usize) -> usiz
 // The first number that is still there.
 fn oldest_of(work: &[u64], n: usize, block: usize, depth: usize, source: usize) -> usize
     requires { WindowArea n block depth work.now × (source < n) }
-    ensures { result ≡ oldestOf n block depth source work.now }
+    ensures { result ≡ oldest_of n block depth source work.now }
 {
     let kept = head_of(work, n, block, depth, source);
     let cells = n * depth;
@@ -235,8 +236,8 @@ fn take_kept(
     end: u64,
     k: usize,
 )
-    requires { WindowArea n block depth work.old × (base + partSize n block ≤ length work.old) × (v < n) }
-    ensures { work.new ≡ keptCell n block depth work.old base v slot end k }
+    requires { WindowArea n block depth work.old × (base + part_size n block ≤ length work.old) × (v < n) }
+    ensures { work.new ≡ kept_cell n block depth work.old base v slot end k }
 {
     if slot < end {
         let part = number_part(n, block, depth, k);
@@ -248,7 +249,7 @@ fn take_kept(
 // A link, where it is lower than the head that it follows.
 fn lower_link(link: u64, head: usize) -> usize
     requires { 0 < head }
-    ensures { (result ≡ lowerLink link head) × (result < head) }
+    ensures { (result ≡ lower_link link head) × (result < head) }
 {
     let low = link as usize;
     if low < head {
@@ -270,7 +271,7 @@ fn follow(
     end: u64,
     head: usize,
 ) -> usize
-    requires { WindowArea n block depth work.old × (base + partSize n block ≤ length work.old) × (v < n) × (0 < head) }
+    requires { WindowArea n block depth work.old × (base + part_size n block ≤ length work.old) × (v < n) × (0 < head) }
     ensures { Followed n block depth base v first end head work.old work.new result }
 {
     let k = head - 1;
@@ -298,8 +299,8 @@ fn gather(
     end: u64,
     head: usize,
 )
-    requires { WindowArea n block depth work.old × (base + partSize n block ≤ length work.old) × (v < n) }
-    ensures { work.new ≡ gatheredCell n block depth work.old base v oldest first end head head }
+    requires { WindowArea n block depth work.old × (base + part_size n block ≤ length work.old) × (v < n) }
+    ensures { work.new ≡ gathered_cell n block depth work.old base v oldest first end head head }
 {
     let mut at = head;
     while oldest < at {
@@ -321,9 +322,9 @@ fn gather_window(
     v: usize,
     u: usize,
 ) -> bool
-    requires { WindowArea n block depth work.old × (v < n) × (0 < g) × (splitOf columns ≤ 3) × (source < n) }
-    ensures { sweepOf result work.new ≡ windowCell (lanesBy (splitOf columns)) n block depth (units g h) source
-        (columnOf columns set.now (block * 2 ^ splitOf columns)) work.old v u }
+    requires { WindowArea n block depth work.old × (v < n) × (0 < g) × (split_of columns ≤ 3) × (source < n) }
+    ensures { sweep_of result work.new ≡ window_cell (lanes_by (split_of columns)) n block depth (units g h) source
+        (column_of columns set.now (block * 2 ^ split_of columns)) work.old v u }
 {
     let base = ring_at(n, block, depth, depth);
     if v == source {
@@ -370,12 +371,12 @@ fn gather_next(
     last: usize,
     j: usize,
 ) -> usize
-    requires { WindowArea n block depth work.old × (0 < g) × (j * 6 + 5 < length (lackingRecord plan.now out)) ×
-        ((contactAt (lackingRecord plan.now out) j).sender < n) × (splitOf columns ≤ 3) × (source < n) }
-    ensures { GatheredNext n (contactAt (lackingRecord plan.now out) j).sender result work.new
-        (windowNext (lanesBy (splitOf columns)) n block depth (units g h) source
-        (columnOf columns set.now (block * 2 ^ splitOf columns)) work.old last
-        (contactAt (lackingRecord plan.now out) j).sender u) }
+    requires { WindowArea n block depth work.old × (0 < g) × (j * 6 + 5 < length (lacking_record plan.now out)) ×
+        ((contact_at (lacking_record plan.now out) j).sender < n) × (split_of columns ≤ 3) × (source < n) }
+    ensures { GatheredNext n (contact_at (lacking_record plan.now out) j).sender result work.new
+        (window_next (lanes_by (split_of columns)) n block depth (units g h) source
+        (column_of columns set.now (block * 2 ^ split_of columns)) work.old last
+        (contact_at (lacking_record plan.now out) j).sender u) }
 {
     let c = plan::kept_contact(plan, out, j);
     let v = c.sender;
@@ -405,11 +406,11 @@ fn gather_records(
     j: usize,
     end: usize,
 ) -> bool
-    requires { WindowArea n block depth work.old × (0 < g) × RecordsFit (lackingRecord plan.now out) n j end ×
-        (splitOf columns ≤ 3) × (source < n) }
-    ensures { sweepOf result work.new ≡
-        windowsOf (lackingRecord plan.now out) (lanesBy (splitOf columns)) n block depth (units g h) source
-        (columnOf columns set.now (block * 2 ^ splitOf columns)) work.old u n j (end - j) }
+    requires { WindowArea n block depth work.old × (0 < g) × RecordsFit (lacking_record plan.now out) n j end ×
+        (split_of columns ≤ 3) × (source < n) }
+    ensures { sweep_of result work.new ≡
+        windows_of (lacking_record plan.now out) (lanes_by (split_of columns)) n block depth (units g h) source
+        (column_of columns set.now (block * 2 ^ split_of columns)) work.old u n j (end - j) }
 {
     let mut last = n;
     let mut i = j;
@@ -436,11 +437,11 @@ fn send_record(
     to: usize,
     j: usize,
 )
-    requires { TwoParts n block to from work.old × (j * 6 + 5 < length (lackingRecord plan.now out)) ×
-        ((contactAt (lackingRecord plan.now out) j).sender < n) × ((contactAt (lackingRecord plan.now out) j).hearer < n) }
-    ensures { work.new ≡ takenCell n block work.old to
-        (contactAt (lackingRecord plan.now out) j).hearer from
-        (contactAt (lackingRecord plan.now out) j).sender 1 }
+    requires { TwoParts n block to from work.old × (j * 6 + 5 < length (lacking_record plan.now out)) ×
+        ((contact_at (lacking_record plan.now out) j).sender < n) × ((contact_at (lacking_record plan.now out) j).hearer < n) }
+    ensures { work.new ≡ taken_cell n block work.old to
+        (contact_at (lacking_record plan.now out) j).hearer from
+        (contact_at (lacking_record plan.now out) j).sender 1 }
 {
     let c = plan::kept_contact(plan, out, j);
     take(work, n, block, to, c.hearer, from, c.sender, 1);
@@ -458,9 +459,9 @@ fn send_records(
     j: usize,
     end: usize,
 )
-    requires { TwoParts n block to from work.old × RecordsFit (lackingRecord plan.now out) n j end }
+    requires { TwoParts n block to from work.old × RecordsFit (lacking_record plan.now out) n j end }
     ensures { work.new ≡
-        sentRecords (lackingRecord plan.now out) n block from to work.old j (end - j) }
+        sent_records (lacking_record plan.now out) n block from to work.old j (end - j) }
 {
     let mut i = j;
     while i < end {
@@ -472,7 +473,7 @@ fn send_records(
 // Puts what v heard into the cell of number k.
 fn push_entry(work: &mut [u64], n: usize, block: usize, depth: usize, v: usize, k: usize)
     requires { WindowArea n block depth work.old × (v < n) }
-    ensures { work.new ≡ pushedEntry n block depth work.old v k }
+    ensures { work.new ≡ pushed_entry n block depth work.old v k }
 {
     let part = number_part(n, block, depth, k);
     let place = number_place(n, depth, k);
@@ -493,7 +494,7 @@ fn push_marks(
     k: usize,
 )
     requires { WindowArea n block depth work.old × (v < n) × (source < n) }
-    ensures { work.new ≡ pushedMarks n block depth source work.old u v k }
+    ensures { work.new ≡ pushed_marks n block depth source work.old u v k }
 {
     let head = mark_at(n, block, depth, depth, v);
     let link = work[head] % 72057594037927936;
@@ -508,7 +509,7 @@ fn push_marks(
 // Keeps what v heard in slot u as the next number, but nothing of the source's.
 fn push(work: &mut [u64], n: usize, block: usize, depth: usize, source: usize, u: usize, v: usize)
     requires { WindowArea n block depth work.old × (v < n) × (source < n) }
-    ensures { work.new ≡ pushedCell n block depth source work.old u v }
+    ensures { work.new ≡ pushed_cell n block depth source work.old u v }
 {
     if v == source {
         return;
@@ -530,9 +531,9 @@ fn keep_one(
     u: usize,
     v: usize,
 ) -> bool
-    requires { WindowArea n block depth work.old × (v < n) × (splitOf columns ≤ 3) × (source < n) }
-    ensures { sweepOf result work.new ≡
-        keptNext (lanesBy (splitOf columns)) n block depth source u work.old v }
+    requires { WindowArea n block depth work.old × (v < n) × (split_of columns ≤ 3) × (source < n) }
+    ensures { sweep_of result work.new ≡
+        kept_next (lanes_by (split_of columns)) n block depth source u work.old v }
 {
     let size = part_size(n, block);
     let at = size + v;
@@ -565,10 +566,10 @@ fn keep_record(
     u: usize,
     j: usize,
 ) -> bool
-    requires { WindowArea n block depth work.old × (j * 6 + 5 < length (lackingRecord plan.now out)) ×
-        ((contactAt (lackingRecord plan.now out) j).hearer < n) × (splitOf columns ≤ 3) × (source < n) }
-    ensures { sweepOf result work.new ≡ keptNext (lanesBy (splitOf columns)) n block depth source u work.old
-        (contactAt (lackingRecord plan.now out) j).hearer }
+    requires { WindowArea n block depth work.old × (j * 6 + 5 < length (lacking_record plan.now out)) ×
+        ((contact_at (lacking_record plan.now out) j).hearer < n) × (split_of columns ≤ 3) × (source < n) }
+    ensures { sweep_of result work.new ≡ kept_next (lanes_by (split_of columns)) n block depth source u work.old
+        (contact_at (lacking_record plan.now out) j).hearer }
 {
     let c = plan::kept_contact(plan, out, j);
     keep_one(work, n, block, depth, source, columns, u, c.hearer)
@@ -588,10 +589,10 @@ fn keep_records(
     j: usize,
     end: usize,
 ) -> bool
-    requires { WindowArea n block depth work.old × RecordsFit (lackingRecord plan.now out) n j end × (splitOf columns ≤ 3) ×
+    requires { WindowArea n block depth work.old × RecordsFit (lacking_record plan.now out) n j end × (split_of columns ≤ 3) ×
         (source < n) }
-    ensures { sweepOf result work.new ≡
-        keptRecords (lackingRecord plan.now out) (lanesBy (splitOf columns)) n block depth source u work.old j
+    ensures { sweep_of result work.new ≡
+        kept_records (lacking_record plan.now out) (lanes_by (split_of columns)) n block depth source u work.old j
         (end - j) }
 {
     let mut i = j;
@@ -621,11 +622,11 @@ fn window_slot(
     j: usize,
     end: usize,
 ) -> bool
-    requires { WindowArea n block depth work.old × (0 < g) × RecordsFit (lackingRecord plan.now out) n j end ×
-        (splitOf columns ≤ 3) × (source < n) }
-    ensures { sweepOf result work.new ≡
-        windowSlot (lackingRecord plan.now out) (lanesBy (splitOf columns)) n block depth (units g h) source
-        (columnOf columns set.now (block * 2 ^ splitOf columns)) work.old u j end }
+    requires { WindowArea n block depth work.old × (0 < g) × RecordsFit (lacking_record plan.now out) n j end ×
+        (split_of columns ≤ 3) × (source < n) }
+    ensures { sweep_of result work.new ≡
+        window_slot (lacking_record plan.now out) (lanes_by (split_of columns)) n block depth (units g h) source
+        (column_of columns set.now (block * 2 ^ split_of columns)) work.old u j end }
 {
     if gather_records(
         work, plan, out, n, block, g, h, depth, source, columns, set, u, j, end,
@@ -647,8 +648,8 @@ fn begin_window(
     source: usize,
     columns: Columns,
 )
-    requires { WindowArea n block depth work.old × (source < n) × (splitOf columns ≤ 3) }
-    ensures { work.new ≡ begunWindow (lanesBy (splitOf columns)) n block depth work.old source }
+    requires { WindowArea n block depth work.old × (source < n) × (split_of columns ≤ 3) }
+    ensures { work.new ≡ begun_window (lanes_by (split_of columns)) n block depth work.old source }
 {
     pass::begin_columns(work, n, block, 1, source, columns);
     let heads = mark_at(n, block, depth, depth, 0);
@@ -671,9 +672,9 @@ pub fn pass_window(
     set: &[u8],
     block: usize,
 ) -> Ended
-    requires { WindowReady (lackingRecord plan.now out) n t (units g h) depth source block work.old × (splitOf columns ≤ 3) }
-    ensures { ColumnsPassed (lackingRecord plan.now out) n t (units g h) source n (lanesBy (splitOf columns))
-        (columnOf columns set.now (block * 2 ^ splitOf columns)) block (windowSize n depth block)
+    requires { WindowReady (lacking_record plan.now out) n t (units g h) depth source block work.old × (split_of columns ≤ 3) }
+    ensures { ColumnsPassed (lacking_record plan.now out) n t (units g h) source n (lanes_by (split_of columns))
+        (column_of columns set.now (block * 2 ^ split_of columns)) block (window_size n depth block)
         work.old work.new result }
 {
     begin_window(work, n, block, depth, source, columns);
@@ -751,7 +752,7 @@ pub fn depth_of(plan: &[u8], n: usize, t: usize, h: usize) -> usize
 // The most columns for which the pass fits e entries for each of n stations.
 pub fn window_columns(n: usize, e: usize, depth: usize) -> usize
     requires { 4 * depth + 10 ≤ e }
-    ensures { result ≡ windowColumns n e depth }
+    ensures { result ≡ window_columns n e depth }
 {
     pass::smaller(n, (e - (depth + 1)) / (3 + depth) - 2)
 }

@@ -3,22 +3,22 @@
 use Rattle.std.specs.Prelude.{ℕ, List, ℤ}
 use Rattle.temporal.specs.Outcome.{Outcome}
 use Rattle.temporal.specs.OutcomeStruck.{StruckBuffers}
-use Rattle.plan.specs.Fault.{faultNumber}
+use Rattle.plan.specs.Fault.{fault_number}
 use Rattle.struck.specs.declared.StruckAnswer.{StruckAnswer}
 use Rattle.struck.specs.declared.StruckAnswer.TheVariants.{Pairs, Refused}
 
-abbrev pub struckNumber : StruckAnswer → ℕ
-struckNumber (Pairs k) = 0
-struckNumber (Refused f) = faultNumber f
+abbrev pub struck_number : StruckAnswer → ℕ
+struck_number (Pairs k) = 0
+struck_number (Refused f) = fault_number f
 
 -- zero beside a refusal
-abbrev pub struckPairs : StruckAnswer → ℕ
-struckPairs (Pairs k) = k
-struckPairs (Refused f) = 0
+abbrev pub struck_pairs : StruckAnswer → ℕ
+struck_pairs (Pairs k) = k
+struck_pairs (Refused f) = 0
 
-abbrev pub struckBuffers : List ℤ → List ℕ → StruckBuffers
-struckBuffers changes work = record { changeTable = changes; work = work }
+abbrev pub struck_buffers : List ℤ → List ℕ → StruckBuffers
+struck_buffers changes work = record { change_table = changes; work = work }
 
 -- the answer with the table of changes and the work area at exit
-abbrev pub struckOutcome : StruckAnswer → StruckBuffers → Outcome ℕ StruckBuffers
-struckOutcome r b = record { number = struckNumber r; values = struckPairs r; buffers = b }
+abbrev pub struck_outcome : StruckAnswer → StruckBuffers → Outcome ℕ StruckBuffers
+struck_outcome r b = record { number = struck_number r; values = struck_pairs r; buffers = b }

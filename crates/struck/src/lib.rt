@@ -1,17 +1,18 @@
 // Document 02's operation on a contact that is struck out (C-23), over the tallies: every station's change of load, and how many ordered
 // pairs have a shortest walk that uses the contact. The loads with the record are written to the table of changes first; then, source by
 // source, the plan without it is tallied, and its hops and counts are compared with those of the plan with it.
+#![tactic(auto)]
 ghost use Rattle.std.specs.Prelude.{◌≡◌, ◌<◌, ◌≤◌};
 ghost use Rattle.temporal.specs.Plan.{units};
 ghost use Rattle.temporal.specs.Bytes.{plan_of};
-ghost use Rattle.temporal.specs.Cause.{first, termsCauses, planFault};
-ghost use Rattle.temporal.specs.Struck.{lackingRecord};
-ghost use Rattle.temporal.specs.OutcomeStruck.{struckOff, struck};
+ghost use Rattle.temporal.specs.Cause.{first, terms_causes, plan_fault};
+ghost use Rattle.temporal.specs.Struck.{lacking_record};
+ghost use Rattle.temporal.specs.OutcomeStruck.{struck_off, struck};
 ghost use Rattle.forward.specs.Passed.{Known};
-ghost use Rattle.struck.specs.Answer.{struckOutcome, struckBuffers};
+ghost use Rattle.struck.specs.Answer.{struck_outcome, struck_buffers};
 ghost use Rattle.struck.specs.Work.{
-  differsAt,
-  differingAt,
+  differs_at,
+  differing_at,
   differing,
   Comparable,
   CompareReady,
@@ -33,21 +34,21 @@ ghost use Rattle.struck.specs.Work.{
   BothStruck,
   RoomStruck,
   ClearReady,
-  tooManyStruck,
+  too_many_struck,
 };
 
 use calls::CallCheck;
 use plan::{CallFault, CheckAnswer, Fault};
 
 // What the operation answers: the number of pairs that use the contact.
-#[derive(Drop)]
+#[derive(Clone, Copy)]
 pub enum StruckAnswer {
     Pairs(u64),
     Refused(Fault),
 }
 
 // How many pairs use the contact, or that a count is over 2^64 - 1.
-#[derive(Drop)]
+#[derive(Clone, Copy)]
 pub enum Used {
     Pairs(usize),
     TooMany,
@@ -56,7 +57,7 @@ pub enum Used {
 // Whether hops or count of station z differ from those kept from a place on.
 fn differs(work: &[u64], n: usize, at: usize, z: usize) -> bool
     requires { Comparable n at work.now × (z < n) }
-    ensures { result ≡ differsAt n at work.now z }
+    ensures { result ≡ differs_at n at work.now z }
 {
     let hops = at + z;
     let count = at + n + z;
@@ -69,7 +70,7 @@ fn differs(work: &[u64], n: usize, at: usize, z: usize) -> bool
 // 1 where station z is not the source and differs.
 fn differing_at(work: &[u64], n: usize, at: usize, source: usize, z: usize) -> usize
     requires { Comparable n at work.now × (z < n) }
-    ensures { result ≡ differingAt n at work.now source z }
+    ensures { result ≡ differing_at n at work.now source z }
 {
     if source == z {
         return 0;
@@ -134,7 +135,7 @@ fn strike_source(
     width: usize,
 ) -> Used
     requires { OneReady plan.now out n t (units g h) depth base block source work.old ×
-        Known (lackingRecord plan.now out) n t (units g h) source width }
+        Known (lacking_record plan.now out) n t (units g h) source width }
     ensures { OneStruck plan.now out n t (units g h) base source work.old work.new result }
 {
     if tallies::tally_source(
@@ -208,9 +209,9 @@ fn tally_parked(
     source: usize,
     width: usize,
 ) -> bool
-    requires { ParkReady (lackingRecord plan.now out) n t (units g h) depth base block park source work.old ×
-        Known (lackingRecord plan.now out) n t (units g h) source width }
-    ensures { ParkDone (lackingRecord plan.now out) n t (units g h) base park source
+    requires { ParkReady (lacking_record plan.now out) n t (units g h) depth base block park source work.old ×
+        Known (lacking_record plan.now out) n t (units g h) source width }
+    ensures { ParkDone (lacking_record plan.now out) n t (units g h) base park source
         work.old work.new result }
 {
     pass::copy_row(work, base, park, 2 * n);
@@ -325,8 +326,8 @@ fn strike_roomy(
 // Refuses with 9: both lent parts are cleared.
 fn refuse_too_many(changes: &mut [i64], work: &mut [u64], n: usize, t: usize) -> StruckAnswer
     requires { ClearReady n t changes.old work.old }
-    ensures { struckOutcome result (struckBuffers changes.new work.new) ≡
-        tooManyStruck n t (struckBuffers changes.old work.old) }
+    ensures { struck_outcome result (struck_buffers changes.new work.new) ≡
+        too_many_struck n t (struck_buffers changes.old work.old) }
 {
     changes::clear_changes(changes, n);
     memory::clear(work, 4 * (n * (t + 1)));
@@ -346,8 +347,8 @@ fn struck_narrow(
     position: usize,
 ) -> StruckAnswer
     requires { StruckReady plan.now n t (units g h) changes.old work.old }
-    ensures { struckOutcome result (struckBuffers changes.new work.new) ≡
-        struckOff (plan_of plan.now n t (units g h)) position (struckBuffers changes.old work.old) }
+    ensures { struck_outcome result (struck_buffers changes.new work.new) ≡
+        struck_off (plan_of plan.now n t (units g h)) position (struck_buffers changes.old work.old) }
 {
     if tallies::tally(work, plan, n, t, g, h, n) {
         return refuse_too_many(changes, work, n, t);
@@ -406,8 +407,8 @@ fn struck_roomy(
     block: usize,
 ) -> StruckAnswer
     requires { RoomyReady plan.now n t (units g h) depth base block changes.old work.old }
-    ensures { struckOutcome result (struckBuffers changes.new work.new) ≡
-        struckOff (plan_of plan.now n t (units g h)) position (struckBuffers changes.old work.old) }
+    ensures { struck_outcome result (struck_buffers changes.new work.new) ≡
+        struck_off (plan_of plan.now n t (units g h)) position (struck_buffers changes.old work.old) }
 {
     let with = base + 3 * n;
     let without = base + 5 * n;
@@ -433,8 +434,8 @@ fn struck_work(
     position: usize,
 ) -> StruckAnswer
     requires { StruckReady plan.now n t (units g h) changes.old work.old }
-    ensures { struckOutcome result (struckBuffers changes.new work.new) ≡
-        struckOff (plan_of plan.now n t (units g h)) position (struckBuffers changes.old work.old) }
+    ensures { struck_outcome result (struck_buffers changes.new work.new) ≡
+        struck_off (plan_of plan.now n t (units g h)) position (struck_buffers changes.old work.old) }
 {
     let depth = forward::depth(work, plan, n, t, h);
     let most = forward::most_columns(n, t, g, h, depth, 4 * (t + 1) - 2);
@@ -469,9 +470,9 @@ fn struck_asked(
     h: usize,
     position: usize,
 ) -> StruckAnswer
-    requires { (planFault plan.now n t ≡ 0) × (first (termsCauses (units g h)) ≡ 0) }
-    ensures { struckOutcome result (struckBuffers changes.new work.new) ≡
-        struck plan.now n t (units g h) position (struckBuffers changes.old work.old) }
+    requires { (plan_fault plan.now n t ≡ 0) × (first (terms_causes (units g h)) ≡ 0) }
+    ensures { struck_outcome result (struck_buffers changes.new work.new) ≡
+        struck plan.now n t (units g h) position (struck_buffers changes.old work.old) }
 {
     if changes.len() < n {
         return StruckAnswer::Refused(Fault::Call(CallFault::Short));
@@ -496,9 +497,9 @@ fn struck_accepted(
     h: usize,
     position: usize,
 ) -> StruckAnswer
-    requires { planFault plan.now n t ≡ 0 }
-    ensures { struckOutcome result (struckBuffers changes.new work.new) ≡
-        struck plan.now n t (units g h) position (struckBuffers changes.old work.old) }
+    requires { plan_fault plan.now n t ≡ 0 }
+    ensures { struck_outcome result (struck_buffers changes.new work.new) ≡
+        struck plan.now n t (units g h) position (struck_buffers changes.old work.old) }
 {
     let CallCheck::Refused(fault) = calls::terms_call(g, h) else {
         return struck_asked(changes, work, plan, n, t, g, h, position);
@@ -517,8 +518,8 @@ pub fn struck_out(
     changes: &mut [i64],
     work: &mut [u64],
 ) -> StruckAnswer
-    ensures { struckOutcome result (struckBuffers changes.new work.new) ≡
-        struck plan.now n t (units g h) position (struckBuffers changes.old work.old) }
+    ensures { struck_outcome result (struck_buffers changes.new work.new) ≡
+        struck plan.now n t (units g h) position (struck_buffers changes.old work.old) }
 {
     let CheckAnswer::Refused(fault) = plan::check(plan, n, t) else {
         return struck_accepted(changes, work, plan, n, t, g, h, position);

@@ -15,18 +15,18 @@ use lib.ListN.{get_or, drop}
 use lib.Seq.{get_or-drop}
 use Rattle.temporal.specs.Plan.{Plan, Terms}
 use Rattle.temporal.specs.Bytes.{plan_of}
-use Rattle.temporal.specs.Cause.{tooMany}
+use Rattle.temporal.specs.Cause.{is_too_many}
 use Rattle.walks.proofs.Accepted.{accepted}
-use Rattle.lists.proofs.BufferLaws.{later-drop}
-use Rattle.pass.specs.Column.{lanesBy, columnsIn}
+use Rattle.lists.proofs.BufferLaws.{later_drop}
+use Rattle.pass.specs.Column.{lanes_by, columns_in}
 use Rattle.forward.specs.declared.Packed.{Packed}
 use Rattle.forward.specs.declared.Packed.TheVariants as packed
 use Rattle.forward.specs.Passed.{pass_size, Counted, PackedReady, PackedAs, PackedPassed, Known}
 use Rattle.forward.proofs.SizeLaws.{size_less}
-use Rattle.tallies.specs.Progress.{pairTerm, loadTerm, TallyEntry, State, Kept, Rows, rows_of, Working, Workable, DestinationsAdded}
+use Rattle.tallies.specs.Progress.{pair_term, load_term, TallyEntry, State, Kept, Rows, rows_of, Working, Workable, DestinationsAdded}
 use Rattle.tallies.specs.Sources.{BlockReady, BlockEnd, BlockDone, SourceReady, SourceDone, EntriesNext}
-use Rattle.tallies.proofs.TermLaws.{partly-source}
-use Rattle.tallies.proofs.StateLaws.{kept-over, kept_same, working-again}
+use Rattle.tallies.proofs.TermLaws.{partly_source}
+use Rattle.tallies.proofs.StateLaws.{kept_over, kept_same, working_again}
 
 -- lists that agree from a on agree at every later place
 pub later_same : (a i : ℕ) (x y : List ℕ) → a ≤ i → drop a x ≡ drop a y → get_or x i 0 ≡ get_or y i 0
@@ -35,19 +35,19 @@ later_same a i x y h e =
     rw place (sym (get_or-drop a x (i - a) 0) ∙ ap (λ l. get_or l (i - a) 0) e ∙ get_or-drop a y (i - a) 0)
 
 -- the same tallies stand in a list that agrees from a place before them on
-pub entry-later : (p : Plan) (n base s v k a : ℕ) (x y : List ℕ) → a ≤ base → drop a y ≡ drop a x → TallyEntry p n base s v k x
+pub entry_later : (p : Plan) (n base s v k a : ℕ) (x y : List ℕ) → a ≤ base → drop a y ≡ drop a x → TallyEntry p n base s v k x
     → TallyEntry p n base s v k y
-entry-later p n base s v k a x y h e q =
+entry_later p n base s v k a x y h e q =
     record {
-      pairs-there = later_same a (base + v) y x (omega arith) e ∙ q.pairs-there;
-      load-there = later_same a (base + n + v) y x (omega arith) e ∙ q.load-there;
+      pairs_there = later_same a (base + v) y x (omega arith) e ∙ q.pairs_there;
+      load_there = later_same a (base + n + v) y x (omega arith) e ∙ q.load_there;
     }
 
 module _ (p : Plan) (n base s low : ℕ) where
   -- and so do those of all stations
-  state-later : (a block : ℕ) (x y : List ℕ) → a ≤ base → low + block ≤ n → drop a y ≡ drop a x → State p n base s low 0 0 0 x
+  state_later : (a block : ℕ) (x y : List ℕ) → a ≤ base → low + block ≤ n → drop a y ≡ drop a x → State p n base s low 0 0 0 x
       → State p n base s low block 0 0 y
-  state-later a block x y h inside e f =
+  state_later a block x y h inside e f =
       record {
         done = λ v g. entry v n (f.done v g);
         ahead = λ v g l. absurd (omega arith);
@@ -56,11 +56,11 @@ module _ (p : Plan) (n base s low : ℕ) where
       }
     where
       entry : (v k : ℕ) → TallyEntry p n base s v k x → TallyEntry p n base s v k y
-      entry v k q = entry-later p n base s v k a x y h e q
+      entry v k q = entry_later p n base s v k a x y h e q
 
   -- a block to which all destinations are added is done
-  state-done : (block : ℕ) (w : List ℕ) → State p n base s low block n 0 w → State p n base s (low + block) 0 0 0 w
-  state-done block w f =
+  state_done : (block : ℕ) (w : List ℕ) → State p n base s low block n 0 w → State p n base s (low + block) 0 0 0 w
+  state_done block w f =
       record {
         done = λ v g.
             by_cases (dec_lt v low) (f.done v) (λ d. f.here v (omega arith) g);
@@ -72,8 +72,8 @@ module _ (p : Plan) (n base s low : ℕ) where
 module _ (bs : List ℕ) (n t : ℕ) (terms : Terms) (d base s low : ℕ) (rows : Rows) (old : List ℕ)
     (pre : BlockReady bs n t terms d base s low rows old) where
   -- the pass can run
-  pub block-ready : PackedReady bs n t terms d s rows.entries rows.split old
-  block-ready =
+  pub block_ready : PackedReady bs n t terms d s rows.entries rows.split old
+  block_ready =
       record {
         accepted = pre.accepted;
         units = pre.units;
@@ -84,39 +84,39 @@ module _ (bs : List ℕ) (n t : ℕ) (terms : Terms) (d base s low : ℕ) (rows 
       }
 
   module _ (mid : List ℕ) (r : Packed) (q : PackedPassed bs n t terms d s low rows.entries rows.split old mid r) where
-    passed-kept : Kept n base old mid
-    passed-kept =
+    passed_kept : Kept n base old mid
+    passed_kept =
         record {
           beyond =
-              later-drop (pass_size n t terms d rows.entries) (base + 2 * n) mid old (let m = pre.area in omega arith) q.beyond;
+              later_drop (pass_size n t terms d rows.entries) (base + 2 * n) mid old (let m = pre.area in omega arith) q.beyond;
           same_length = q.same_length;
         }
 
     -- where a count is over 2^64 - 1
-    pub block-over : r ≡ packed.TooMany → BlockDone bs n t terms base s low rows old mid packed.TooMany
+    pub block_over : r ≡ packed.TooMany → BlockDone bs n t terms base s low rows old mid packed.TooMany
     unfolding BlockEnd PackedAs
-    block-over is = record { ends = rw is at q.ends; kept = passed-kept }
+    block_over is = record { ends = rw is at q.ends; kept = passed_kept }
 
     -- where one does not fit its lane
-    pub block-wide : r ≡ packed.TooWide → BlockDone bs n t terms base s low rows old mid packed.TooWide
+    pub block_wide : r ≡ packed.TooWide → BlockDone bs n t terms base s low rows old mid packed.TooWide
     unfolding BlockEnd PackedAs
-    block-wide is =
+    block_wide is =
         record {
           ends = (
             rw is at q.ends,
-            state-later (plan_of bs n t terms) n base s low (pass_size n t terms d rows.entries) 0 old mid pre.area
+            state_later (plan_of bs n t terms) n base s low (pass_size n t terms d rows.entries) 0 old mid pre.area
                 (let i = pre.inside in omega arith) q.beyond pre.state,
           );
-          kept = passed-kept;
+          kept = passed_kept;
         }
 
     module _ (is : r ≡ packed.Counted) where
-      counted-end : PackedAs bs n t terms s low rows.entries rows.split mid packed.Counted
-      counted-end = rw is at q.ends
+      counted_end : PackedAs bs n t terms s low rows.entries rows.split mid packed.Counted
+      counted_end = rw is at q.ends
 
-      block-working : Working bs n t terms base s low rows 0 0 old mid
+      block_working : Working bs n t terms base s low rows 0 0 old mid
       unfolding PackedAs
-      block-working =
+      block_working =
           record {
             accepted = pre.accepted;
             source = pre.source;
@@ -129,27 +129,27 @@ module _ (bs : List ℕ) (n t : ℕ) (terms : Terms) (d base s low : ℕ) (rows 
                   area = pre.room.area;
                   fits = let f = pre.room.fits in let l = q.same_length in omega arith;
                 };
-            counted = counted-end.1;
+            counted = counted_end.1;
             state =
-                state-later (plan_of bs n t terms) n base s low (pass_size n t terms d rows.entries) rows.stations old mid pre.area
+                state_later (plan_of bs n t terms) n base s low (pass_size n t terms d rows.entries) rows.stations old mid pre.area
                 pre.inside q.beyond pre.state;
-            kept = passed-kept;
+            kept = passed_kept;
           }
 
       -- the destinations can be added
-      pub block-workable : Workable n base s low rows 0 mid
-      block-workable =
-          record { plan = bs; slots = t; terms = terms; working = working-again bs n t terms base s low rows block-working }
+      pub block_workable : Workable n base s low rows 0 mid
+      block_workable =
+          record { plan = bs; slots = t; terms = terms; working = working_again bs n t terms base s low rows block_working }
 
       -- the block is done
-      pub block-done : (new : List ℕ) → DestinationsAdded n base s low rows 0 n mid new
+      pub block_done : (new : List ℕ) → DestinationsAdded n base s low rows 0 n mid new
           → BlockDone bs n t terms base s low rows old new packed.Counted
       unfolding BlockEnd PackedAs
-      block-done new a =
-          let w = a.working bs t terms (working-again bs n t terms base s low rows block-working) in
+      block_done new a =
+          let w = a.working bs t terms (working_again bs n t terms base s low rows block_working) in
           record {
-            ends = (counted-end.0, state-done (plan_of bs n t terms) n base s low rows.stations new w.state, w.counted.stations);
-            kept = kept-over n base block-working.kept w.kept;
+            ends = (counted_end.0, state_done (plan_of bs n t terms) n base s low rows.stations new w.state, w.counted.stations);
+            kept = kept_over n base block_working.kept w.kept;
           }
 
 -- ---- the loop over blocks
@@ -157,14 +157,14 @@ module _ (bs : List ℕ) (n t : ℕ) (terms : Terms) (d base s low : ℕ) (rows 
 -- the stations below low are done; where there are some, no count from the source is over 2^64 - 1
 pub record Blocking (bs : List ℕ) (n t : ℕ) (terms : Terms) (base s : ℕ) (old : List ℕ) (low : ℕ) (w : List ℕ) : Type 0 where
   pub within : low ≤ n
-  pub few : 0 < low → tooMany (plan_of bs n t terms) s ≡ false
+  pub few : 0 < low → is_too_many (plan_of bs n t terms) s ≡ false
   pub state : State (plan_of bs n t terms) n base s low 0 0 0 w
   pub stations : n ≤ low → Counted bs n t terms s 0 0 w
   pub kept : Kept n base old w
 
 module _ (bs : List ℕ) (n t : ℕ) (terms : Terms) (d base block s : ℕ) (old : List ℕ) (pre : SourceReady bs n t terms d base block s old) where
-  pub blocking-none : Blocking bs n t terms base s old 0 old
-  blocking-none =
+  pub blocking_none : Blocking bs n t terms base s old 0 old
+  blocking_none =
       record {
         within = omega arith;
         few = λ h. absurd (omega arith);
@@ -182,21 +182,21 @@ module _ (bs : List ℕ) (n t : ℕ) (terms : Terms) (d base block s : ℕ) (old
   module _ (low : ℕ) (w : List ℕ) (f : Blocking bs n t terms base s old low w) where
     module _ (known : Bool) (split entries stations : ℕ) (few : split ≤ 3) (for : EntriesNext known (n - low) block split entries)
         (least : stations ≡ min (entries * 2 ^ split) (n - low)) (h : low < n) where
-      pub some-stations : known ≡ true → 0 < stations
-      some-stations is =
+      pub some_stations : known ≡ true → 0 < stations
+      some_stations is =
           let some = for.some is (omega arith) pre.some_block in
           let lanes = pow_pos split in
           omega (arith, mul-pos some lanes)
 
-      in-columns : stations ≤ columnsIn (lanesBy split) entries
-      in-columns = go (eqb (2 ^ split) 1) refl
+      in_columns : stations ≤ columns_in (lanes_by split) entries
+      in_columns = go (eqb (2 ^ split) 1) refl
         where
           go : (b : Bool) → eqb (2 ^ split) 1 ≡ b → stations ≤ cond b entries (entries * 2 ^ split)
           go true q = let one = eqb-true (2 ^ split) 1 q in let same : entries * 2 ^ split ≡ entries = rw one (omega arith) in omega arith
           go false q = omega arith
 
-      pub blocking-ready : BlockReady bs n t terms d base s low (rows_of stations entries split) w
-      blocking-ready =
+      pub blocking_ready : BlockReady bs n t terms d base s low (rows_of stations entries split) w
+      blocking_ready =
           let r = pre.room in
           let small = for.most in
           record {
@@ -205,7 +205,7 @@ module _ (bs : List ℕ) (n t : ℕ) (terms : Terms) (d base block s : ℕ) (old
             units = pre.units;
             deep = pre.deep;
             inside = omega arith;
-            columns = in-columns;
+            columns = in_columns;
             few = few;
             area = let a = pre.area in omega (arith, size_less n t terms d entries block small);
             room =
@@ -218,64 +218,64 @@ module _ (bs : List ℕ) (n t : ℕ) (terms : Terms) (d base block s : ℕ) (old
           }
 
       module _ (x : List ℕ) where
-        pub blocking-over : BlockDone bs n t terms base s low (rows_of stations entries split) w x packed.TooMany → SourceDone bs n t terms base s old x true
+        pub blocking_over : BlockDone bs n t terms base s low (rows_of stations entries split) w x packed.TooMany → SourceDone bs n t terms base s old x true
         unfolding BlockEnd
-        blocking-over done =
+        blocking_over done =
             record {
               too_many = sym done.ends;
               summed = λ e. absurd (let z : ◌≡◌ {A = ℕ} 0 1 = cc in omega arith);
               stations = λ e. absurd (let z : ◌≡◌ {A = ℕ} 0 1 = cc in omega arith);
-              kept = kept-over n base f.kept done.kept;
+              kept = kept_over n base f.kept done.kept;
             }
 
-        pub blocking-more : BlockDone bs n t terms base s low (rows_of stations entries split) w x packed.Counted
+        pub blocking_more : BlockDone bs n t terms base s low (rows_of stations entries split) w x packed.Counted
             → Blocking bs n t terms base s old (low + stations) x
         unfolding BlockEnd
-        blocking-more done =
+        blocking_more done =
             record {
               within = omega arith;
               few = λ g. done.ends.0;
               state = done.ends.1;
               stations = λ g. done.ends.2;
-              kept = kept-over n base f.kept done.kept;
+              kept = kept_over n base f.kept done.kept;
             }
 
         -- cause 9 does not hold
-        pub blocking-known : BlockDone bs n t terms base s low (rows_of stations entries split) w x packed.Counted → tooMany (plan_of bs n t terms) s ≡ false
+        pub blocking_known : BlockDone bs n t terms base s low (rows_of stations entries split) w x packed.Counted → is_too_many (plan_of bs n t terms) s ≡ false
         unfolding BlockEnd
-        blocking-known done = done.ends.0
+        blocking_known done = done.ends.0
 
         -- the same block again, with half as many stations to an entry
-        pub blocking-again : BlockDone bs n t terms base s low (rows_of stations entries split) w x packed.TooWide
+        pub blocking_again : BlockDone bs n t terms base s low (rows_of stations entries split) w x packed.TooWide
             → (split ≢ 0) × Blocking bs n t terms base s old low x
         unfolding BlockEnd
-        blocking-again done = (
+        blocking_again done = (
           done.ends.0,
           record {
             within = f.within;
             few = f.few;
             state = done.ends.1;
             stations = λ g. absurd (omega arith);
-            kept = kept-over n base f.kept done.kept;
+            kept = kept_over n base f.kept done.kept;
           },
         )
 
-    pub blocking-all : n ≤ low → SourceDone bs n t terms base s old w false
-    blocking-all h =
+    pub blocking_all : n ≤ low → SourceDone bs n t terms base s old w false
+    blocking_all h =
         let p = plan_of bs n t terms in
         record {
           too_many = sym (f.few (let g = pre.source in omega arith));
           summed = λ e v l.
               let q = f.state.done v (omega arith) in
               record {
-                pairs-there = q.pairs-there ∙ partly-source (pairTerm p v) n s;
-                load-there = q.load-there ∙ partly-source (loadTerm p v) n s;
+                pairs_there = q.pairs_there ∙ partly_source (pair_term p v) n s;
+                load_there = q.load_there ∙ partly_source (load_term p v) n s;
               };
           stations = λ e. f.stations h;
           kept = f.kept;
         }
 
 -- what is known of a source with a split
-pub known-few : (bs : List ℕ) (n t : ℕ) (terms : Terms) (s width : ℕ) → Known bs n t terms s width → ltb 0 width ≡ true
-    → tooMany (plan_of bs n t terms) s ≡ false
-known-few bs n t terms s width known is = known.few-walks (λ e. omega (arith, ltb-true 0 width is))
+pub known_few : (bs : List ℕ) (n t : ℕ) (terms : Terms) (s width : ℕ) → Known bs n t terms s width → ltb 0 width ≡ true
+    → is_too_many (plan_of bs n t terms) s ≡ false
+known_few bs n t terms s width known is = known.few_walks (λ e. omega (arith, ltb-true 0 width is))

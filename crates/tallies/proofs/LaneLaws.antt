@@ -13,12 +13,12 @@ use lib.Arith.{digits_lt}
 use lib.Dec.{eqb}
 use lib.ListN.{length, get_or}
 use lib.Pow.{pow_pos, pow-lt, pow_mono}
-use Rattle.lists.proofs.ListLaws.{not-both}
+use Rattle.lists.proofs.ListLaws.{not_both}
 use Rattle.lanes.specs.Lane.{lane, packed, ones, lanes_of, width_of, Within}
-use Rattle.lanes.proofs.LaneLaws.{packed-same, packed-below, lane-packed, lanes-fill, ones-1}
-use Rattle.pass.specs.Row.{partSize}
-use Rattle.pass.specs.Column.{lanesBy, columnsIn, columnAt}
-use Rattle.pass.proofs.WidthLaws.{column-entry}
+use Rattle.lanes.proofs.LaneLaws.{packed_same, packed_below, lane_packed, lanes_fill, ones_1}
+use Rattle.pass.specs.Row.{part_size}
+use Rattle.pass.specs.Column.{lanes_by, columns_in, column_at}
+use Rattle.pass.proofs.WidthLaws.{column_entry}
 use Rattle.tallies.specs.Progress.{Rows, ColumnWithin, Addable, CountFits, EntryWorkable}
 use Rattle.tallies.specs.Sources.{EntriesFor, EntriesNext}
 
@@ -30,18 +30,18 @@ several split d one =
 
 module _ (split row j : ℕ) (w : List ℕ) where
   -- one column to an entry
-  pub column-whole : split ≡ 0 → get_or w (row + j) 0 ≡ columnAt (lanesBy split) w row j
-  column-whole e = let one : 2 ^ split ≡ 1 = ap (λ k. 2 ^ k) e in rw (eq-eqb (2 ^ split) 1 one)
+  pub column_whole : split ≡ 0 → get_or w (row + j) 0 ≡ column_at (lanes_by split) w row j
+  column_whole e = let one : 2 ^ split ≡ 1 = ap (λ k. 2 ^ k) e in rw (eq-eqb (2 ^ split) 1 one)
 
   -- several
-  pub column-lane : split ≢ 0 → (at e b l x : ℕ) → e ≡ j / 2 ^ split → b ≡ 64 / 2 ^ split → l ≡ j % 2 ^ split → at ≡ row + e
-      → x ≡ lane b (get_or w at 0) l → x ≡ columnAt (lanesBy split) w row j
-  column-lane d at e b l x ee eb el ea ex = rw (ne_eqb (2 ^ split) 1 (several split d)) (rw (ex, ea, ee, eb, el))
+  pub column_lane : split ≢ 0 → (at e b l x : ℕ) → e ≡ j / 2 ^ split → b ≡ 64 / 2 ^ split → l ≡ j % 2 ^ split → at ≡ row + e
+      → x ≡ lane b (get_or w at 0) l → x ≡ column_at (lanes_by split) w row j
+  column_lane d at e b l x ee eb el ea ex = rw (ne_eqb (2 ^ split) 1 (several split d)) (rw (ex, ea, ee, eb, el))
 
 -- a column of the block lies before the tallies
-pub column-within : {n base low block split z j : ℕ} {w : List ℕ} → Addable n base low block split z j w → block < 2 ^ 60
+pub column_within : {n base low block split z j : ℕ} {w : List ℕ} → Addable n base low block split z j w → block < 2 ^ 60
     → ColumnWithin (2 * n + z * block) j split (length w)
-column-within {n} {base} {low} {block} {split} {z} {j} {w} a small =
+column_within {n} {base} {low} {block} {split} {z} {j} {w} a small =
     let room = a.room in
     let lanes : 2 ^ split ≤ 8 = pow_mono {i = split} {j = 3} a.few in
     let most = mul-le-mul (le_of_lt small) lanes in
@@ -54,7 +54,7 @@ column-within {n} {base} {low} {block} {split} {z} {j} {w} a small =
           omega (arith, room.area, room.fits, digits_lt a.destination inside, mul_assoc 2 n block);
       lanes = λ d.
           let inside : j < block * 2 ^ split = rw (ne_eqb (2 ^ split) 1 (several split d)) at a.in_block in
-          omega (arith, room.area, room.fits, digits_lt a.destination (column-entry split j block inside), mul_assoc 2 n block);
+          omega (arith, room.area, room.fits, digits_lt a.destination (column_entry split j block inside), mul_assoc 2 n block);
     }
   where
     go : (b : Bool) → j < cond b block (block * 2 ^ split) → (j < block → j < 2 ^ 63) → (j < block * 2 ^ split → j < 2 ^ 63) → j < 2 ^ 63
@@ -63,7 +63,7 @@ column-within {n} {base} {low} {block} {split} {z} {j} {w} a small =
 
 -- the rows before a destination's, and its own, lie in the pass's part
 pub rows_before : {n base low block split z j : ℕ} {w : List ℕ} → Addable n base low block split z j w
-    → (2 * n + z * block + block ≤ partSize n block) × (z * block ≤ n * block)
+    → (2 * n + z * block + block ≤ part_size n block) × (z * block ≤ n * block)
 rows_before {n} {base} {low} {block} {split} {z} {j} a =
     let more = mul-le-mul_right {m = z + 1} {n = n} block (let d = a.destination in omega arith) in
     let one = add-mul z 1 block in
@@ -71,36 +71,36 @@ rows_before {n} {base} {low} {block} {split} {z} {j} a =
     (omega arith, less)
 
 -- an entry's number is small
-pub entry-small : {n base s low : ℕ} {rows : Rows} {z e all : ℕ} {w : List ℕ} → EntryWorkable n base s low rows z e all w → length w < 2 ^ 60
+pub entry_small : {n base s low : ℕ} {rows : Rows} {z e all : ℕ} {w : List ℕ} → EntryWorkable n base s low rows z e all w → length w < 2 ^ 60
     → e + 1 < 2 ^ 60
-entry-small {n} {rows = rows} {z = z} {e = e} a small =
+entry_small {n} {rows = rows} {z = z} {e = e} a small =
     let room = a.working.room in
     let inside = digits_lt a.destination a.entry in
     omega (arith, room.area, room.fits, inside, mul_assoc 2 n rows.entries)
 
 -- one step on, fewer are left
-pub fewer-left : (e j : ℕ) → j < e → e - (j + 1) < e - j
-fewer-left e j h = omega arith
+pub fewer_left : (e j : ℕ) → j < e → e - (j + 1) < e - j
+fewer_left e j h = omega arith
 
-pub fewer-passes : (known : Bool) (n low some split : ℕ) → (known ≡ true → 0 < some) → some ≤ n - low
+pub fewer_passes : (known : Bool) (n low some split : ℕ) → (known ≡ true → 0 < some) → some ≤ n - low
     → 4 * (n - (low + some)) + split + cond true 0 1 < 4 * (n - low) + split + cond known 0 1
-fewer-passes true n low some split h g = let some_left = h refl in omega arith
-fewer-passes false n low some split h g = omega arith
+fewer_passes true n low some split h g = let some_left = h refl in omega arith
+fewer_passes false n low some split h g = omega arith
 
-pub narrower-split : (known : Bool) (n low split : ℕ) → split ≢ 0
+pub narrower_split : (known : Bool) (n low split : ℕ) → split ≢ 0
     → 4 * (n - low) + (split - 1) + cond known 0 1 < 4 * (n - low) + split + cond known 0 1
-narrower-split true n low split d = omega arith
-narrower-split false n low split d = omega arith
+narrower_split true n low split d = omega arith
+narrower_split false n low split d = omega arith
 
 -- ---- how many entries are taken
 
-pub entries-asked : (split : ℕ) → split ≤ 3 → (0 < 2 ^ split) × (2 ^ split ≤ 8)
-entries-asked split few = (pow_pos split, pow_mono {i = split} {j = 3} few)
+pub entries_asked : (split : ℕ) → split ≤ 3 → (0 < 2 ^ split) × (2 ^ split ≤ 8)
+entries_asked split few = (pow_pos split, pow_mono {i = split} {j = 3} few)
 
-pub entries-for : (left block split lanes all : ℕ) → split ≤ 3 → lanes ≡ 1 * 2 ^ split → all ≡ (left + lanes - 1) / 2 ^ split → (r : ℕ) → r ≡ min block all
+pub entries_for : (left block split lanes all : ℕ) → split ≤ 3 → lanes ≡ 1 * 2 ^ split → all ≡ (left + lanes - 1) / 2 ^ split → (r : ℕ) → r ≡ min block all
     → EntriesFor left block split r
-entries-for left block split lanes all few el ea r er =
-    let (some_lane, eight) = entries-asked split few in
+entries_for left block split lanes all few el ea r er =
+    let (some_lane, eight) = entries_asked split few in
     record {
       most = omega arith;
       some = λ h g.
@@ -112,31 +112,31 @@ entries-for left block split lanes all few el ea r er =
 -- ---- an entry whose every lane holds the count
 
 -- one lane holds the count itself
-pub full-whole : (split c : ℕ) → split ≡ 0 → c ≡ c * ones (width_of split) (lanes_of split)
+pub full_whole : (split c : ℕ) → split ≡ 0 → c ≡ c * ones (width_of split) (lanes_of split)
 unfolding lanes_of width_of
-full-whole split c e = let one : ones (64 / 2 ^ split) (2 ^ split) ≡ 1 = ap (λ k. ones (64 / 2 ^ k) (2 ^ k)) e ∙ ones-1 in rw one (omega arith)
+full_whole split c e = let one : ones (64 / 2 ^ split) (2 ^ split) ≡ 1 = ap (λ k. ones (64 / 2 ^ k) (2 ^ k)) e ∙ ones_1 in rw one (omega arith)
 
 module _ (split c : ℕ) (few : split ≤ 3) (fits : (2 ^ split ≡ 1) ⊎ (c < 2 ^ (64 / 2 ^ split))) where
   fill : 64 / 2 ^ split * 2 ^ split ≡ 64
   unfolding lanes_of width_of
-  fill = lanes-fill split few
+  fill = lanes_fill split few
 
   -- it fits 64 bits, where there are several lanes
-  pub full-fits : split ≢ 0 → c * ones (width_of split) (lanes_of split) < 2 ^ 64
+  pub full_fits : split ≢ 0 → c * ones (width_of split) (lanes_of split) < 2 ^ 64
   unfolding lanes_of width_of
-  full-fits d =
+  full_fits d =
       ⊎_elim
       (λ (one : 2 ^ split ≡ 1). absurd (several split d one))
       (λ (h : c < 2 ^ (64 / 2 ^ split)).
-      let below = packed-below (64 / 2 ^ split) (2 ^ split) {f = λ l. c} (λ l i. h) in
-      rw (sym (packed-same (64 / 2 ^ split) (2 ^ split) c)) (rw fill at below))
+      let below = packed_below (64 / 2 ^ split) (2 ^ split) {f = λ l. c} (λ l i. h) in
+      rw (sym (packed_same (64 / 2 ^ split) (2 ^ split) c)) (rw fill at below))
       fits
 
   -- each of its columns is the count
-  pub full-column : (row j : ℕ) (w : List ℕ) → get_or w (row + j / 2 ^ split) 0 ≡ c * ones (width_of split) (lanes_of split)
-      → columnAt (lanesBy split) w row j ≡ c
+  pub full_column : (row j : ℕ) (w : List ℕ) → get_or w (row + j / 2 ^ split) 0 ≡ c * ones (width_of split) (lanes_of split)
+      → column_at (lanes_by split) w row j ≡ c
   unfolding lanes_of width_of ones packed
-  full-column row j w is = go (eqb (2 ^ split) 1) refl
+  full_column row j w is = go (eqb (2 ^ split) 1) refl
     where
       alone : 2 ^ split ≡ 1 → get_or w (row + j) 0 ≡ c
       alone one = let same : j / 1 ≡ j = omega arith in let here = rw (one, same) at is in here ∙ omega arith
@@ -148,14 +148,14 @@ module _ (split c : ℕ) (few : split ≤ 3) (fits : (2 ^ split ≡ 1) ⊎ (c < 
           ⊎_elim
           (λ (one : 2 ^ split ≡ 1). absurd (eqb-false (2 ^ split) 1 e one))
           (λ (h : c < 2 ^ (64 / 2 ^ split)).
-          ap (λ x. lane (64 / 2 ^ split) x (j % 2 ^ split)) (is ∙ sym (packed-same (64 / 2 ^ split) (2 ^ split) c))
-          ∙ lane-packed (64 / 2 ^ split) (2 ^ split) {f = λ l. c} (λ l i. h) (j % 2 ^ split) (mod-lt j (pow_pos split)))
+          ap (λ x. lane (64 / 2 ^ split) x (j % 2 ^ split)) (is ∙ sym (packed_same (64 / 2 ^ split) (2 ^ split) c))
+          ∙ lane_packed (64 / 2 ^ split) (2 ^ split) {f = λ l. c} (λ l i. h) (j % 2 ^ split) (mod-lt j (pow_pos split)))
           fits
 
 -- none before cause 9 is known not to hold
 pub entries_none : (known : Bool) (left block split : ℕ) → known ≡ false → EntriesNext known left block split 0
 entries_none known left block split is =
-    record { most = omega arith; some = λ e. absurd (not-both e is); small = omega arith }
+    record { most = omega arith; some = λ e. absurd (not_both e is); small = omega arith }
 
-pub entries-known : (known : Bool) (left block split r : ℕ) → EntriesFor left block split r → EntriesNext known left block split r
-entries-known known left block split r f = record { most = f.most; some = λ e. f.some; small = f.small }
+pub entries_known : (known : Bool) (left block split r : ℕ) → EntriesFor left block split r → EntriesNext known left block split r
+entries_known known left block split r f = record { most = f.most; some = λ e. f.some; small = f.small }

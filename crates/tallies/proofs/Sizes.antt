@@ -5,15 +5,15 @@ use native.Mathlib.Omega.{arith}
 use mathlib.Core.Path.{◌≡◌}
 use native.Mathlib.Nat.{mul_assoc, mul_comm, mul-le-mul, add-mul}
 use Rattle.temporal.specs.Plan.{Terms, Allowed}
-use Rattle.temporal.specs.Outcome.{workSize}
+use Rattle.temporal.specs.Outcome.{work_size}
 use Rattle.forward.specs.Passed.{pass_size}
-use Rattle.forward.proofs.SizeLaws.{some-column, columns-fit, most-lent}
-use Rattle.tallies.specs.Tally.{block_of, tallyBase}
+use Rattle.forward.proofs.SizeLaws.{some_column, columns_fit, most_lent}
+use Rattle.tallies.specs.Tally.{block_of, tally_base}
 
 -- where the tallies begin, and their 2 n entries, are within the 4 n (t + 1) entries of the work area
-pub base-fits : (n t : ℕ) → tallyBase n t + 2 * n ≤ workSize n t
-unfolding tallyBase
-base-fits n t =
+pub base_fits : (n t : ℕ) → tally_base n t + 2 * n ≤ work_size n t
+unfolding tally_base
+base_fits n t =
     let less : 4 * (t + 1) - 2 ≡ 4 * t + 2 = omega arith in
     let parts : (4 * (t + 1) - 2) * n ≡ 4 * t * n + 2 * n = rw less (add-mul (4 * t) 2 n) in
     let four = mul_assoc 4 t n in
@@ -22,18 +22,18 @@ base-fits n t =
     omega arith
 
 -- where they begin is a small number
-pub base-small : (n t : ℕ) → n ≤ 256 → t ≤ 255 → (4 * (t + 1) - 2) * n ≤ 262144
-base-small n t stations slots =
+pub base_small : (n t : ℕ) → n ≤ 256 → t ≤ 255 → (4 * (t + 1) - 2) * n ≤ 262144
+base_small n t stations slots =
     let entries : 4 * (t + 1) - 2 ≤ 1024 = omega arith in
     omega (arith, mul-le-mul entries stations)
 
 module _ (n t : ℕ) (terms : Terms) (d : ℕ) (units : Allowed terms) (slot : 0 < t) (most : t ≤ 255) (kept : d ≤ terms.keeping) where
   -- a block has at least one station
-  pub block-some : 0 < n → 0 < block_of n t terms d
+  pub block_some : 0 < n → 0 < block_of n t terms d
   unfolding block_of
-  block-some some = some-column n t terms d (4 * (t + 1) - 2) (most-lent n t terms d units slot most kept) some
+  block_some some = some_column n t terms d (4 * (t + 1) - 2) (most_lent n t terms d units slot most kept) some
 
   -- and the pass with it lies before the tallies
-  pub block-fits : pass_size n t terms d (block_of n t terms d) ≤ tallyBase n t
-  unfolding block_of tallyBase
-  block-fits = columns-fit n t terms d (4 * (t + 1) - 2) (most-lent n t terms d units slot most kept) _ (omega arith)
+  pub block_fits : pass_size n t terms d (block_of n t terms d) ≤ tally_base n t
+  unfolding block_of tally_base
+  block_fits = columns_fit n t terms d (4 * (t + 1) - 2) (most_lent n t terms d units slot most kept) _ (omega arith)

@@ -4,23 +4,23 @@
 use Rattle.std.specs.Prelude.{ℕ, ◌+◌, ◌*◌, ◌^◌, ◌<◌, ◌≤◌, min, ◌≡◌, Bool, true, false, List, ◌≢◌}
 use Rattle.temporal.specs.Plan.{Terms, Allowed}
 use Rattle.temporal.specs.Bytes.{plan_of}
-use Rattle.temporal.specs.Cause.{planFault, tooMany}
+use Rattle.temporal.specs.Cause.{plan_fault, is_too_many}
 use Rattle.stale.specs.Depth.{Deep}
-use Rattle.pass.specs.Column.{lanesBy, columnsIn}
+use Rattle.pass.specs.Column.{lanes_by, columns_in}
 use Rattle.forward.specs.declared.Packed.{Packed}
 use Rattle.forward.specs.declared.Packed.TheVariants as packed
 use Rattle.forward.specs.Passed.{pass_size, Counted}
-use Rattle.tallies.specs.Tally.{block_of, tallyBase, Tallyable}
+use Rattle.tallies.specs.Tally.{block_of, tally_base, Tallyable}
 use Rattle.tallies.specs.Progress.{TallyEntry, State, Rows, Room, Kept}
 
 -- what a block asks: an accepted plan, units that no cause refuses, a source and a block in it, and the stations before the block done
 pub record BlockReady (bs : List ℕ) (n t : ℕ) (terms : Terms) (d base s low : ℕ) (rows : Rows) (work : List ℕ) : Type 0 where
-  pub accepted : planFault bs n t ≡ 0
+  pub accepted : plan_fault bs n t ≡ 0
   pub source : s < n
   pub units : Allowed terms
   pub deep : Deep bs n terms.keeping d
   pub inside : low + rows.stations ≤ n
-  pub columns : rows.stations ≤ columnsIn (lanesBy rows.split) rows.entries
+  pub columns : rows.stations ≤ columns_in (lanes_by rows.split) rows.entries
   pub few : rows.split ≤ 3
   pub area : pass_size n t terms d rows.entries ≤ base
   pub room : Room n base rows.entries work
@@ -30,9 +30,9 @@ pub record BlockReady (bs : List ℕ) (n t : ℕ) (terms : Terms) (d base s low 
 -- one that does not fit its lane, where the tallies are as they were.
 unfoldable pub BlockEnd : List ℕ → ℕ → ℕ → Terms → ℕ → ℕ → ℕ → Rows → List ℕ → Packed → Type 0
 BlockEnd bs n t terms base s low rows new packed.Counted =
-    (tooMany (plan_of bs n t terms) s ≡ false) × State (plan_of bs n t terms) n base s (low + rows.stations) 0 0 0 new
+    (is_too_many (plan_of bs n t terms) s ≡ false) × State (plan_of bs n t terms) n base s (low + rows.stations) 0 0 0 new
     × Counted bs n t terms s 0 0 new
-BlockEnd bs n t terms base s low rows new packed.TooMany = tooMany (plan_of bs n t terms) s ≡ true
+BlockEnd bs n t terms base s low rows new packed.TooMany = is_too_many (plan_of bs n t terms) s ≡ true
 BlockEnd bs n t terms base s low rows new packed.TooWide =
     (rows.split ≢ 0) × State (plan_of bs n t terms) n base s low 0 0 0 new
 
@@ -42,7 +42,7 @@ pub record BlockDone (bs : List ℕ) (n t : ℕ) (terms : Terms) (base s low : �
 
 -- what a source asks: an accepted plan, units that no cause refuses, the source in it, a block size, and the sources before it done
 pub record SourceReady (bs : List ℕ) (n t : ℕ) (terms : Terms) (d base block s : ℕ) (work : List ℕ) : Type 0 where
-  pub accepted : planFault bs n t ≡ 0
+  pub accepted : plan_fault bs n t ≡ 0
   pub source : s < n
   pub units : Allowed terms
   pub deep : Deep bs n terms.keeping d
@@ -53,7 +53,7 @@ pub record SourceReady (bs : List ℕ) (n t : ℕ) (terms : Terms) (d base block
 
 -- what a source promises: whether a count is over 2^64 - 1, and where none is, the source done too, and hops and counts of the stations
 pub record SourceDone (bs : List ℕ) (n t : ℕ) (terms : Terms) (base s : ℕ) (old new : List ℕ) (r : Bool) : Type 0 where
-  pub too_many : r ≡ tooMany (plan_of bs n t terms) s
+  pub too_many : r ≡ is_too_many (plan_of bs n t terms) s
   pub summed : r ≡ false → (v : ℕ) → v < n → TallyEntry (plan_of bs n t terms) n base (s + 1) v 0 new
   pub stations : r ≡ false → Counted bs n t terms s 0 0 new
   pub kept : Kept n base old new
@@ -63,8 +63,8 @@ pub record AllReady (bs : List ℕ) (n t : ℕ) (terms : Terms) (d k base block 
   pub asked : Tallyable bs n t terms k work
   pub deep : Deep bs n terms.keeping d
   pub kept : d ≤ terms.keeping
-  pub block-there : block ≡ block_of n t terms d
-  pub base_there : base ≡ tallyBase n t
+  pub block_there : block ≡ block_of n t terms d
+  pub base_there : base ≡ tally_base n t
 
 -- how many entries of a row are taken for so many stations that are left: some, no more than block, and no more than all of them need
 pub record EntriesFor (left block split r : ℕ) : Type 0 where

@@ -1,16 +1,17 @@
 // Adds up, over the sources below k, every station's pairs and load. Everything lives in a lent work area: the pass's part at its
 // beginning, the pairs of the stations and then their loads at its end.
+#![tactic(auto)]
 ghost use Rattle.std.specs.Prelude.{◌≡◌, true, false, ◌+◌, ◌*◌, ◌^◌, ◌<◌, ◌≤◌, min, length, get_or};
 ghost use Rattle.temporal.specs.Plan.{units};
 ghost use Rattle.temporal.specs.Bytes.{plan_of};
-ghost use Rattle.temporal.specs.Cause.{tooMany};
-ghost use Rattle.temporal.specs.Struck.{lackingRecord};
-ghost use Rattle.tallies.specs.Tally.{tallyBase, Tallyable, Tallied};
+ghost use Rattle.temporal.specs.Cause.{is_too_many};
+ghost use Rattle.temporal.specs.Struck.{lacking_record};
+ghost use Rattle.tallies.specs.Tally.{tally_base, Tallyable, Tallied};
 ghost use Rattle.lanes.specs.Lane.{ones, lanes_of, width_of};
-ghost use Rattle.pass.specs.Column.{lanesBy, columnAt};
+ghost use Rattle.pass.specs.Column.{lanes_by, column_at};
 ghost use Rattle.tallies.specs.Progress.{
   rows_of,
-  addedAt,
+  added_at,
   Addable,
   Workable,
   DestinationsAdded,
@@ -35,7 +36,7 @@ use forward::Packed;
 // What column j of the row that begins at a place holds.
 fn column(work: &[u64], row: usize, j: usize, split: usize) -> u64
     requires { ColumnWithin row j split (length work.now) }
-    ensures { result ≡ columnAt (lanesBy split) work.now row j }
+    ensures { result ≡ column_at (lanes_by split) work.now row j }
 {
     if split == 0 {
         return work[row + j];
@@ -58,7 +59,7 @@ fn add_pair(
     j: usize,
 )
     requires { Addable n base low block split z j work.old }
-    ensures { work.new ≡ addedAt n base low block split z j work.old }
+    ensures { work.new ≡ added_at n base low block split z j work.old }
 {
     let v = low + j;
     if v == z {
@@ -189,9 +190,9 @@ fn tally_block(
     split: usize,
     stations: usize,
 ) -> Packed
-    requires { BlockReady (lackingRecord plan.now out) n t (units g h) depth base source low (rows_of stations block split) work.old ×
-        (known ≡ true → tooMany (plan_of (lackingRecord plan.now out) n t (units g h)) source ≡ false) }
-    ensures { BlockDone (lackingRecord plan.now out) n t (units g h) base source low (rows_of stations block split)
+    requires { BlockReady (lacking_record plan.now out) n t (units g h) depth base source low (rows_of stations block split) work.old ×
+        (known ≡ true → is_too_many (plan_of (lacking_record plan.now out) n t (units g h)) source ≡ false) }
+    ensures { BlockDone (lacking_record plan.now out) n t (units g h) base source low (rows_of stations block split)
         work.old work.new result }
 {
     let packed = forward::pass_packed(
@@ -264,9 +265,9 @@ pub fn tally_source(
     source: usize,
     width: usize,
 ) -> bool
-    requires { SourceReady (lackingRecord plan.now out) n t (units g h) depth base block source work.old ×
-        Known (lackingRecord plan.now out) n t (units g h) source width }
-    ensures { SourceDone (lackingRecord plan.now out) n t (units g h) base source work.old work.new result }
+    requires { SourceReady (lacking_record plan.now out) n t (units g h) depth base block source work.old ×
+        Known (lacking_record plan.now out) n t (units g h) source width }
+    ensures { SourceDone (lacking_record plan.now out) n t (units g h) base source work.old work.new result }
 {
     let mut known = 0 < width;
     let mut split = first_split(t, h, width);
@@ -340,7 +341,7 @@ fn tally_sources(
 // Where the tallies begin in the work area.
 pub fn base_of(n: usize, t: usize) -> usize
     requires { (n ≤ 256) × (t ≤ 255) }
-    ensures { result ≡ tallyBase n t }
+    ensures { result ≡ tally_base n t }
 {
     (4 * (t + 1) - 2) * n
 }

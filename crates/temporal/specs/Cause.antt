@@ -5,8 +5,8 @@ use Rattle.std.specs.Prelude.{ℕ, zero, suc, ◌+◌, ◌-◌, ◌%◌, ◌^◌
 use mathlib.Core.List.{List, [], ◌∷◌, ◌++◌, flat_map}
 use Rattle.temporal.specs.Lists.{below, any}
 use Rattle.temporal.specs.Plan.{Contact, Plan, Terms}
-use Rattle.temporal.specs.Shortest.{shortestWalks, shortestWalksTo, count}
-use Rattle.temporal.specs.Bytes.{contactAt, records}
+use Rattle.temporal.specs.Shortest.{shortest_walks, shortest_walks_to, count}
+use Rattle.temporal.specs.Bytes.{contact_at, records}
 
 -- the number of a cause where it holds, else 0
 unfoldable pub cause : ℕ → Bool → ℕ
@@ -28,84 +28,84 @@ unfoldable pub outside : ℕ → ℕ → Bool
 outside n t = eqb n 0 || ltb 256 n || (eqb t 0 || ltb 255 t)
 
 -- 2: not a multiple of 6 bytes, or over 8,192 records
-unfoldable pub wrongLength : List ℕ → Bool
-wrongLength bs = not (eqb (length bs % 6) 0) || ltb 8192 (records bs)
+unfoldable pub wrong_length : List ℕ → Bool
+wrong_length bs = not (eqb (length bs % 6) 0) || ltb 8192 (records bs)
 
 -- 3: slot 0 or above T
-unfoldable pub wrongSlot : ℕ → Contact → Bool
-wrongSlot t c = eqb c.slot 0 || ltb t c.slot
+unfoldable pub wrong_slot : ℕ → Contact → Bool
+wrong_slot t c = eqb c.slot 0 || ltb t c.slot
 
 -- 4: a equals b, or either is n or more
-unfoldable pub wrongEnds : ℕ → Contact → Bool
-wrongEnds n c = eqb c.sender c.hearer || (leb n c.sender || leb n c.hearer)
+unfoldable pub wrong_ends : ℕ → Contact → Bool
+wrong_ends n c = eqb c.sender c.hearer || (leb n c.sender || leb n c.hearer)
 
 -- whether d is above c, compared by slot, then a (the sender), then b (the hearer)
-unfoldable pub isAbove : Contact → Contact → Bool
-isAbove c d =
+unfoldable pub is_above : Contact → Contact → Bool
+is_above c d =
     ltb c.slot d.slot ||
     eqb c.slot d.slot && (ltb c.sender d.sender || eqb c.sender d.sender && ltb c.hearer d.hearer)
 
 -- 5: the record at i is not above the one before it; the first has none before it
-unfoldable pub wrongOrder : List ℕ → ℕ → Bool
-wrongOrder bs i = ltb 0 i && not (isAbove (contactAt bs (i - 1)) (contactAt bs i))
+unfoldable pub wrong_order : List ℕ → ℕ → Bool
+wrong_order bs i = ltb 0 i && not (is_above (contact_at bs (i - 1)) (contact_at bs i))
 
 -- the causes of one record, in turn
-unfoldable pub recordCauses : List ℕ → ℕ → ℕ → ℕ → List ℕ
-recordCauses bs n t i =
-    cause 3 (wrongSlot t (contactAt bs i)) ∷ cause 4 (wrongEnds n (contactAt bs i)) ∷ cause 5 (wrongOrder bs i) ∷ []
+unfoldable pub record_causes : List ℕ → ℕ → ℕ → ℕ → List ℕ
+record_causes bs n t i =
+    cause 3 (wrong_slot t (contact_at bs i)) ∷ cause 4 (wrong_ends n (contact_at bs i)) ∷ cause 5 (wrong_order bs i) ∷ []
 
 -- the causes of a plan: 1, 2, then record by record 3, 4, 5
-unfoldable pub planCauses : List ℕ → ℕ → ℕ → List ℕ
-planCauses bs n t = cause 1 (outside n t) ∷ cause 2 (wrongLength bs) ∷ flat_map (recordCauses bs n t) (below (records bs))
+unfoldable pub plan_causes : List ℕ → ℕ → ℕ → List ℕ
+plan_causes bs n t = cause 1 (outside n t) ∷ cause 2 (wrong_length bs) ∷ flat_map (record_causes bs n t) (below (records bs))
 
 -- Operation 1, check: the first cause of refusal of a plan, or 0 where it is accepted.
-unfoldable pub planFault : List ℕ → ℕ → ℕ → ℕ
-planFault bs n t = first (planCauses bs n t)
+unfoldable pub plan_fault : List ℕ → ℕ → ℕ → ℕ
+plan_fault bs n t = first (plan_causes bs n t)
 
 -- 12: the turnaround is outside 1 to 16 (document 02, C-17)
-unfoldable pub wrongTurnaround : Terms → Bool
-wrongTurnaround terms = eqb terms.turnaround 0 || ltb 16 terms.turnaround
+unfoldable pub wrong_turnaround : Terms → Bool
+wrong_turnaround terms = eqb terms.turnaround 0 || ltb 16 terms.turnaround
 
 -- 14: a reading is kept for fewer slots than the turnaround, or for over 255 (document 02, C-21)
-unfoldable pub wrongKeeping : Terms → Bool
-wrongKeeping terms = ltb terms.keeping terms.turnaround || ltb 255 terms.keeping
+unfoldable pub wrong_keeping : Terms → Bool
+wrong_keeping terms = ltb terms.keeping terms.turnaround || ltb 255 terms.keeping
 
 -- 12 and 14 of a call that says the units' terms
-unfoldable pub termsCauses : Terms → List ℕ
-termsCauses terms = cause 12 (wrongTurnaround terms) ∷ cause 14 (wrongKeeping terms) ∷ []
+unfoldable pub terms_causes : Terms → List ℕ
+terms_causes terms = cause 12 (wrong_turnaround terms) ∷ cause 14 (wrong_keeping terms) ∷ []
 
 -- 13: more sources are to be worked on than there are stations (document 02, C-18)
-abbrev pub wrongSources : ℕ → ℕ → Bool
-wrongSources n k = ltb n k
+abbrev pub wrong_sources : ℕ → ℕ → Bool
+wrong_sources n k = ltb n k
 
 -- 6, 7 and 8 of a call that names a pair; the Boolean says that something lent is too short
-unfoldable pub endsCauses : ℕ → ℕ → ℕ → Bool → List ℕ
-endsCauses n s z short = cause 6 (leb n s || leb n z) ∷ cause 7 (eqb s z) ∷ cause 8 short ∷ []
+unfoldable pub ends_causes : ℕ → ℕ → ℕ → Bool → List ℕ
+ends_causes n s z short = cause 6 (leb n s || leb n z) ∷ cause 7 (eqb s z) ∷ cause 8 short ∷ []
 
 -- 12, 14, 6, 7 and 8 of it
-unfoldable pub pairCauses : Terms → ℕ → ℕ → ℕ → Bool → List ℕ
-pairCauses terms n s z short = termsCauses terms ++ endsCauses n s z short
+unfoldable pub pair_causes : Terms → ℕ → ℕ → ℕ → Bool → List ℕ
+pair_causes terms n s z short = terms_causes terms ++ ends_causes n s z short
 
 -- 6 and 8 of a call that names one station
-unfoldable pub stationCauses : ℕ → ℕ → Bool → List ℕ
-stationCauses n v short = cause 6 (leb n v) ∷ cause 8 short ∷ []
+unfoldable pub station_causes : ℕ → ℕ → Bool → List ℕ
+station_causes n v short = cause 6 (leb n v) ∷ cause 8 short ∷ []
 
 -- an appearance has over 2^64 - 1 shortest walks from s; every appearance of the plan is looked at
-abbrev pub appearanceTooMany : Plan → ℕ → Bool
-appearanceTooMany p s =
-    any (λ v. any (λ t. ltb (2 ^ 64 - 1) (count (shortestWalks p s v t))) (below (p.slots + 1))) (below p.stations)
+abbrev pub appearance_too_many : Plan → ℕ → Bool
+appearance_too_many p s =
+    any (λ v. any (λ t. ltb (2 ^ 64 - 1) (count (shortest_walks p s v t))) (below (p.slots + 1))) (below p.stations)
 
 -- a station has over 2^64 - 1 shortest walks from s; every station is looked at
-abbrev pub stationTooMany : Plan → ℕ → Bool
-stationTooMany p s = any (λ v. ltb (2 ^ 64 - 1) (count (shortestWalksTo p s v))) (below p.stations)
+abbrev pub station_too_many : Plan → ℕ → Bool
+station_too_many p s = any (λ v. ltb (2 ^ 64 - 1) (count (shortest_walks_to p s v))) (below p.stations)
 
 -- 9: an appearance, or a station, has over 2^64 - 1 shortest walks from s
-unfoldable pub tooMany : Plan → ℕ → Bool
-tooMany p s = appearanceTooMany p s || stationTooMany p s
+unfoldable pub is_too_many : Plan → ℕ → Bool
+is_too_many p s = appearance_too_many p s || station_too_many p s
 
 -- 9 of an operation that works on the sources below k, and of one that works on every source
-unfoldable pub tooManyBelow : Plan → ℕ → Bool
-tooManyBelow p k = any (tooMany p) (below k)
+unfoldable pub too_many_below : Plan → ℕ → Bool
+too_many_below p k = any (is_too_many p) (below k)
 
-abbrev pub tooManyAnywhere : Plan → Bool
-tooManyAnywhere p = tooManyBelow p p.stations
+abbrev pub too_many_anywhere : Plan → Bool
+too_many_anywhere p = too_many_below p p.stations

@@ -8,8 +8,8 @@ use Rattle.temporal.specs.Outcome.{over}
 -- What first way and next way answer.
 pub data Reply : Type 0 where
   path : ℕ → Reply  -- a way is given: its hops
-  no-path : Reply  -- document 01's "none"
-  last-path : Reply  -- document 01's "last"
+  no_path : Reply  -- document 01's "none"
+  last_path : Reply  -- document 01's "last"
   refused : ℕ → Reply  -- the number of the cause; zeros stand beside it
 
 -- whether two lists of numbers are the same
@@ -20,9 +20,9 @@ same_numbers (x ∷ l) [] = false
 same_numbers (x ∷ l) (y ∷ m) = eqb x y && same_numbers l m
 
 -- the index in a list of the first member with which a buffer begins, or none
-unfoldable pub indexIn : List (List ℕ) → List ℕ → Option ℕ
-indexIn [] b = none
-indexIn (w ∷ l) b = cond (same_numbers w (take (length w) b)) (some 0) (map suc (indexIn l b))
+unfoldable pub index_in : List (List ℕ) → List ℕ → Option ℕ
+index_in [] b = none
+index_in (w ∷ l) b = cond (same_numbers w (take (length w) b)) (some 0) (map suc (index_in l b))
 
 -- Document 01's finger after a call: what it answers, the index of the way it is on, or none, and its buffer.
 pub record Moved : Type 0 where
@@ -39,22 +39,22 @@ unfoldable pub give : List (List ℕ) → ℕ → List ℕ → Moved
 give l i b = record { reply = path (length (get_or l i [])); cursor = some i; buffer = over (get_or l i []) b }
 
 -- first way on a complete list, no other cause of refusal being there
-unfoldable pub goFirst : List (List ℕ) → Option ℕ → List ℕ → Moved
-goFirst [] at b = stay no-path at b
-goFirst (w ∷ l) at b = give (w ∷ l) 0 b
+unfoldable pub go_first : List (List ℕ) → Option ℕ → List ℕ → Moved
+go_first [] at b = stay no_path at b
+go_first (w ∷ l) at b = give (w ∷ l) 0 b
 
 -- next way on a complete list: 10 on none, "last" on the last way, else on by one
-unfoldable pub goNext : List (List ℕ) → Option ℕ → List ℕ → Moved
-goNext l none b = stay (refused 10) none b
-goNext l (some i) b = cond (ltb (i + 1) (length l)) (give l (i + 1) b) (stay last-path (some i) b)
+unfoldable pub go_next : List (List ℕ) → Option ℕ → List ℕ → Moved
+go_next l none b = stay (refused 10) none b
+go_next l (some i) b = cond (ltb (i + 1) (length l)) (give l (i + 1) b) (stay last_path (some i) b)
 
 -- operations 7 and 8
 pub data Operation : Type 0 where
   first_way next_Way : Operation
 
 unfoldable pub go : Operation → List (List ℕ) → Option ℕ → List ℕ → Moved
-go first_way = goFirst
-go next_Way = goNext
+go first_way = go_first
+go next_Way = go_next
 
 -- the cursor's move at a call whose first cause other than 10 has the given number; 0 where it has none
 unfoldable pub move : Operation → ℕ → List (List ℕ) → Option ℕ → List ℕ → Moved

@@ -29,9 +29,9 @@ pub record ExactShare (b x : ℕ) : Type 0 where
 
 -- The bits of the double x / 2^32, for an x below 2^53: the digits of x behind the leading one, moved up to 52, and the exponent's
 -- field above them. Of 0 they are positive zero.
-unfoldable pub shareBits : ℕ → ℕ
-shareBits zero = 0
-shareBits (suc x) = (990 + size (suc x)) * 2 ^ 52 + (suc x * 2 ^ (53 - size (suc x)) - 2 ^ 52)
+unfoldable pub share_bits : ℕ → ℕ
+share_bits zero = 0
+share_bits (suc x) = (990 + size (suc x)) * 2 ^ 52 + (suc x * 2 ^ (53 - size (suc x)) - 2 ^ 52)
 
 -- ---- Writing
 
@@ -43,7 +43,7 @@ pub data Carried : Type 0 where
 -- of a station with this load and this number of pairs: idle without pairs, else load / 2^32 and (load + pairs) / 2^32
 unfoldable pub carried : ℕ → ℕ → Carried
 carried load zero = idle
-carried load (suc pairs) = carries (shareBits load) (shareBits (load + suc pairs))
+carried load (suc pairs) = carries (share_bits load) (share_bits (load + suc pairs))
 
 -- the bits that are written: both doubles of an idle station are positive zero
 unfoldable pub low_bits : Carried → ℕ
@@ -60,22 +60,22 @@ bytes_of zero x = []
 bytes_of (suc k) x = x / 256 ^ k % 256 ∷ bytes_of k x
 
 -- the record of a station and the bits of its doubles
-unfoldable pub recordOf : ℕ → ℕ → ℕ → List ℕ
-recordOf v low high = bytes_of 2 v ++ bytes_of 8 low ++ bytes_of 8 high
+unfoldable pub record_of : ℕ → ℕ → ℕ → List ℕ
+record_of v low high = bytes_of 2 v ++ bytes_of 8 low ++ bytes_of 8 high
 
 -- the record of a station with its load and its number of pairs
-unfoldable pub drawnRecord : ℕ → ℕ → ℕ → List ℕ
-drawnRecord v load pairs = recordOf v (low_bits (carried load pairs)) (high_bits (carried load pairs))
+unfoldable pub drawn_record : ℕ → ℕ → ℕ → List ℕ
+drawn_record v load pairs = record_of v (low_bits (carried load pairs)) (high_bits (carried load pairs))
 
 -- ---- Reading
 
 -- the station, load and pairs are within the limits, and their record is these bytes
 pub record CouldWrite (v load pairs : ℕ) (bytes : List ℕ) : Type 0 where
-  pub station-low : v < 256
+  pub station_low : v < 256
   pub load_low : load < 2 ^ 49
-  pub pairs-low : pairs < 2 ^ 49
+  pub pairs_low : pairs < 2 ^ 49
   pub no_pairs : pairs ≡ 0 → load ≡ 0
-  pub written : drawnRecord v load pairs ≡ bytes
+  pub written : drawn_record v load pairs ≡ bytes
 
 -- what reading bytes answers
 pub data ReadBack : Type 0 where
@@ -90,12 +90,12 @@ Reads bytes (station v load pairs) = CouldWrite v load pairs bytes
 
 -- Kinds of records of 18 bytes that are foreign, by the station and the bits of the doubles that stand in them.
 pub record ForeignKinds (s low high : ℕ) : Type 0 where
-  pub station-high : 256 ≤ s → Reads (recordOf s low high) foreign
+  pub station_high : 256 ≤ s → Reads (record_of s low high) foreign
   -- a minus sign, of minus zero too, an infinity or a not-a-number
-  pub low-not-plain : 2047 * 2 ^ 52 ≤ low → Reads (recordOf s low high) foreign
-  pub high-not-plain : 2047 * 2 ^ 52 ≤ high → Reads (recordOf s low high) foreign
+  pub low_not_plain : 2047 * 2 ^ 52 ≤ low → Reads (record_of s low high) foreign
+  pub high_not_plain : 2047 * 2 ^ 52 ≤ high → Reads (record_of s low high) foreign
   -- finer than 2^-32, as every subnormal is
-  pub low-finer : ((x : ℕ) → multiple low ≢ x * 2 ^ 1042) → Reads (recordOf s low high) foreign
-  pub high-finer : ((x : ℕ) → multiple high ≢ x * 2 ^ 1042) → Reads (recordOf s low high) foreign
-  pub high-below : multiple high < multiple low → Reads (recordOf s low high) foreign
-  pub high-level : multiple high ≡ multiple low → multiple low ≢ 0 → Reads (recordOf s low high) foreign
+  pub low_finer : ((x : ℕ) → multiple low ≢ x * 2 ^ 1042) → Reads (record_of s low high) foreign
+  pub high_finer : ((x : ℕ) → multiple high ≢ x * 2 ^ 1042) → Reads (record_of s low high) foreign
+  pub high_below : multiple high < multiple low → Reads (record_of s low high) foreign
+  pub high_level : multiple high ≡ multiple low → multiple low ≢ 0 → Reads (record_of s low high) foreign

@@ -34,9 +34,9 @@ module _ {A : Type 0} where
   any t (x ∷ l) = t x || any t l
 
 -- the first number of a list that passes a test; the number none where none does
-unfoldable pub firstWhere : ℕ → (ℕ → Bool) → List ℕ → ℕ
-firstWhere none t [] = none
-firstWhere none t (x ∷ l) = let r = firstWhere none t l in cond (t x) x r
+unfoldable pub first_where : ℕ → (ℕ → Bool) → List ℕ → ℕ
+first_where none t [] = none
+first_where none t (x ∷ l) = let r = first_where none t l in cond (t x) x r
 
 -- whether a number stands in a list
 unfoldable pub member : ℕ → List ℕ → Bool

@@ -59,19 +59,19 @@ start s = record { station = s; slot = 0 }
 
 -- First rule: the station to which a contact leads from station v: from its sender to its hearer, from no other station.
 -- Document 002's directed edge, of document 000's transitions (v, w, t) the one.
-unfoldable pub leadsTo : Contact → ℕ → Option ℕ
-leadsTo c v = cond (eqb v c.sender) (some c.hearer) none
+unfoldable pub leads_to : Contact → ℕ → Option ℕ
+leads_to c v = cond (eqb v c.sender) (some c.hearer) none
 
 -- Second rule: whether, in a plan, a contact in slot u may follow an appearance in slot t. Strictly later (document 000, Def. 2,
 -- strict), so nothing is sent on in the slot of hearing; and what is heard in slot t goes out in slot t + g or later (document 02,
 -- C-17), and in slot t + h or earlier (C-21; document 002, section 4.3). After the start, which is slot 0, any slot will do.
-unfoldable pub mayFollow : Plan → ℕ → ℕ → Bool
-mayFollow p t u = ltb t u && (eqb t 0 || (leb (t + p.terms.turnaround) u && leb u (t + p.terms.keeping)))
+unfoldable pub may_follow : Plan → ℕ → ℕ → Bool
+may_follow p t u = ltb t u && (eqb t 0 || (leb (t + p.terms.turnaround) u && leb u (t + p.terms.keeping)))
 
 -- For inner contracts: the slots that a contact in slot u may follow beside the start are u - h to u - g, none before slot 1. The first of
 -- them, and the one past the last.
-abbrev pub windowFirst : ℕ → ℕ → ℕ
-windowFirst h u = max 1 (u - h)
+abbrev pub window_first : ℕ → ℕ → ℕ
+window_first h u = max 1 (u - h)
 
-abbrev pub windowEnd : ℕ → ℕ → ℕ
-windowEnd g u = u - g + 1
+abbrev pub window_end : ℕ → ℕ → ℕ
+window_end g u = u - g + 1

@@ -16,8 +16,8 @@ unfoldable pub joined : List (List ℕ) → List ℕ
 joined l = flat_map (λ w. w) l
 
 -- The verdict on entries, by the complete list l. Where l is empty, the empty list is complete and no list is a beginning.
-unfoldable pub verdictOn : List (List ℕ) → List ℕ → Verdict
-verdictOn l e =
+unfoldable pub verdict_on : List (List ℕ) → List ℕ → Verdict
+verdict_on l e =
     cond (same_numbers e (joined l)) complete
     (cond (any (λ i. same_numbers e (joined (take i l))) (below (length l))) beginning wrong)
 

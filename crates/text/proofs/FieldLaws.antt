@@ -7,29 +7,29 @@ use lib.ListN.{length, length-append}
 use Rattle.text.specs.Decimal.{decimal}
 use Rattle.text.specs.Field.{field, fields, labelled}
 
-pub field-length : (x : ℕ) (a : List ℕ) → length (field x a) ≡ length (decimal x) + length a
+pub field_length : (x : ℕ) (a : List ℕ) → length (field x a) ≡ length (decimal x) + length a
 unfolding field
-field-length x a = length-append (decimal x) a
+field_length x a = length-append (decimal x) a
 
-pub fields-length :
+pub fields_length :
     (x : ℕ) (a : List ℕ) (y : ℕ) (b : List ℕ) (z : ℕ) (c : List ℕ) →
     length (fields x a y b z c) ≡
     length (decimal x) + length (decimal y) + length (decimal z) + (length a + length b + length c)
 unfolding fields
-fields-length x a y b z c =
+fields_length x a y b z c =
     omega (
       arith,
       length-append (field x a ++ field y b) (field z c),
       length-append (field x a) (field y b),
-      field-length x a,
-      field-length y b,
-      field-length z c,
+      field_length x a,
+      field_length y b,
+      field_length z c,
     )
 
-pub labelled-length :
+pub labelled_length :
     (label : List ℕ) (x : ℕ) (a : List ℕ) (y : ℕ) (b : List ℕ) (z : ℕ) (c : List ℕ) →
     length (labelled label x a y b z c) ≡
     length label + (length (decimal x) + length (decimal y) + length (decimal z) + (length a + length b + length c))
 unfolding labelled
-labelled-length label x a y b z c =
-    omega (arith, length-append label (fields x a y b z c), fields-length x a y b z c)
+labelled_length label x a y b z c =
+    omega (arith, length-append label (fields x a y b z c), fields_length x a y b z c)

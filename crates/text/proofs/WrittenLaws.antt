@@ -11,15 +11,15 @@ use lib.Seq.{sets, sets-eq, length-sets, take-append_seam, drop-append-add, drop
 use Rattle.text.specs.Written.{written, Put}
 
 -- bytes written within a buffer are its stores, one after the other
-pub written-sets :
+pub written_sets :
     (at : ℕ) (new old : List ℕ) → at + length new ≤ length old → written at new old ≡ sets old at new
 unfolding written
-written-sets at new old fits = sym (sets-eq new old at fits)
+written_sets at new old fits = sym (sets-eq new old at fits)
 
 -- the length of a buffer stays
-pub length-written :
+pub length_written :
     (at : ℕ) (new old : List ℕ) → at + length new ≤ length old → length (written at new old) ≡ length old
-length-written at new old fits = ap length (written-sets at new old fits) ∙ length-sets old at new
+length_written at new old fits = ap length (written_sets at new old fits) ∙ length-sets old at new
 
 -- ---- the loops that write
 
@@ -31,8 +31,8 @@ pub record Writing (at : ℕ) (new old : List ℕ) (i : ℕ) (rest now : List �
 
 module _ (at : ℕ) (new old : List ℕ) where
   -- at first all bytes
-  pub writing-none : Writing at new old at new old
-  writing-none = record { same = refl; ends = refl; left = refl }
+  pub writing_none : Writing at new old at new old
+  writing_none = record { same = refl; ends = refl; left = refl }
 
   -- one byte more
   writing_more :
@@ -46,19 +46,19 @@ module _ (at : ℕ) (new old : List ℕ) where
       }
 
   -- one byte more, the next of those to be written
-  pub writing-next :
+  pub writing_next :
       (i : ℕ) (now : List ℕ) → i < length new → Writing at new old (at + i) (drop i new) now →
       Writing at new old (at + (i + 1)) (drop (i + 1) new) (set now (at + i) (get_or new i 0))
-  writing-next i now h w =
+  writing_next i now h w =
       let e : at + (i + 1) ≡ at + i + 1 = omega arith in
       rw (e, add-one i) (writing_more (at + i) (get_or new i 0) (drop i new) (drop (suc i) new) now (drop-cons new i 0 h) w)
 
   -- at last none
-  pub writing-all :
+  pub writing_all :
       (i : ℕ) (rest now : List ℕ) → at + length new ≤ length old → rest ≡ [] → Writing at new old i rest now →
       Put at new old i now
-  writing-all i rest now fits e w =
+  writing_all i rest now fits e w =
       record {
         place = omega (arith, w.ends, ap length e);
-        contents = sym (ap (sets now i) e) ∙ w.left ∙ sym (written-sets at new old fits);
+        contents = sym (ap (sets now i) e) ∙ w.left ∙ sym (written_sets at new old fits);
       }

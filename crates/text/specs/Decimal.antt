@@ -12,17 +12,17 @@ codes x zero = []
 codes x (suc k) = code x k ∷ codes x k
 
 -- how many of the powers 10^1 .. 10^k are at most x
-unfoldable pub powersUpTo : ℕ → ℕ → ℕ
-powersUpTo x zero = 0
-powersUpTo x (suc k) = powersUpTo x k + cond (leb (10 ^ suc k) x) 1 0
+unfoldable pub powers_up_to : ℕ → ℕ → ℕ
+powers_up_to x zero = 0
+powers_up_to x (suc k) = powers_up_to x k + cond (leb (10 ^ suc k) x) 1 0
 
 -- how many digits a number below 10^20 has; 0 has one
-unfoldable pub digitCount : ℕ → ℕ
-digitCount x = 1 + powersUpTo x 19
+unfoldable pub digit_count : ℕ → ℕ
+digit_count x = 1 + powers_up_to x 19
 
 -- a number below 10^20 in decimal: no leading zero, and one digit for 0
 unfoldable pub decimal : ℕ → List ℕ
-decimal x = codes x (digitCount x)
+decimal x = codes x (digit_count x)
 
 -- the number that begins with the digits of x and goes on with those of a list of codes
 unfoldable pub read_on : ℕ → List ℕ → ℕ

@@ -15,8 +15,8 @@ ascii (string.◌∷◌ c s) = code c ∷ ascii s
 abbrev pub space : List ℕ
 space = 32 ∷ []
 
-abbrev pub lineFeed : List ℕ
-lineFeed = 10 ∷ []
+abbrev pub line_feed : List ℕ
+line_feed = 10 ∷ []
 
 -- a number in decimal, and what stands behind it
 unfoldable pub field : ℕ → List ℕ → List ℕ

@@ -15,17 +15,17 @@ use lib.Dec.{ltb}
 use lib.ListN.{length, take, take-append-drop}
 use lib.Seq.{length-take-le}
 use Rattle.temporal.specs.Walk.{is_at}
-use Rattle.temporal.specs.Shortest.{shortestWalksTo, hops}
+use Rattle.temporal.specs.Shortest.{shortest_walks_to, hops}
 use Rattle.temporal.specs.Bytes.{plan_of}
-use Rattle.temporal.specs.Cause.{first, unless, planCauses, termsCauses, endsCauses, pairCauses}
-use Rattle.temporal.specs.Cursor.{Reply, refused, Moved, stay, Operation, indexIn, move}
-use Rattle.temporal.specs.FirstNext.{Question, list_of, wayCauses, overflow, WayOutcome, wayWork, wayAnswer}
+use Rattle.temporal.specs.Cause.{first, unless, plan_causes, terms_causes, ends_causes, pair_causes}
+use Rattle.temporal.specs.Cursor.{Reply, refused, Moved, stay, Operation, index_in, move}
+use Rattle.temporal.specs.FirstNext.{Question, list_of, way_causes, overflow, WayOutcome, way_work, way_answer}
 use Rattle.temporal.specs.Trace.{
   Call,
-  causeOf,
+  cause_of,
   called,
   wrote,
-  keptOf,
+  kept_of,
   overwritten,
   Meets,
   Trace,
@@ -34,73 +34,73 @@ use Rattle.temporal.specs.Trace.{
   EveryTraceFollows,
 }
 use Rattle.temporal.proofs.CauseLaws.{
-  first-append-left,
-  first-append-right,
+  first_append_left,
+  first_append_right,
   first_head,
   first_tail,
-  or-false-left,
+  or_false_left,
 }
-use Rattle.walks.proofs.ShortestLaws.{hops-bound}
-use Rattle.walks.proofs.PlanLaws.{slots-within}
-use Rattle.walks.proofs.Adequacy.{bounded-ends, in-complete-list, complete-list-rises}
-use Rattle.trace.proofs.CursorLaws.{RisingPaths, index-behind, move-agrees}
+use Rattle.walks.proofs.ShortestLaws.{hops_bound}
+use Rattle.walks.proofs.PlanLaws.{slots_within}
+use Rattle.walks.proofs.Adequacy.{bounded_ends, in_complete_list, complete_list_rises}
+use Rattle.trace.proofs.CursorLaws.{RisingPaths, index_behind, move_agrees}
 
 -- ---- the complete list
 
 -- a list with a member has its hops kept
-kept-member : {w : List ℕ} {l : List (List ℕ)} → Memᴰ w l → hops l ≡ keptOf l
-unfolding keptOf
-kept-member {l = []} m = absurd (Memᴰ.not-nil m)
-kept-member {l = w ∷ l} m = refl
+kept_member : {w : List ℕ} {l : List (List ℕ)} → Memᴰ w l → hops l ≡ kept_of l
+unfolding kept_of
+kept_member {l = []} m = absurd (Memᴰ.not-nil m)
+kept_member {l = w ∷ l} m = refl
 
 -- hops that are within a bound, where there are any, are kept within it
-kept-within : (l : List (List ℕ)) (t : ℕ) → (l ≡ []) ⊎ (hops l ≤ t) → keptOf l ≤ t
-unfolding keptOf
-kept-within l t (inl e) = rw e (omega arith)
-kept-within [] t (inr h) = omega arith
-kept-within (w ∷ l) t (inr h) = h
+kept_within : (l : List (List ℕ)) (t : ℕ) → (l ≡ []) ⊎ (hops l ≤ t) → kept_of l ≤ t
+unfolding kept_of
+kept_within l t (inl e) = rw e (omega arith)
+kept_within [] t (inr h) = omega arith
+kept_within (w ∷ l) t (inr h) = h
 
 module _ (q : Question) (asked : Asked q) where
   -- the walks of a complete list have the kept number of positions each, and they rise
-  pub listOf-paths : RisingPaths (keptOf (list_of q)) (list_of q)
+  pub list_of_paths_law : RisingPaths (kept_of (list_of q)) (list_of q)
   unfolding list_of
-  listOf-paths =
+  list_of_paths_law =
       record {
-        one-length = λ w m.
-            let complete = in-complete-list q.bytes q.stations q.slots q.terms asked.accepted in
-            ((complete q.source q.destination w).0 m).1 ∙ kept-member m;
-        rises = complete-list-rises (plan_of q.bytes q.stations q.slots q.terms) q.source q.destination;
+        one_length = λ w m.
+            let complete = in_complete_list q.bytes q.stations q.slots q.terms asked.accepted in
+            ((complete q.source q.destination w).0 m).1 ∙ kept_member m;
+        rises = complete_list_rises (plan_of q.bytes q.stations q.slots q.terms) q.source q.destination;
       }
 
   -- they have no more positions than the plan has slots
-  pub kept-within-slots : keptOf (list_of q) ≤ q.slots
-  unfolding list_of shortestWalksTo plan_of
-  kept-within-slots =
-      kept-within (list_of q) q.slots
-      (hops-bound
-      (bounded-ends (plan_of q.bytes q.stations q.slots q.terms)
-      (slots-within q.bytes q.stations q.slots q.terms asked.accepted) q.source (is_at q.destination)))
+  pub kept_within_slots : kept_of (list_of q) ≤ q.slots
+  unfolding list_of shortest_walks_to plan_of
+  kept_within_slots =
+      kept_within (list_of q) q.slots
+      (hops_bound
+      (bounded_ends (plan_of q.bytes q.stations q.slots q.terms)
+      (slots_within q.bytes q.stations q.slots q.terms asked.accepted) q.source (is_at q.destination)))
 
 -- ---- a call
 
 -- a call without a cause is lent at least the plan's slots
-pub slots_lent : (c : Call) → causeOf c ≡ 0 → c.question.slots ≤ c.lent
-unfolding causeOf wayCauses pairCauses endsCauses
+pub slots_lent : (c : Call) → cause_of c ≡ 0 → c.question.slots ≤ c.lent
+unfolding cause_of way_causes pair_causes ends_causes
 slots_lent c e =
     let q = c.question in
-    let call = first-append-left (wayCauses q c.lent c.work) (overflow q ∷ []) e in
-    let pair = first-append-right (planCauses q.bytes q.stations q.slots) _ call in
-    let ends = first-append-right (termsCauses q.terms) _ pair in
+    let call = first_append_left (way_causes q c.lent c.work) (overflow q ∷ []) e in
+    let pair = first_append_right (plan_causes q.bytes q.stations q.slots) _ call in
+    let ends = first_append_right (terms_causes q.terms) _ pair in
     let short = first_head 7 _ [] (first_tail 6 _ _ (first_tail 5 _ _ ends)) in
-    ltb-false c.lent q.slots (or-false-left (ltb c.lent q.slots) _ short)
+    ltb-false c.lent q.slots (or_false_left (ltb c.lent q.slots) _ short)
 
 -- the first cause of a list with one more behind it
-first-snoc : (ks : List ℕ) (n : ℕ) → first (ks ++ n ∷ []) ≡ unless (first ks) (λ k. k) n
+first_snoc : (ks : List ℕ) (n : ℕ) → first (ks ++ n ∷ []) ≡ unless (first ks) (λ k. k) n
 unfolding first unless
-first-snoc [] zero = refl
-first-snoc [] (suc n) = refl
-first-snoc (zero ∷ ks) n = first-snoc ks n
-first-snoc (suc k ∷ ks) n = refl
+first_snoc [] zero = refl
+first_snoc [] (suc n) = refl
+first_snoc (zero ∷ ks) n = first_snoc ks n
+first_snoc (suc k ∷ ks) n = refl
 
 -- an outcome is a move's: its answer, and what it leaves in the way buffer
 pub record Moves (a : WayOutcome) (m : Moved) : Type 0 where
@@ -108,64 +108,64 @@ pub record Moves (a : WayOutcome) (m : Moved) : Type 0 where
   pub way : a.way ≡ m.buffer
 
 -- each operation does what the move at its first cause other than 10 does, the cursor put where the way buffer shows it
-pub answer-moves : (o : Operation) (q : Question) (way work : List ℕ)
-    → Moves (wayAnswer o q way work)
-    (move o (first (wayCauses q (length way) (length work) ++ overflow q ∷ [])) (list_of q) (indexIn (list_of q) way) way)
-unfolding wayAnswer wayWork move stay unless
-answer-moves o q way work = rw first-snoc (pick (first (wayCauses q (length way) (length work))))
+pub answer_moves : (o : Operation) (q : Question) (way work : List ℕ)
+    → Moves (way_answer o q way work)
+    (move o (first (way_causes q (length way) (length work) ++ overflow q ∷ [])) (list_of q) (index_in (list_of q) way) way)
+unfolding way_answer way_work move stay unless
+answer_moves o q way work = rw first_snoc (pick (first (way_causes q (length way) (length work))))
   where
     pick : (n : ℕ) → Moves
-        (unless n (λ k. record { reply = refused k; way = way; work = work }) (wayWork o q way work))
-        (move o (unless n (λ k. k) (overflow q)) (list_of q) (indexIn (list_of q) way) way)
+        (unless n (λ k. record { reply = refused k; way = way; work = work }) (way_work o q way work))
+        (move o (unless n (λ k. k) (overflow q)) (list_of q) (index_in (list_of q) way) way)
     pick zero = record { reply = refl; way = refl }
     pick (suc k) = record { reply = refl; way = refl }
 
 -- so does a call of a trace, on the lent beginning of the buffer
-pub meets-moves : (c : Call) (b : List ℕ) (r : Reply) (after : List ℕ) (met : Meets c b r after)
-    → Moves (record { reply = r; way = take c.lent after; work = met.workAfter })
-    (move c.operation (causeOf c) (list_of c.question) (indexIn (list_of c.question) (take c.lent b))
+pub meets_moves : (c : Call) (b : List ℕ) (r : Reply) (after : List ℕ) (met : Meets c b r after)
+    → Moves (record { reply = r; way = take c.lent after; work = met.work_after })
+    (move c.operation (cause_of c) (list_of c.question) (index_in (list_of c.question) (take c.lent b))
     (take c.lent b))
-unfolding causeOf
-meets-moves c b r after met =
+unfolding cause_of
+meets_moves c b r after met =
     rw met.contract
-    (rw (length-take-le c.lent b met.within, met.workLength) at
-    (answer-moves c.operation c.question (take c.lent b) met.work))
+    (rw (length-take-le c.lent b met.within, met.work_length) at
+    (answer_moves c.operation c.question (take c.lent b) met.work))
 
 -- what a call of a trace does is a move on the whole buffer, and that buffer then stands at the cursor
 pub record Follows (l : List (List ℕ)) (m : Moved) (r : Reply) (after : List ℕ) : Type 0 where
   pub reply : r ≡ m.reply
   pub buffer : after ≡ m.buffer
-  pub cursor : indexIn l after ≡ m.cursor
+  pub cursor : index_in l after ≡ m.cursor
 
 -- the cursor being where the buffer shows it, a call of a trace is the cursor's move
-pub call-follows : (q : Question) → Asked q → (c : Call) (b : List ℕ) (r : Reply) (after : List ℕ)
+pub call_follows : (q : Question) → Asked q → (c : Call) (b : List ℕ) (r : Reply) (after : List ℕ)
     → Meets c b r after
-    → (causeOf c ≡ 0 → c.question ≡ q)
-    → Follows (list_of q) (move c.operation (causeOf c) (list_of q) (indexIn (list_of q) b) b) r after
-call-follows q asked c b r after met names =
-    let enough : causeOf c ≡ 0 → keptOf (list_of q) ≤ c.lent =
-    λ e. omega (arith, kept-within-slots q asked, slots_lent c e, ap (λ p. p.slots) (names e)) in
-    let moves = meets-moves c b r after met in
+    → (cause_of c ≡ 0 → c.question ≡ q)
+    → Follows (list_of q) (move c.operation (cause_of c) (list_of q) (index_in (list_of q) b) b) r after
+call_follows q asked c b r after met names =
+    let enough : cause_of c ≡ 0 → kept_of (list_of q) ≤ c.lent =
+    λ e. omega (arith, kept_within_slots q asked, slots_lent c e, ap (λ p. p.slots) (names e)) in
+    let moves = meets_moves c b r after met in
     let agrees =
-    move-agrees (listOf-paths q asked) c.operation (causeOf c) (list_of c.question) b c.lent met.within
+    move_agrees (list_of_paths_law q asked) c.operation (cause_of c) (list_of c.question) b c.lent met.within
     (λ e. (ap list_of (names e), enough e)) in
     let whole = sym (take-append-drop c.lent after) ∙ ap₂ ◌++◌ moves.way met.rest ∙ agrees.buffer in
     record {
       reply = moves.reply ∙ agrees.reply;
       buffer = whole;
-      cursor = ap (indexIn (list_of q)) whole ∙ agrees.cursor;
+      cursor = ap (index_in (list_of q)) whole ∙ agrees.cursor;
     }
 
 -- ---- a trace
 
 -- Every trace, from any buffer, follows the cursor that starts on the walk with which the buffer begins.
-pub every-trace-follows : EveryTraceFollows
+pub every_trace_follows : EveryTraceFollows
 unfolding Trace FollowsCursor overwritten
-every-trace-follows q asked b [] t = tt
-every-trace-follows q asked b (called c r after ∷ es) t =
-    let f = call-follows q asked c b r after t.0 t.1 in
-    let rest = every-trace-follows q asked after es t.2 in
+every_trace_follows q asked b [] t = tt
+every_trace_follows q asked b (called c r after ∷ es) t =
+    let f = call_follows q asked c b r after t.0 t.1 in
+    let rest = every_trace_follows q asked after es t.2 in
     (f.reply, f.buffer, subst₂ (λ at d. FollowsCursor (list_of q) at d es) f.cursor f.buffer rest)
-every-trace-follows q asked b (wrote behind ∷ es) t =
+every_trace_follows q asked b (wrote behind ∷ es) t =
     subst (λ at. FollowsCursor (list_of q) at (overwritten (list_of q) behind b) es)
-    (index-behind (listOf-paths q asked) b behind t.0) (every-trace-follows q asked (overwritten (list_of q) behind b) es t.1)
+    (index_behind (list_of_paths_law q asked) b behind t.0) (every_trace_follows q asked (overwritten (list_of q) behind b) es t.1)

@@ -1,1 +1,2 @@
 // Laws alone: every trace of first way and next way follows the cursor.
+#![tactic(auto)]

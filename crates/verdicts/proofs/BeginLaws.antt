@@ -7,21 +7,21 @@ use mathlib.Core.Option.{Option, none}
 use lib.ListN.{length}
 use Rattle.temporal.specs.Plan.{Terms}
 use Rattle.temporal.specs.Bytes.{plan_of}
-use Rattle.temporal.specs.Cause.{planFault}
+use Rattle.temporal.specs.Cause.{plan_fault}
 use Rattle.temporal.specs.Outcome.{Outcome, entered}
 use Rattle.temporal.specs.Verdict.{Verdict}
 use Rattle.temporal.specs.OutcomeVerdict.{judged, verdict}
-use Rattle.walks.proofs.EnteredLaws.{entered-plan, entered-call, unless-some, unless-none, refusedWith}
-use Rattle.plan.specs.Fault.{planNumber, callNumber, checkNumber}
+use Rattle.walks.proofs.EnteredLaws.{entered_plan, entered_call, unless_some, unless_none, refused_with}
+use Rattle.plan.specs.Fault.{plan_number, call_number, check_number}
 use Rattle.plan.specs.declared.PlanFault.{PlanFault}
 use Rattle.plan.specs.declared.CallFault.{CallFault}
 use Rattle.plan.specs.declared.CheckAnswer.{CheckAnswer}
 use Rattle.plan.specs.declared.CheckAnswer.TheVariants as check-answer
 use Rattle.plan.proofs.Answers.{number-positive, call-number-within}
-use Rattle.calls.specs.Call.{pairCallFault, callCheckNumber}
+use Rattle.calls.specs.Call.{pair_call_fault, call_check_number}
 use Rattle.calls.specs.declared.CallCheck.{CallCheck}
 use Rattle.calls.specs.declared.CallCheck.TheVariants as call-check
-use Rattle.calls.proofs.CallLaws.{free-call}
+use Rattle.calls.proofs.CallLaws.{free_call}
 use Rattle.listing.specs.Answer.{question}
 use Rattle.verdicts.specs.Work.{VerdictReady}
 
@@ -30,43 +30,43 @@ module _ (bs : List ℕ) (n t s z : ℕ) (terms : Terms) (list area : List ℕ) 
   work = judged (plan_of bs n t terms) s z list area
 
   -- a plan that check refuses
-  pub verdict-plan :
-      (r : CheckAnswer) (f : PlanFault) → checkNumber r ≡ planFault bs n t → r ≡ check-answer.Refused f →
-      ◌≡◌ {A = Outcome (Option Verdict) (List ℕ)} (record { number = planNumber f; values = none; buffers = area })
+  pub verdict_plan :
+      (r : CheckAnswer) (f : PlanFault) → check_number r ≡ plan_fault bs n t → r ≡ check-answer.Refused f →
+      ◌≡◌ {A = Outcome (Option Verdict) (List ℕ)} (record { number = plan_number f; values = none; buffers = area })
       (verdict bs n t terms s z list area)
   unfolding verdict
-  verdict-plan r f answer e =
-      let number : planNumber f ≡ planFault bs n t = ap checkNumber (sym e) ∙ answer in
+  verdict_plan r f answer e =
+      let number : plan_number f ≡ plan_fault bs n t = ap check_number (sym e) ∙ answer in
       let some = number-positive f in
-      ap (refusedWith none area work) number ∙ sym (entered-plan none area work bs n t _ (omega arith))
+      ap (refused_with none area work) number ∙ sym (entered_plan none area work bs n t _ (omega arith))
 
-  module _ (ok : planFault bs n t ≡ 0) (r : CallCheck)
-      (answer : callCheckNumber r ≡ pairCallFault n t terms s z 0 0 (length area)) where
+  module _ (ok : plan_fault bs n t ≡ 0) (r : CallCheck)
+      (answer : call_check_number r ≡ pair_call_fault n t terms s z 0 0 (length area)) where
     -- 12, 14, 6, 7 or 8
-    pub verdict-call :
+    pub verdict_call :
         (f : CallFault) → r ≡ call-check.Refused f →
-        ◌≡◌ {A = Outcome (Option Verdict) (List ℕ)} (record { number = callNumber f; values = none; buffers = area })
+        ◌≡◌ {A = Outcome (Option Verdict) (List ℕ)} (record { number = call_number f; values = none; buffers = area })
         (verdict bs n t terms s z list area)
-    unfolding verdict entered pairCallFault
-    verdict-call f e =
-        let number : callNumber f ≡ pairCallFault n t terms s z 0 0 (length area) = ap callCheckNumber (sym e) ∙ answer in
+    unfolding verdict entered pair_call_fault
+    verdict_call f e =
+        let number : call_number f ≡ pair_call_fault n t terms s z 0 0 (length area) = ap call_check_number (sym e) ∙ answer in
         let some = call-number-within f in
-        ap (refusedWith none area work) number ∙ sym (entered-call none area work bs n t _ ok ∙ unless-some _ _ _ (omega arith))
+        ap (refused_with none area work) number ∙ sym (entered_call none area work bs n t _ ok ∙ unless_some _ _ _ (omega arith))
 
     -- none of them
-    pub verdict-works : r ≡ call-check.Free → verdict bs n t terms s z list area ≡ work
-    unfolding verdict entered pairCallFault
-    verdict-works e = entered-call none area work bs n t _ ok ∙ unless-none _ _ _ (sym answer ∙ ap callCheckNumber e)
+    pub verdict_works : r ≡ call-check.Free → verdict bs n t terms s z list area ≡ work
+    unfolding verdict entered pair_call_fault
+    verdict_works e = entered_call none area work bs n t _ ok ∙ unless_none _ _ _ (sym answer ∙ ap call_check_number e)
 
 -- an accepted plan and a free call are what the work asks
-pub verdict-ready :
-    (bs : List ℕ) (n t g h s z : ℕ) (area : List ℕ) → planFault bs n t ≡ 0 → (r : CallCheck) →
-    callCheckNumber r ≡ pairCallFault n t (question bs n t g h s z).terms s z 0 0 (length area) → r ≡ call-check.Free →
+pub verdict_ready :
+    (bs : List ℕ) (n t g h s z : ℕ) (area : List ℕ) → plan_fault bs n t ≡ 0 → (r : CallCheck) →
+    call_check_number r ≡ pair_call_fault n t (question bs n t g h s z).terms s z 0 0 (length area) → r ≡ call-check.Free →
     VerdictReady (question bs n t g h s z) area
-verdict-ready bs n t g h s z area ok r answer e =
-    let f = free-call n t (question bs n t g h s z).terms s z 0 0 (length area) (sym answer ∙ ap callCheckNumber e) in
+verdict_ready bs n t g h s z area ok r answer e =
+    let f = free_call n t (question bs n t g h s z).terms s z 0 0 (length area) (sym answer ∙ ap call_check_number e) in
     record {
       asked = record { accepted = ok; source = f.source; destination = f.destination; different = f.different };
       units = f.units;
-      area = f.area-room;
+      area = f.area_room;
     }

@@ -3,23 +3,23 @@
 use Rattle.std.specs.Prelude.{ℕ, ◌<◌, ◌≤◌, ◌≡◌, List, length, drop}
 use Rattle.temporal.specs.Plan.{Allowed}
 use Rattle.temporal.specs.Bytes.{plan_of}
-use Rattle.temporal.specs.Outcome.{workSize}
+use Rattle.temporal.specs.Outcome.{work_size}
 use Rattle.temporal.specs.OutcomeVerdict.{judged}
 use Rattle.temporal.specs.FirstNext.{Question}
 use Rattle.temporal.specs.Trace.{Asked}
 use Rattle.verdicts.specs.declared.VerdictAnswer.{VerdictAnswer}
-use Rattle.verdicts.specs.Answer.{verdictNumber, verdictGiven}
+use Rattle.verdicts.specs.Answer.{verdict_number, verdict_given}
 
 -- an accepted plan, two different stations of it, allowed terms, and a work area that is long enough
 pub record VerdictReady (q : Question) (work : List ℕ) : Type 0 where
   pub asked : Asked q
   pub units : Allowed q.terms
-  pub area : workSize q.stations q.slots ≤ length work
+  pub area : work_size q.stations q.slots ≤ length work
 
 -- The answer is the definition's; past the operation's part of it the work area is as it was.
 pub record VerdictWorked (q : Question) (list work : List ℕ) (r : VerdictAnswer) (after : List ℕ) : Type 0 where
   pub number :
-      verdictNumber r ≡ (judged (plan_of q.bytes q.stations q.slots q.terms) q.source q.destination list work).number
+      verdict_number r ≡ (judged (plan_of q.bytes q.stations q.slots q.terms) q.source q.destination list work).number
   pub given :
-      verdictGiven r ≡ (judged (plan_of q.bytes q.stations q.slots q.terms) q.source q.destination list work).values
-  pub beyond : drop (workSize q.stations q.slots) after ≡ drop (workSize q.stations q.slots) work
+      verdict_given r ≡ (judged (plan_of q.bytes q.stations q.slots q.terms) q.source q.destination list work).values
+  pub beyond : drop (work_size q.stations q.slots) after ≡ drop (work_size q.stations q.slots) work

@@ -1,12 +1,13 @@
 // The operation that judges a list of positions which somebody else wrote (document 02, C-19): whether it is the complete list of a
 // pair, a proper beginning of it, or wrong. One pass, one completion table, then the list is gone through once.
+#![tactic(auto)]
 ghost use Rattle.std.specs.Prelude.{◌≡◌};
 ghost use Rattle.temporal.specs.Plan.{units};
 ghost use Rattle.temporal.specs.Bytes.{plan_of};
-ghost use Rattle.temporal.specs.Cause.{planFault};
+ghost use Rattle.temporal.specs.Cause.{plan_fault};
 ghost use Rattle.temporal.specs.OutcomeVerdict.{judged, verdict};
 ghost use Rattle.listing.specs.Answer.{question};
-ghost use Rattle.verdicts.specs.Answer.{verdictOutcome};
+ghost use Rattle.verdicts.specs.Answer.{verdict_outcome};
 ghost use Rattle.verdicts.specs.Work.{VerdictReady, VerdictWorked};
 
 use calls::CallCheck;
@@ -15,7 +16,7 @@ use plan::{CallFault, CheckAnswer, Fault};
 use ways::Pair;
 
 // What the operation answers.
-#[derive(Drop)]
+#[derive(Clone, Copy)]
 pub enum VerdictAnswer {
     Judged(Judgement),
     Refused(Fault),
@@ -70,7 +71,7 @@ fn verdict_cleared(
     work: &mut [u64],
 ) -> VerdictAnswer
     requires { VerdictReady (question plan.now n t g h source destination) work.old }
-    ensures { verdictOutcome result work.new ≡
+    ensures { verdict_outcome result work.new ≡
         judged (plan_of plan.now n t (units g h)) source destination list.now work.old }
 {
     let answer = verdict_work(plan, n, t, g, h, source, destination, list, work);
@@ -90,8 +91,8 @@ fn verdict_accepted(
     list: &[u16],
     work: &mut [u64],
 ) -> VerdictAnswer
-    requires { planFault plan.now n t ≡ 0 }
-    ensures { verdictOutcome result work.new ≡
+    requires { plan_fault plan.now n t ≡ 0 }
+    ensures { verdict_outcome result work.new ≡
         verdict plan.now n t (units g h) source destination list.now work.old }
 {
     let CallCheck::Refused(fault) = calls::pair_call(
@@ -122,7 +123,7 @@ pub fn verdict(
     list: &[u16],
     work: &mut [u64],
 ) -> VerdictAnswer
-    ensures { verdictOutcome result work.new ≡
+    ensures { verdict_outcome result work.new ≡
         verdict plan.now n t (units g h) source destination list.now work.old }
 {
     let CheckAnswer::Refused(fault) = plan::check(plan, n, t) else {

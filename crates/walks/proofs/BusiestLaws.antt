@@ -10,8 +10,8 @@ use borrow.Author.Tests.{lt-ltb, le-ltb}
 use lib.Dec.{ltb}
 use Rattle.temporal.specs.Lists.{below, any}
 use Rattle.temporal.specs.Plan.{Plan}
-use Rattle.temporal.specs.Load.{load, isLargest, busiestOf, Busiest}
-use Rattle.lists.proofs.ListLaws.{any-true, any_false, mem_below, first-where}
+use Rattle.temporal.specs.Load.{load, is_largest, busiest_of, Busiest}
+use Rattle.lists.proofs.ListLaws.{any_true, any_false, mem_below, first_where_law}
 
 -- the lowest of the places below n at which f is largest
 record Top (f : ℕ → ℕ) (n : ℕ) : Type 0 where
@@ -55,35 +55,35 @@ top f (suc n) = next (top f n)
 
 module _ (p : Plan) where
   -- a station whose load no other exceeds passes the test
-  largest-passes : (v : ℕ) → ((u : ℕ) → u < p.stations → load p u ≤ load p v) → isLargest p v ≡ true
-  unfolding isLargest
-  largest-passes v h =
+  largest_passes : (v : ℕ) → ((u : ℕ) → u < p.stations → load p u ≤ load p v) → is_largest p v ≡ true
+  unfolding is_largest
+  largest_passes v h =
       ap not
       ((any_false (λ u. ltb (load p v) (load p u)) (below p.stations)).1
       (λ u m. le-ltb (load p v) (load p u) (h u ((mem_below p.stations).0 m))))
 
   -- one whose load another exceeds does not
-  smaller-fails : (v u : ℕ) → u < p.stations → load p v < load p u → isLargest p v ≡ false
-  unfolding isLargest
-  smaller-fails v u h less =
+  smaller_fails : (v u : ℕ) → u < p.stations → load p v < load p u → is_largest p v ≡ false
+  unfolding is_largest
+  smaller_fails v u h less =
       ap not
-      ((any-true (λ u. ltb (load p v) (load p u)) (below p.stations)).1
+      ((any_true (λ u. ltb (load p v) (load p u)) (below p.stations)).1
       (u, (mem_below p.stations).1 h, lt-ltb (load p v) (load p u) less))
 
   -- The busiest station is determined: whichever is as it is to be, is the one that is defined.
-  pub busiest-unique : (v : ℕ) → Busiest p v → busiestOf p ≡ v
-  unfolding busiestOf below
-  busiest-unique v b =
+  pub busiest_unique : (v : ℕ) → Busiest p v → busiest_of p ≡ v
+  unfolding busiest_of below
+  busiest_unique v b =
       let inside = b.station in
-      first-where 0 (isLargest p) 0 p.stations v (omega arith) (omega arith) (largest-passes v b.largest)
-      (λ u h. smaller-fails u v b.station (b.lowest u h))
+      first_where_law 0 (is_largest p) 0 p.stations v (omega arith) (omega arith) (largest_passes v b.largest)
+      (λ u h. smaller_fails u v b.station (b.lowest u h))
 
   -- Document 01's promise, and that no lower-numbered station has as large a load, hold of the one that is defined; so there
   -- always is one.
-  pub busiest-is : 0 < p.stations → Busiest p (busiestOf p)
-  busiest-is some = given p.stations refl some
+  pub busiest_is : 0 < p.stations → Busiest p (busiest_of p)
+  busiest_is some = given p.stations refl some
     where
-      given : (n : ℕ) → n ≡ p.stations → 0 < n → Busiest p (busiestOf p)
+      given : (n : ℕ) → n ≡ p.stations → 0 < n → Busiest p (busiest_of p)
       given zero e h = absurd (omega arith)
       given (suc n) e h =
           let x = top (load p) n in
@@ -93,4 +93,4 @@ module _ (p : Plan) where
             largest = λ u g. x.largest u (omega arith);
             lowest = x.lowest;
           } in
-          subst (λ v. Busiest p v) (sym (busiest-unique x.place there)) there
+          subst (λ v. Busiest p v) (sym (busiest_unique x.place there)) there

@@ -12,41 +12,41 @@ use lib.Dec.{leb, ltb, eqb}
 use lib.ListN.{length}
 use Rattle.temporal.specs.Lists.{from, below}
 use Rattle.temporal.specs.Plan.{Contact}
-use Rattle.temporal.specs.Bytes.{contactAt, records}
+use Rattle.temporal.specs.Bytes.{contact_at, records}
 use Rattle.temporal.specs.Cause.{
   cause,
   first,
   outside,
-  wrongLength,
-  wrongSlot,
-  wrongEnds,
-  isAbove,
-  wrongOrder,
-  recordCauses,
-  planCauses,
-  planFault,
+  wrong_length,
+  wrong_slot,
+  wrong_ends,
+  is_above,
+  wrong_order,
+  record_causes,
+  plan_causes,
+  plan_fault,
 }
-use Rattle.temporal.proofs.CauseLaws.{first-true, first-false, first-append-none, first-append-some}
+use Rattle.temporal.proofs.CauseLaws.{first_true, first_false, first_append_none, first_append_some}
 
 -- ---- one record above another
 
 module _ (c d : Contact) where
-  pub above-slot : c.slot < d.slot → isAbove c d ≡ true
-  unfolding isAbove
-  above-slot h = rw (lt-ltb c.slot d.slot h)
+  pub above_slot : c.slot < d.slot → is_above c d ≡ true
+  unfolding is_above
+  above_slot h = rw (lt-ltb c.slot d.slot h)
 
-  pub below-slot : d.slot < c.slot → isAbove c d ≡ false
-  unfolding isAbove
-  below-slot h = rw (le-ltb c.slot d.slot (omega arith), ne_eqb c.slot d.slot (omega arith))
+  pub below_slot : d.slot < c.slot → is_above c d ≡ false
+  unfolding is_above
+  below_slot h = rw (le-ltb c.slot d.slot (omega arith), ne_eqb c.slot d.slot (omega arith))
 
-  pub above-sender : c.slot ≡ d.slot → c.sender < d.sender → isAbove c d ≡ true
-  unfolding isAbove
-  above-sender s h =
+  pub above_sender : c.slot ≡ d.slot → c.sender < d.sender → is_above c d ≡ true
+  unfolding is_above
+  above_sender s h =
       rw (le-ltb c.slot d.slot (omega arith), eq-eqb c.slot d.slot s, lt-ltb c.sender d.sender h)
 
-  pub below-sender : c.slot ≡ d.slot → d.sender < c.sender → isAbove c d ≡ false
-  unfolding isAbove
-  below-sender s h =
+  pub below_sender : c.slot ≡ d.slot → d.sender < c.sender → is_above c d ≡ false
+  unfolding is_above
+  below_sender s h =
       rw (
         le-ltb c.slot d.slot (omega arith),
         eq-eqb c.slot d.slot s,
@@ -54,9 +54,9 @@ module _ (c d : Contact) where
         ne_eqb c.sender d.sender (omega arith),
       )
 
-  pub above-hearer : c.slot ≡ d.slot → c.sender ≡ d.sender → isAbove c d ≡ ltb c.hearer d.hearer
-  unfolding isAbove
-  above-hearer s h =
+  pub above_hearer : c.slot ≡ d.slot → c.sender ≡ d.sender → is_above c d ≡ ltb c.hearer d.hearer
+  unfolding is_above
+  above_hearer s h =
       rw (
         le-ltb c.slot d.slot (omega arith),
         eq-eqb c.slot d.slot s,
@@ -66,162 +66,162 @@ module _ (c d : Contact) where
 
 -- ---- one record's tests
 
-slot-zero : (t : ℕ) (c : Contact) → c.slot ≡ 0 → wrongSlot t c ≡ true
-unfolding wrongSlot
-slot-zero t c h = rw (eq-eqb c.slot 0 h)
+slot_zero : (t : ℕ) (c : Contact) → c.slot ≡ 0 → wrong_slot t c ≡ true
+unfolding wrong_slot
+slot_zero t c h = rw (eq-eqb c.slot 0 h)
 
-slot-high : (t : ℕ) (c : Contact) → t < c.slot → wrongSlot t c ≡ true
-unfolding wrongSlot
-slot-high t c h = rw (ne_eqb c.slot 0 (omega arith), lt-ltb t c.slot h)
+slot_high : (t : ℕ) (c : Contact) → t < c.slot → wrong_slot t c ≡ true
+unfolding wrong_slot
+slot_high t c h = rw (ne_eqb c.slot 0 (omega arith), lt-ltb t c.slot h)
 
-slot-within : (t : ℕ) (c : Contact) → 0 < c.slot → c.slot ≤ t → wrongSlot t c ≡ false
-unfolding wrongSlot
-slot-within t c low high = rw (ne_eqb c.slot 0 (omega arith), le-ltb t c.slot high)
+slot_within : (t : ℕ) (c : Contact) → 0 < c.slot → c.slot ≤ t → wrong_slot t c ≡ false
+unfolding wrong_slot
+slot_within t c low high = rw (ne_eqb c.slot 0 (omega arith), le-ltb t c.slot high)
 
-ends_same : (n : ℕ) (c : Contact) → c.sender ≡ c.hearer → wrongEnds n c ≡ true
-unfolding wrongEnds
+ends_same : (n : ℕ) (c : Contact) → c.sender ≡ c.hearer → wrong_ends n c ≡ true
+unfolding wrong_ends
 ends_same n c h = rw (eq-eqb c.sender c.hearer h)
 
-sender-high : (n : ℕ) (c : Contact) → c.sender ≢ c.hearer → n ≤ c.sender → wrongEnds n c ≡ true
-unfolding wrongEnds
-sender-high n c apart h = rw (ne_eqb c.sender c.hearer apart, le-leb n c.sender h)
+sender_high : (n : ℕ) (c : Contact) → c.sender ≢ c.hearer → n ≤ c.sender → wrong_ends n c ≡ true
+unfolding wrong_ends
+sender_high n c apart h = rw (ne_eqb c.sender c.hearer apart, le-leb n c.sender h)
 
-hearer-high : (n : ℕ) (c : Contact) → c.sender ≢ c.hearer → c.sender < n → n ≤ c.hearer → wrongEnds n c ≡ true
-unfolding wrongEnds
-hearer-high n c apart low h =
+hearer_high : (n : ℕ) (c : Contact) → c.sender ≢ c.hearer → c.sender < n → n ≤ c.hearer → wrong_ends n c ≡ true
+unfolding wrong_ends
+hearer_high n c apart low h =
     rw (ne_eqb c.sender c.hearer apart, lt-leb n c.sender low, le-leb n c.hearer h)
 
-ends-within : (n : ℕ) (c : Contact) → c.sender ≢ c.hearer → c.sender < n → c.hearer < n → wrongEnds n c ≡ false
-unfolding wrongEnds
-ends-within n c apart sender hearer =
+ends_within : (n : ℕ) (c : Contact) → c.sender ≢ c.hearer → c.sender < n → c.hearer < n → wrong_ends n c ≡ false
+unfolding wrong_ends
+ends_within n c apart sender hearer =
     rw (ne_eqb c.sender c.hearer apart, lt-leb n c.sender sender, lt-leb n c.hearer hearer)
 
 -- ---- the first cause of the record at i, which is the contact c
 
-module _ (bs : List ℕ) (n t i : ℕ) (c : Contact) (at : c ≡ contactAt bs i) where
-  pub record-slot-zero : c.slot ≡ 0 → first (recordCauses bs n t i) ≡ 3
-  unfolding recordCauses
-  record-slot-zero h = first-true 2 _ _ (rw (← at) (slot-zero t c h))
+module _ (bs : List ℕ) (n t i : ℕ) (c : Contact) (at : c ≡ contact_at bs i) where
+  pub record_slot_zero : c.slot ≡ 0 → first (record_causes bs n t i) ≡ 3
+  unfolding record_causes
+  record_slot_zero h = first_true 2 _ _ (rw (← at) (slot_zero t c h))
 
-  pub record-slot-high : t < c.slot → first (recordCauses bs n t i) ≡ 3
-  unfolding recordCauses
-  record-slot-high h = first-true 2 _ _ (rw (← at) (slot-high t c h))
+  pub record_slot_high : t < c.slot → first (record_causes bs n t i) ≡ 3
+  unfolding record_causes
+  record_slot_high h = first_true 2 _ _ (rw (← at) (slot_high t c h))
 
   module _ (low : 0 < c.slot) (high : c.slot ≤ t) where
-    pub record-ends-same : c.sender ≡ c.hearer → first (recordCauses bs n t i) ≡ 4
-    unfolding recordCauses
-    record-ends-same h =
-        first-false 3 _ _ (rw (← at) (slot-within t c low high)) ∙ first-true 3 _ _ (rw (← at) (ends_same n c h))
+    pub record_ends_same : c.sender ≡ c.hearer → first (record_causes bs n t i) ≡ 4
+    unfolding record_causes
+    record_ends_same h =
+        first_false 3 _ _ (rw (← at) (slot_within t c low high)) ∙ first_true 3 _ _ (rw (← at) (ends_same n c h))
 
-    pub record-sender-high : c.sender ≢ c.hearer → n ≤ c.sender → first (recordCauses bs n t i) ≡ 4
-    unfolding recordCauses
-    record-sender-high apart h =
-        first-false 3 _ _ (rw (← at) (slot-within t c low high)) ∙ first-true 3 _ _ (rw (← at) (sender-high n c apart h))
+    pub record_sender_high : c.sender ≢ c.hearer → n ≤ c.sender → first (record_causes bs n t i) ≡ 4
+    unfolding record_causes
+    record_sender_high apart h =
+        first_false 3 _ _ (rw (← at) (slot_within t c low high)) ∙ first_true 3 _ _ (rw (← at) (sender_high n c apart h))
 
-    pub record-hearer-high : c.sender ≢ c.hearer → c.sender < n → n ≤ c.hearer → first (recordCauses bs n t i) ≡ 4
-    unfolding recordCauses
-    record-hearer-high apart sender h =
-        first-false 3 _ _ (rw (← at) (slot-within t c low high)) ∙
-        first-true 3 _ _ (rw (← at) (hearer-high n c apart sender h))
+    pub record_hearer_high : c.sender ≢ c.hearer → c.sender < n → n ≤ c.hearer → first (record_causes bs n t i) ≡ 4
+    unfolding record_causes
+    record_hearer_high apart sender h =
+        first_false 3 _ _ (rw (← at) (slot_within t c low high)) ∙
+        first_true 3 _ _ (rw (← at) (hearer_high n c apart sender h))
 
     module _ (apart : c.sender ≢ c.hearer) (sender : c.sender < n) (hearer : c.hearer < n) where
-      pub record-order : first (recordCauses bs n t i) ≡ first (cause 5 (wrongOrder bs i) ∷ [])
-      unfolding recordCauses
-      record-order =
-          first-false 3 _ _ (rw (← at) (slot-within t c low high)) ∙
-          first-false 4 _ _ (rw (← at) (ends-within n c apart sender hearer))
+      pub record_order : first (record_causes bs n t i) ≡ first (cause 5 (wrong_order bs i) ∷ [])
+      unfolding record_causes
+      record_order =
+          first_false 3 _ _ (rw (← at) (slot_within t c low high)) ∙
+          first_false 4 _ _ (rw (← at) (ends_within n c apart sender hearer))
 
-      pub record-first : i ≡ 0 → first (recordCauses bs n t i) ≡ 0
-      unfolding wrongOrder first
-      record-first h = record-order ∙ first-false 5 _ [] (rw h)
+      pub record_first : i ≡ 0 → first (record_causes bs n t i) ≡ 0
+      unfolding wrong_order first
+      record_first h = record_order ∙ first_false 5 _ [] (rw h)
 
-      pub record-above : (b : Contact) → b ≡ contactAt bs (i - 1) → isAbove b c ≡ true → first (recordCauses bs n t i) ≡ 0
-      unfolding wrongOrder first
-      record-above b before h =
-          record-order ∙ first-false 5 _ [] (rw (← before, ← at, h) (and-not-true (ltb 0 i)))
+      pub record_above : (b : Contact) → b ≡ contact_at bs (i - 1) → is_above b c ≡ true → first (record_causes bs n t i) ≡ 0
+      unfolding wrong_order first
+      record_above b before h =
+          record_order ∙ first_false 5 _ [] (rw (← before, ← at, h) (and_not_true (ltb 0 i)))
         where
-          and-not-true : (x : Bool) → (x && not true) ≡ false
-          and-not-true true = refl
-          and-not-true false = refl
+          and_not_true : (x : Bool) → (x && not true) ≡ false
+          and_not_true true = refl
+          and_not_true false = refl
 
-      pub record-not-above :
-          (b : Contact) → b ≡ contactAt bs (i - 1) → 0 < i → isAbove b c ≡ false → first (recordCauses bs n t i) ≡ 5
-      unfolding wrongOrder
-      record-not-above b before later h =
-          record-order ∙ first-true 4 _ _ (rw (← before, ← at, h, lt-ltb 0 i later))
+      pub record_not_above :
+          (b : Contact) → b ≡ contact_at bs (i - 1) → 0 < i → is_above b c ≡ false → first (record_causes bs n t i) ≡ 5
+      unfolding wrong_order
+      record_not_above b before later h =
+          record_order ∙ first_true 4 _ _ (rw (← before, ← at, h, lt-ltb 0 i later))
 
 -- ---- the first cause of a plan
 
 -- the first cause of the records from position i on
-unfoldable pub faultFrom : List ℕ → ℕ → ℕ → ℕ → ℕ
-faultFrom bs n t i = first (flat_map (recordCauses bs n t) (from i (records bs - i)))
+unfoldable pub fault_from : List ℕ → ℕ → ℕ → ℕ → ℕ
+fault_from bs n t i = first (flat_map (record_causes bs n t) (from i (records bs - i)))
 
 module _ (bs : List ℕ) (n t : ℕ) where
-  pub plan-no-station : n ≡ 0 → planFault bs n t ≡ 1
-  unfolding planFault planCauses outside
-  plan-no-station h = first-true 0 _ _ (rw (eq-eqb n 0 h))
+  pub plan_no_station : n ≡ 0 → plan_fault bs n t ≡ 1
+  unfolding plan_fault plan_causes outside
+  plan_no_station h = first_true 0 _ _ (rw (eq-eqb n 0 h))
 
-  pub plan-many-stations : 256 < n → planFault bs n t ≡ 1
-  unfolding planFault planCauses outside
-  plan-many-stations h = first-true 0 _ _ (rw (ne_eqb n 0 (omega arith), lt-ltb 256 n h))
+  pub plan_many_stations : 256 < n → plan_fault bs n t ≡ 1
+  unfolding plan_fault plan_causes outside
+  plan_many_stations h = first_true 0 _ _ (rw (ne_eqb n 0 (omega arith), lt-ltb 256 n h))
 
-  module _ (some-station : n ≢ 0) (stations : n ≤ 256) where
-    pub plan-no-slot : t ≡ 0 → planFault bs n t ≡ 1
-    unfolding planFault planCauses outside
-    plan-no-slot h = first-true 0 _ _ (rw (ne_eqb n 0 some-station, le-ltb 256 n stations, eq-eqb t 0 h))
+  module _ (some_station : n ≢ 0) (stations : n ≤ 256) where
+    pub plan_no_slot : t ≡ 0 → plan_fault bs n t ≡ 1
+    unfolding plan_fault plan_causes outside
+    plan_no_slot h = first_true 0 _ _ (rw (ne_eqb n 0 some_station, le-ltb 256 n stations, eq-eqb t 0 h))
 
-    pub plan-many-slots : 255 < t → planFault bs n t ≡ 1
-    unfolding planFault planCauses outside
-    plan-many-slots h =
-        first-true 0 _ _
-        (rw (ne_eqb n 0 some-station, le-ltb 256 n stations, ne_eqb t 0 (omega arith), lt-ltb 255 t h))
+    pub plan_many_slots : 255 < t → plan_fault bs n t ≡ 1
+    unfolding plan_fault plan_causes outside
+    plan_many_slots h =
+        first_true 0 _ _
+        (rw (ne_eqb n 0 some_station, le-ltb 256 n stations, ne_eqb t 0 (omega arith), lt-ltb 255 t h))
 
-    module _ (some-slot : t ≢ 0) (slots : t ≤ 255) where
+    module _ (some_slot : t ≢ 0) (slots : t ≤ 255) where
       within : outside n t ≡ false
       unfolding outside
-      within = rw (ne_eqb n 0 some-station, le-ltb 256 n stations, ne_eqb t 0 some-slot, le-ltb 255 t slots)
+      within = rw (ne_eqb n 0 some_station, le-ltb 256 n stations, ne_eqb t 0 some_slot, le-ltb 255 t slots)
 
-      pub plan-part-record : length bs % 6 ≢ 0 → planFault bs n t ≡ 2
-      unfolding planFault planCauses wrongLength
-      plan-part-record h = first-false 1 _ _ within ∙ first-true 1 _ _ (rw (ne_eqb (length bs % 6) 0 h))
+      pub plan_part_record : length bs % 6 ≢ 0 → plan_fault bs n t ≡ 2
+      unfolding plan_fault plan_causes wrong_length
+      plan_part_record h = first_false 1 _ _ within ∙ first_true 1 _ _ (rw (ne_eqb (length bs % 6) 0 h))
 
       module _ (whole : length bs % 6 ≡ 0) where
-        pub plan-many-records : 8192 < length bs / 6 → planFault bs n t ≡ 2
-        unfolding planFault planCauses wrongLength records
-        plan-many-records h =
-            first-false 1 _ _ within ∙
-            first-true 1 _ _ (rw (eq-eqb (length bs % 6) 0 whole, lt-ltb 8192 (length bs / 6) h))
+        pub plan_many_records : 8192 < length bs / 6 → plan_fault bs n t ≡ 2
+        unfolding plan_fault plan_causes wrong_length records
+        plan_many_records h =
+            first_false 1 _ _ within ∙
+            first_true 1 _ _ (rw (eq-eqb (length bs % 6) 0 whole, lt-ltb 8192 (length bs / 6) h))
 
         -- with 1 and 2 excluded, the records decide
-        pub plan-records : length bs / 6 ≤ 8192 → planFault bs n t ≡ faultFrom bs n t 0
-        unfolding planFault planCauses wrongLength records below faultFrom
-        plan-records h =
-            first-false 1 _ _ within ∙
-            first-false 2 _ _ (rw (eq-eqb (length bs % 6) 0 whole, le-ltb 8192 (length bs / 6) h)) ∙
-            ap (λ k. first (flat_map (recordCauses bs n t) (from 0 k))) (same_number (length bs / 6))
+        pub plan_records : length bs / 6 ≤ 8192 → plan_fault bs n t ≡ fault_from bs n t 0
+        unfolding plan_fault plan_causes wrong_length records below fault_from
+        plan_records h =
+            first_false 1 _ _ within ∙
+            first_false 2 _ _ (rw (eq-eqb (length bs % 6) 0 whole, le-ltb 8192 (length bs / 6) h)) ∙
+            ap (λ k. first (flat_map (record_causes bs n t) (from 0 k))) (same_number (length bs / 6))
           where
             same_number : (k : ℕ) → k ≡ k - 0
             same_number k = omega arith
 
-  from-here : (i : ℕ) → i < records bs →
-      faultFrom bs n t i ≡ first (recordCauses bs n t i ++ flat_map (recordCauses bs n t) (from (i + 1) (records bs - (i + 1))))
-  unfolding faultFrom from flat_map
-  from-here i h =
+  from_here : (i : ℕ) → i < records bs →
+      fault_from bs n t i ≡ first (record_causes bs n t i ++ flat_map (record_causes bs n t) (from (i + 1) (records bs - (i + 1))))
+  unfolding fault_from from flat_map
+  from_here i h =
       let one_more : records bs - i ≡ suc (records bs - suc i) = omega arith in
       rw (one_more, add-one i)
 
   -- a record without a cause is passed over
-  pub records-pass :
-      (i : ℕ) → i < records bs → first (recordCauses bs n t i) ≡ 0 → faultFrom bs n t i ≡ faultFrom bs n t (i + 1)
-  unfolding faultFrom
-  records-pass i h none = from-here i h ∙ first-append-none _ _ none
+  pub records_pass :
+      (i : ℕ) → i < records bs → first (record_causes bs n t i) ≡ 0 → fault_from bs n t i ≡ fault_from bs n t (i + 1)
+  unfolding fault_from
+  records_pass i h none = from_here i h ∙ first_append_none _ _ none
 
   -- a record with a cause decides
-  pub records-stop :
-      (i : ℕ) → i < records bs → 0 < first (recordCauses bs n t i) → faultFrom bs n t i ≡ first (recordCauses bs n t i)
-  records-stop i h some = from-here i h ∙ first-append-some _ _ some
+  pub records_stop :
+      (i : ℕ) → i < records bs → 0 < first (record_causes bs n t i) → fault_from bs n t i ≡ first (record_causes bs n t i)
+  records_stop i h some = from_here i h ∙ first_append_some _ _ some
 
   -- past the last record there is no cause
-  pub records-end : (i : ℕ) → records bs ≤ i → faultFrom bs n t i ≡ 0
-  unfolding faultFrom from flat_map first
-  records-end i h = let none : records bs - i ≡ 0 = omega arith in rw none
+  pub records_end : (i : ℕ) → records bs ≤ i → fault_from bs n t i ≡ 0
+  unfolding fault_from from flat_map first
+  records_end i h = let none : records bs - i ≡ 0 = omega arith in rw none

@@ -10,59 +10,59 @@ use mathlib.Core.Option.{some}
 use mathlib.Core.Path.{◌≡◌, sym, ap, ◌∙◌}
 use native.Mathlib.Omega.{arith}
 use lib.ListN.{length}
-use Rattle.temporal.specs.Plan.{Plan, Appearance, start, leadsTo}
-use Rattle.temporal.specs.Walk.{step, run, last_or, stationsOf, endsIn}
-use Rattle.temporal.specs.Definition3.{startingPoints}
-use Rattle.walks.proofs.RuleLaws.{follows-later, follows-start}
-use Rattle.walks.proofs.WalkLaws.{StepBy, step-inv, step-intro, run-nil, run-cons, run-slots}
-use Rattle.walks.proofs.WalkLaws.{ends-intro, ends-nil, ends-step, ends-after}
+use Rattle.temporal.specs.Plan.{Plan, Appearance, start, leads_to}
+use Rattle.temporal.specs.Walk.{step, run, last_or, stations_of, ends_in}
+use Rattle.temporal.specs.Definition3.{starting_points}
+use Rattle.walks.proofs.RuleLaws.{follows_later, follows_start}
+use Rattle.walks.proofs.WalkLaws.{StepBy, step_inv, step_intro, run_nil, run_cons, run_slots}
+use Rattle.walks.proofs.WalkLaws.{ends_intro, ends_nil, ends_step, ends_after}
 use Rattle.walks.proofs.PathLaws.{Shorter}
 
 module _ (p : Plan) where
   -- a step from an appearance of s is one from the start of s
-  pub step-from-start :
+  pub step_from_start :
       (s : ℕ) (x : Appearance) (i : ℕ) {y : Appearance} → x.station ≡ s → step p x i ≡ some y → step p (start s) i ≡ some y
-  step-from-start s x i {y} here e = step-intro p (start s) i (again (step-inv p x i e))
+  step_from_start s x i {y} here e = step_intro p (start s) i (again (step_inv p x i e))
     where
       again : StepBy p x i y → StepBy p (start s) i y
       again b =
-          let later = follows-later p x.slot b.contact.slot b.follows in
+          let later = follows_later p x.slot b.contact.slot b.follows in
           record {
             contact = b.contact;
             at_position = b.at_position;
-            same-slot = b.same-slot;
-            follows = follows-start p b.contact.slot (omega arith);
-            leads = ap (leadsTo b.contact) (sym here) ∙ b.leads;
+            same_slot_law = b.same_slot_law;
+            follows = follows_start p b.contact.slot (omega arith);
+            leads = ap (leads_to b.contact) (sym here) ∙ b.leads;
           }
 
 -- Walks that end in a test which an earlier appearance passes wherever a later one of its station does.
 module _ (p : Plan) (t : Appearance → Bool)
     (sooner : (x x' : Appearance) → x'.station ≡ x.station → x'.slot ≤ x.slot → t x ≡ true → t x' ≡ true) where
   -- such a walk from an appearance of s is one from the start of s
-  pub ends-from-start :
-      (s : ℕ) (x : Appearance) (w : List ℕ) → x.station ≡ s → endsIn p x t w ≡ true → endsIn p (start s) t w ≡ true
-  ends-from-start s x [] here e =
-      ends-nil p (start s) t ∙ sooner x (start s) (sym here) (omega arith) (sym (ends-nil p x t) ∙ e)
-  ends-from-start s x (i ∷ w) here e =
-      let (y, steps, rest) = ends-step p x t i w e in
-      ends-after p (start s) t i w (step-from-start p s x i here steps) rest
+  pub ends_from_start :
+      (s : ℕ) (x : Appearance) (w : List ℕ) → x.station ≡ s → ends_in p x t w ≡ true → ends_in p (start s) t w ≡ true
+  ends_from_start s x [] here e =
+      ends_nil p (start s) t ∙ sooner x (start s) (sym here) (omega arith) (sym (ends_nil p x t) ∙ e)
+  ends_from_start s x (i ∷ w) here e =
+      let (y, steps, rest) = ends_step p x t i w e in
+      ends_after p (start s) t i w (step_from_start p s x i here steps) rest
 
   -- where such a walk comes to s, what follows that visit is a shorter one from the start of s
-  pub start-over :
+  pub start_over :
       (s : ℕ) (x : Appearance) (w : List ℕ) {l : List Appearance} → run p x w ≡ some l → t (last_or x l) ≡ true →
-      Memᴰ s (stationsOf l) → Shorter p (start s) t w
+      Memᴰ s (stations_of l) → Shorter p (start s) t w
   unfolding last_or
-  start-over s x [] e q m = absurd (mathlib.Core.List.Memᴰ.not-nil (rw (← run-nil p x e) at m))
-  start-over s x (i ∷ w) e q m =
-      let r = run-cons p x i w e in
-      let at-end : t (last_or r.next r.others) ≡ true = rw (← r.whole) at q in
-      let visited : Memᴰ s (stationsOf (r.next ∷ r.others)) = rw (← r.whole) at m in
-      let further = start-over s r.next w r.goes_on at-end in
+  start_over s x [] e q m = absurd (mathlib.Core.List.Memᴰ.not-nil (rw (← run_nil p x e) at m))
+  start_over s x (i ∷ w) e q m =
+      let r = run_cons p x i w e in
+      let at_end : t (last_or r.next r.others) ≡ true = rw (← r.whole) at q in
+      let visited : Memᴰ s (stations_of (r.next ∷ r.others)) = rw (← r.whole) at m in
+      let further = start_over s r.next w r.goes_on at_end in
       ⊎_elim
       (λ (same : s ≡ r.next.station).
       record {
         walk = w;
-        ends = ends-from-start s r.next w (sym same) (ends-intro p r.next t w r.goes_on at-end);
+        ends = ends_from_start s r.next w (sym same) (ends_intro p r.next t w r.goes_on at_end);
         fewer = omega arith;
       })
       (λ m'. let k = further m' in record { walk = k.walk; ends = k.ends; fewer = longer k.fewer })
@@ -74,23 +74,23 @@ module _ (p : Plan) (t : Appearance → Bool)
   -- where such a walk is at the station of its end before its end, what lies before that is a shorter one
   pub cut_short :
       (x : Appearance) (w : List ℕ) {l : List Appearance} → run p x w ≡ some l → t (last_or x l) ≡ true →
-      Memᴰ (last_or x l).station (startingPoints x l) → Shorter p x t w
-  unfolding startingPoints last_or
-  cut_short x [] e q m = absurd (mathlib.Core.List.Memᴰ.not-nil (rw (← run-nil p x e) at m))
+      Memᴰ (last_or x l).station (starting_points x l) → Shorter p x t w
+  unfolding starting_points last_or
+  cut_short x [] e q m = absurd (mathlib.Core.List.Memᴰ.not-nil (rw (← run_nil p x e) at m))
   cut_short x (i ∷ w) {l} e q m =
-      let r = run-cons p x i w e in
-      let at-end : t (last_or r.next r.others) ≡ true = rw (← r.whole) at q in
-      let further = cut_short r.next w r.goes_on at-end in
-      let slots = run-slots p x (i ∷ w) e in
+      let r = run_cons p x i w e in
+      let at_end : t (last_or r.next r.others) ≡ true = rw (← r.whole) at q in
+      let further = cut_short r.next w r.goes_on at_end in
+      let slots = run_slots p x (i ∷ w) e in
       ⊎_elim
       (λ (same : (last_or r.next r.others).station ≡ x.station).
       record {
         walk = [];
-        ends = ends-nil p x t ∙ sooner (last_or r.next r.others) x (sym same) (rw (← r.whole) at (earlier slots)) at-end;
+        ends = ends_nil p x t ∙ sooner (last_or r.next r.others) x (sym same) (rw (← r.whole) at (earlier slots)) at_end;
         fewer = omega arith;
       })
       (λ m'. let k = further m' in
-      record { walk = i ∷ k.walk; ends = ends-after p x t i k.walk r.steps k.ends; fewer = one_more k.fewer })
+      record { walk = i ∷ k.walk; ends = ends_after p x t i k.walk r.steps k.ends; fewer = one_more k.fewer })
       (mathlib.Core.List.Memᴰ.cases_cons (rw (← r.whole) at m))
     where
       earlier : x.slot + suc (length w) ≤ (last_or x l).slot → x.slot ≤ (last_or x l).slot

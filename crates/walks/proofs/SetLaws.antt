@@ -14,56 +14,56 @@ use lib.Dec.{eqb}
 use lib.ListN.{length}
 use Rattle.temporal.specs.Lists.{below, sum, select, any}
 use Rattle.temporal.specs.Plan.{Plan, Terms, Appearance, start}
-use Rattle.temporal.specs.Walk.{run, last_or, stationsOf, is_at, isInterior}
-use Rattle.temporal.specs.Definition3.{startingPoints}
-use Rattle.temporal.specs.Shortest.{shortestWalksTo, hops, count, throughIn, through}
-use Rattle.temporal.specs.Set.{touches, touchedIn, touched}
+use Rattle.temporal.specs.Walk.{run, last_or, stations_of, is_at, is_interior}
+use Rattle.temporal.specs.Definition3.{starting_points}
+use Rattle.temporal.specs.Shortest.{shortest_walks_to, hops, count, through_in, through}
+use Rattle.temporal.specs.Set.{touches, touched_in, touched}
 use Rattle.temporal.specs.Bytes.{plan_of}
-use Rattle.temporal.specs.Cause.{planFault}
+use Rattle.temporal.specs.Cause.{plan_fault}
 use Rattle.lists.proofs.ListLaws.{
-  true-or-false,
-  not-both,
-  any-ext,
-  any-true,
+  true_or_false,
+  not_both,
+  any_ext,
+  any_true,
   any_false,
   mem_below,
-  mem-select,
-  select-ext,
-  select-none,
-  length-select,
-  sum-member,
-  sum-zero,
-  sum-exchange,
-  length-zero,
+  mem_select,
+  select_ext,
+  select_none,
+  length_select,
+  sum_member,
+  sum_zero,
+  sum_exchange,
+  length_zero,
 }
-use Rattle.walks.proofs.PathLaws.{interior-intro}
-use Rattle.walks.proofs.WalkLaws.{run-cons, ends-inv}
-use Rattle.walks.proofs.Adequacy.{in-complete-list, no_return, walk-ends-within}
+use Rattle.walks.proofs.PathLaws.{interior_intro}
+use Rattle.walks.proofs.WalkLaws.{run_cons, ends_inv}
+use Rattle.walks.proofs.Adequacy.{in_complete_list, no_return, walk_ends_within}
 
 -- ---- lists
 
 -- fewer members pass a stricter test
-length-select-less :
+length_select_less :
     {A : Type 0} (t u : A → Bool) (l : List A) → ((x : A) → Memᴰ x l → t x ≡ true → u x ≡ true) →
     length (select t l) ≤ length (select u l)
 unfolding select
-length-select-less t u [] h = omega arith
-length-select-less t u (x ∷ l) h =
-    go (t x) (u x) (h x (Memᴰ.head refl)) (length-select-less t u l (λ y m. h y (Memᴰ.tail m)))
+length_select_less t u [] h = omega arith
+length_select_less t u (x ∷ l) h =
+    go (t x) (u x) (h x (Memᴰ.head refl)) (length_select_less t u l (λ y m. h y (Memᴰ.tail m)))
   where
     go : (a b : Bool) → (a ≡ true → b ≡ true) → length (select t l) ≤ length (select u l)
         → length (cond a (x ∷ select t l) (select t l)) ≤ length (cond b (x ∷ select u l) (select u l))
     go true true f less = omega arith
-    go true false f less = absurd (not-both (f refl) refl)
+    go true false f less = absurd (not_both (f refl) refl)
     go false true f less = omega arith
     go false false f less = less
 
 -- all members pass
-pub select-all : {A : Type 0} (t : A → Bool) (l : List A) → ((x : A) → Memᴰ x l → t x ≡ true) → select t l ≡ l
+pub select_all : {A : Type 0} (t : A → Bool) (l : List A) → ((x : A) → Memᴰ x l → t x ≡ true) → select t l ≡ l
 unfolding select
-select-all t [] h = refl
-select-all t (x ∷ l) h =
-    rw (h x (Memᴰ.head refl)) (ap (◌∷◌ x) (select-all t l (λ y m. h y (Memᴰ.tail m))))
+select_all t [] h = refl
+select_all t (x ∷ l) h =
+    rw (h x (Memᴰ.head refl)) (ap (◌∷◌ x) (select_all t l (λ y m. h y (Memᴰ.tail m))))
 
 -- a sum of smaller terms is smaller
 sum_less :
@@ -73,154 +73,154 @@ sum_less f g [] h = omega arith
 sum_less f g (x ∷ l) h = let here = h x in let rest = sum_less f g l h in omega arith
 
 -- where some member passes, at least one is counted
-any-at-most : (t : ℕ → Bool) (l : List ℕ) → cond (any t l) 1 0 ≤ sum (map (λ v. cond (t v) 1 0) l)
-any-at-most t l =
+any_at_most : (t : ℕ → Bool) (l : List ℕ) → cond (any t l) 1 0 ≤ sum (map (λ v. cond (t v) 1 0) l)
+any_at_most t l =
     ⊎_elim
     (λ (e : any t l ≡ true).
-    let (v, m, q) = (any-true t l).0 e in
+    let (v, m, q) = (any_true t l).0 e in
     let one : cond {A = ℕ} (t v) 1 0 ≡ 1 = ap (λ b. cond b 1 0) q in
-    let less = sum-member (λ v. cond {A = ℕ} (t v) 1 0) m in
+    let less = sum_member (λ v. cond {A = ℕ} (t v) 1 0) m in
     rw e (omega arith))
     (λ (e : any t l ≡ false). rw e (omega arith))
-    (true-or-false (any t l))
+    (true_or_false (any t l))
 
 -- ---- a walk and a set
 
 module _ (p : Plan) (s z : ℕ) where
   -- a member inside touches the walk
-  touches-intro :
-      (m : ℕ → Bool) (v : ℕ) (w : List ℕ) → v < p.stations → m v ≡ true → isInterior p s z v w ≡ true →
+  touches_intro :
+      (m : ℕ → Bool) (v : ℕ) (w : List ℕ) → v < p.stations → m v ≡ true → is_interior p s z v w ≡ true →
       touches p s z m w ≡ true
   unfolding touches
-  touches-intro m v w h e i =
-      (any-true (λ v. m v && isInterior p s z v w) (below p.stations)).1
-      (v, (mem_below p.stations).1 h, (and-eq-true_iff (m v) (isInterior p s z v w)).1 (e, i))
+  touches_intro m v w h e i =
+      (any_true (λ v. m v && is_interior p s z v w) (below p.stations)).1
+      (v, (mem_below p.stations).1 h, (and-eq-true_iff (m v) (is_interior p s z v w)).1 (e, i))
 
   -- For the empty set it is 0.
   pub touched_none : (m : ℕ → Bool) → ((v : ℕ) → v < p.stations → m v ≡ false) → touched p s z m ≡ 0
   unfolding touched touches
   touched_none m none =
       ap length
-      (select-none (shortestWalksTo p s z)
+      (select_none (shortest_walks_to p s z)
       (λ w there.
-      (any_false (λ v. m v && isInterior p s z v w) (below p.stations)).1
+      (any_false (λ v. m v && is_interior p s z v w) (below p.stations)).1
       (λ v h. rw (none v ((mem_below p.stations).0 h)))))
 
   -- where there is no walk it is 0
-  pub touched-empty : (m : ℕ → Bool) → shortestWalksTo p s z ≡ [] → touched p s z m ≡ 0
+  pub touched_empty : (m : ℕ → Bool) → shortest_walks_to p s z ≡ [] → touched p s z m ≡ 0
   unfolding touched select
-  touched-empty m e = rw e
+  touched_empty m e = rw e
 
   -- two tests that agree on the stations
-  pub touched-same :
+  pub touched_same :
       (m m' : ℕ → Bool) → ((v : ℕ) → v < p.stations → m v ≡ m' v) → touched p s z m ≡ touched p s z m'
   unfolding touched touches
-  touched-same m m' same =
+  touched_same m m' same =
       ap length
-      (select-ext (shortestWalksTo p s z)
+      (select_ext (shortest_walks_to p s z)
       (λ w there.
-      any-ext (below p.stations)
-      (λ v h. ap (λ b. b && isInterior p s z v w) (same v ((mem_below p.stations).0 h)))))
+      any_ext (below p.stations)
+      (λ v h. ap (λ b. b && is_interior p s z v w) (same v ((mem_below p.stations).0 h)))))
 
   -- A larger set never has less.
-  pub touched-larger :
+  pub touched_larger :
       (m m' : ℕ → Bool) → ((v : ℕ) → v < p.stations → m v ≡ true → m' v ≡ true) → touched p s z m ≤ touched p s z m'
   unfolding touched touches
-  touched-larger m m' more =
-      length-select-less _ _ (shortestWalksTo p s z)
+  touched_larger m m' more =
+      length_select_less _ _ (shortest_walks_to p s z)
       (λ w there e.
-      let (v, h, q) = (any-true (λ v. m v && isInterior p s z v w) (below p.stations)).0 e in
-      let (is, inside) = (and-eq-true_iff (m v) (isInterior p s z v w)).0 q in
-      touches-intro m' v w ((mem_below p.stations).0 h) (more v ((mem_below p.stations).0 h) is) inside)
+      let (v, h, q) = (any_true (λ v. m v && is_interior p s z v w) (below p.stations)).0 e in
+      let (is, inside) = (and-eq-true_iff (m v) (is_interior p s z v w)).0 q in
+      touches_intro m' v w ((mem_below p.stations).0 h) (more v ((mem_below p.stations).0 h) is) inside)
 
   -- It is at least the through count of each member.
-  pub touched-each : (m : ℕ → Bool) (v : ℕ) → v < p.stations → m v ≡ true → through p s z v ≤ touched p s z m
+  pub touched_each : (m : ℕ → Bool) (v : ℕ) → v < p.stations → m v ≡ true → through p s z v ≤ touched p s z m
   unfolding touched through
-  touched-each m v h e =
-      length-select-less _ _ (shortestWalksTo p s z) (λ w there inside. touches-intro m v w h e inside)
+  touched_each m v h e =
+      length_select_less _ _ (shortest_walks_to p s z) (λ w there inside. touches_intro m v w h e inside)
 
   -- It is at most the sum of the members' through counts.
-  pub touched-sum :
+  pub touched_sum :
       (m : ℕ → Bool) → touched p s z m ≤ sum (map (λ v. cond (m v) (through p s z v) 0) (below p.stations))
   unfolding touched through touches
-  touched-sum m =
-      let l = shortestWalksTo p s z in
+  touched_sum m =
+      let l = shortest_walks_to p s z in
       let ns = below p.stations in
       let bound =
-      sum_less (λ w. cond (any (λ v. m v && isInterior p s z v w) ns) 1 0)
-      (λ w. sum (map (λ v. cond (m v && isInterior p s z v w) 1 0) ns)) l
-      (λ w. any-at-most (λ v. m v && isInterior p s z v w) ns) in
-      let swapped : sum (map (λ w. sum (map (λ v. cond (m v && isInterior p s z v w) 1 0) ns)) l)
-      ≡ sum (map (λ v. cond (m v) (length (select (isInterior p s z v) l)) 0) ns) =
-      sum-exchange (λ w v. cond (m v && isInterior p s z v w) 1 0) l ns ∙
+      sum_less (λ w. cond (any (λ v. m v && is_interior p s z v w) ns) 1 0)
+      (λ w. sum (map (λ v. cond (m v && is_interior p s z v w) 1 0) ns)) l
+      (λ w. any_at_most (λ v. m v && is_interior p s z v w) ns) in
+      let swapped : sum (map (λ w. sum (map (λ v. cond (m v && is_interior p s z v w) 1 0) ns)) l)
+      ≡ sum (map (λ v. cond (m v) (length (select (is_interior p s z v) l)) 0) ns) =
+      sum_exchange (λ w v. cond (m v && is_interior p s z v w) 1 0) l ns ∙
       ap (λ f. sum (map f ns)) (fun_ext (λ v. column l v (m v))) in
-      omega (arith, length-select (λ w. any (λ v. m v && isInterior p s z v w) ns) l)
+      omega (arith, length_select (λ w. any (λ v. m v && is_interior p s z v w) ns) l)
     where
       column : (l : List (List ℕ)) (v : ℕ) (b : Bool)
-          → sum (map (λ w. cond (b && isInterior p s z v w) 1 0) l) ≡ cond b (length (select (isInterior p s z v) l)) 0
-      column l v true = sym (length-select (isInterior p s z v) l)
-      column l v false = sum-zero l (λ w m. refl)
+          → sum (map (λ w. cond (b && is_interior p s z v w) 1 0) l) ≡ cond b (length (select (is_interior p s z v) l)) 0
+      column l v true = sym (length_select (is_interior p s z v) l)
+      column l v false = sum_zero l (λ w m. refl)
 
   -- For a set of one station it is the station's through count, in any list of walks.
-  pub touched-one-in : (l : List (List ℕ)) (v : ℕ) → v < p.stations → touchedIn p s z l (eqb v) ≡ throughIn p s z l v
+  pub touched_one_in : (l : List (List ℕ)) (v : ℕ) → v < p.stations → touched_in p s z l (eqb v) ≡ through_in p s z l v
   unfolding touches
-  touched-one-in l v h = ap length (select-ext l (λ w there. same w))
+  touched_one_in l v h = ap length (select_ext l (λ w there. same w))
     where
-      same : (w : List ℕ) → any (λ u. eqb v u && isInterior p s z u w) (below p.stations) ≡ isInterior p s z v w
+      same : (w : List ℕ) → any (λ u. eqb v u && is_interior p s z u w) (below p.stations) ≡ is_interior p s z v w
       same w =
           ⊎_elim
-          (λ (e : isInterior p s z v w ≡ true).
-          (any-true (λ u. eqb v u && isInterior p s z u w) (below p.stations)).1
-          (v, (mem_below p.stations).1 h, (and-eq-true_iff (eqb v v) (isInterior p s z v w)).1 (eq-eqb v v refl, e)) ∙ sym e)
-          (λ (e : isInterior p s z v w ≡ false).
-          (any_false (λ u. eqb v u && isInterior p s z u w) (below p.stations)).1
+          (λ (e : is_interior p s z v w ≡ true).
+          (any_true (λ u. eqb v u && is_interior p s z u w) (below p.stations)).1
+          (v, (mem_below p.stations).1 h, (and-eq-true_iff (eqb v v) (is_interior p s z v w)).1 (eq-eqb v v refl, e)) ∙ sym e)
+          (λ (e : is_interior p s z v w ≡ false).
+          (any_false (λ u. eqb v u && is_interior p s z u w) (below p.stations)).1
           (λ u there.
-          by_cases (ℕ_discrete v u) (λ q. rw (eq-eqb v u q) (subst (λ x. isInterior p s z x w ≡ false) q e))
+          by_cases (ℕ_discrete v u) (λ q. rw (eq-eqb v u q) (subst (λ x. is_interior p s z x w ≡ false) q e))
           (λ ne. rw (ne_eqb v u ne))) ∙ sym e)
-          (true-or-false (isInterior p s z v w))
+          (true_or_false (is_interior p s z v w))
 
   -- so it is for the shortest walks
-  pub touched-one : (v : ℕ) → v < p.stations → touched p s z (eqb v) ≡ through p s z v
+  pub touched_one : (v : ℕ) → v < p.stations → touched p s z (eqb v) ≡ through p s z v
   unfolding touched through
-  touched-one v h = touched-one-in (shortestWalksTo p s z) v h
+  touched_one v h = touched_one_in (shortest_walks_to p s z) v h
 
 -- ---- all stations
 
-module _ (bs : List ℕ) (n t : ℕ) (terms : Terms) (ok : planFault bs n t ≡ 0) (s z : ℕ) (source : s < n) where
+module _ (bs : List ℕ) (n t : ℕ) (terms : Terms) (ok : plan_fault bs n t ≡ 0) (s z : ℕ) (source : s < n) where
   -- a shortest walk of more than one hop has the station inside that its first contact leads to
-  first-inside :
-      (w : List ℕ) → Memᴰ w (shortestWalksTo (plan_of bs n t terms) s z) → 1 < length w →
-      (v : ℕ) × (v < n) × (isInterior (plan_of bs n t terms) s z v w ≡ true)
-  unfolding run bind last_or startingPoints
-  first-inside [] m h = absurd (omega arith)
-  first-inside (i ∷ []) m h = absurd (omega arith)
-  first-inside (i ∷ j ∷ w) m h =
+  first_inside :
+      (w : List ℕ) → Memᴰ w (shortest_walks_to (plan_of bs n t terms) s z) → 1 < length w →
+      (v : ℕ) × (v < n) × (is_interior (plan_of bs n t terms) s z v w ≡ true)
+  unfolding run bind last_or starting_points
+  first_inside [] m h = absurd (omega arith)
+  first_inside (i ∷ []) m h = absurd (omega arith)
+  first_inside (i ∷ j ∷ w) m h =
       let p = plan_of bs n t terms in
-      let r = ends-inv p (start s) (is_at z) (i ∷ j ∷ w) ((in-complete-list bs n t terms ok s z (i ∷ j ∷ w)).0 m).0 in
-      let a = run-cons p (start s) i (j ∷ w) r.runs in
-      let b = run-cons p a.next j w a.goes_on in
+      let r = ends_inv p (start s) (is_at z) (i ∷ j ∷ w) ((in_complete_list bs n t terms ok s z (i ∷ j ∷ w)).0 m).0 in
+      let a = run_cons p (start s) i (j ∷ w) r.runs in
+      let b = run_cons p a.next j w a.goes_on in
       let visits : a.next ∷ b.next ∷ b.others ≡ r.visits = ap (◌∷◌ a.next) b.whole ∙ a.whole in
       let (home, sooner) = no_return bs n t terms ok s z (i ∷ j ∷ w) m r.runs in
-      let visited = subst (λ l. Memᴰ a.next.station (stationsOf l)) visits (Memᴰ.head refl) in (
+      let visited = subst (λ l. Memᴰ a.next.station (stations_of l)) visits (Memᴰ.head refl) in (
         a.next.station,
-        (walk-ends-within bs n t terms ok s (i ∷ []) (a.next ∷ []) source (rw a.steps)).0,
-        interior-intro p s z a.next.station (i ∷ j ∷ w)
+        (walk_ends_within bs n t terms ok s (i ∷ []) (a.next ∷ []) source (rw a.steps)).0,
+        interior_intro p s z a.next.station (i ∷ j ∷ w)
             (λ q. home (Memᴰ.cast (sym q) visited))
             (λ q. sooner
-            (subst (λ l. Memᴰ z (startingPoints (start s) l)) visits
+            (subst (λ l. Memᴰ z (starting_points (start s) l)) visits
             (Memᴰ.tail (Memᴰ.head (sym q)))))
             r.runs visited,
       )
 
   -- For all stations it is the count where the pair has more than one hop.
-  pub touched-all :
-      (m : ℕ → Bool) → ((v : ℕ) → v < n → m v ≡ true) → 1 < hops (shortestWalksTo (plan_of bs n t terms) s z) →
-      touched (plan_of bs n t terms) s z m ≡ count (shortestWalksTo (plan_of bs n t terms) s z)
+  pub touched_all :
+      (m : ℕ → Bool) → ((v : ℕ) → v < n → m v ≡ true) → 1 < hops (shortest_walks_to (plan_of bs n t terms) s z) →
+      touched (plan_of bs n t terms) s z m ≡ count (shortest_walks_to (plan_of bs n t terms) s z)
   unfolding touched plan_of
-  touched-all m every more =
+  touched_all m every more =
       ap length
-      (select-all (touches (plan_of bs n t terms) s z m) (shortestWalksTo (plan_of bs n t terms) s z)
+      (select_all (touches (plan_of bs n t terms) s z m) (shortest_walks_to (plan_of bs n t terms) s z)
       (λ w there.
-      let size = ((in-complete-list bs n t terms ok s z w).0 there).1 in
-      let (v, inside, interior) = first-inside w there (omega arith) in
-      touches-intro (plan_of bs n t terms) s z m v w inside (every v inside) interior))
+      let size = ((in_complete_list bs n t terms ok s z w).0 there).1 in
+      let (v, inside, interior) = first_inside w there (omega arith) in
+      touches_intro (plan_of bs n t terms) s z m v w inside (every v inside) interior))

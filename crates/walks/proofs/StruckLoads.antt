@@ -16,27 +16,27 @@ use mir.Syntax.{w64}
 use mir.Val.{SFits}
 use Rattle.temporal.specs.Lists.{sum, select}
 use Rattle.temporal.specs.Plan.{Plan}
-use Rattle.temporal.specs.Walk.{isInterior}
-use Rattle.temporal.specs.Shortest.{shortestWalksTo, through}
-use Rattle.temporal.specs.Load.{Ends, endsBelow, count_of, throughOf, isPairOf, pairsBelow, share, partialLoad, load}
-use Rattle.temporal.specs.Struck.{struckOut, uses, isUser, pairsUsing, change, magnitude}
-use Rattle.walks.proofs.FewLaws.{select-shorter}
-use Rattle.walks.proofs.StruckLaws.{unused-count, unused-through}
+use Rattle.temporal.specs.Walk.{is_interior}
+use Rattle.temporal.specs.Shortest.{shortest_walks_to, through}
+use Rattle.temporal.specs.Load.{Ends, ends_below, count_of, through_of, is_pair_of, pairs_below, share, partial_load, load}
+use Rattle.temporal.specs.Struck.{struck_out, uses, is_user, pairs_using, change, magnitude}
+use Rattle.walks.proofs.FewLaws.{select_shorter}
+use Rattle.walks.proofs.StruckLaws.{unused_count, unused_through}
 
 -- ---- sums
 
 -- Over a list, numbers of which each is at most another, and k more for each member of a third selection.
-sum-select-within :
+sum_select_within :
     {A : Type 0} (f g : A → ℕ) (a b c : A → Bool) (k : ℕ) →
     ((x : A) → cond (a x) (f x) 0 ≤ cond (b x) (g x) 0 + cond (c x) k 0) →
     (l : List A) → sum (map f (select a l)) ≤ sum (map g (select b l)) + length (select c l) * k
 unfolding select sum
-sum-select-within f g a b c k h [] = omega arith
-sum-select-within {A} f g a b c k h (x ∷ l) =
+sum_select_within f g a b c k h [] = omega arith
+sum_select_within {A} f g a b c k h (x ∷ l) =
     omega (
       arith,
       h x,
-      sum-select-within f g a b c k h l,
+      sum_select_within f g a b c k h l,
       kept f (a x) (select a l),
       kept g (b x) (select b l),
       counted (c x) (select c l),
@@ -57,7 +57,7 @@ whole : (p : Plan) (v : ℕ) (e : Ends) → share p v e ≤ 2 ^ 32
 unfolding share through
 whole p v e =
     let fewer =
-    select-shorter (isInterior p e.source e.destination v) (shortestWalksTo p e.source e.destination) in
+    select_shorter (is_interior p e.source e.destination v) (shortest_walks_to p e.source e.destination) in
     div-le_of_le-mul (count_of p e) (omega arith)
 
 -- numbers behind tests that agree but for one whole where a test holds
@@ -68,71 +68,71 @@ within true false most same = omega arith
 
 module _ (p : Plan) (i v : ℕ) where
   -- what a pair that does not use the contact adds to a load stays
-  unused-share : (e : Ends) → isUser p i e ≡ false
-      → cond (isPairOf (struckOut p i) v e) (share (struckOut p i) v e) 0 ≡ cond (isPairOf p v e) (share p v e) 0
+  unused_share : (e : Ends) → is_user p i e ≡ false
+      → cond (is_pair_of (struck_out p i) v e) (share (struck_out p i) v e) 0 ≡ cond (is_pair_of p v e) (share p v e) 0
   unfolding share
-  unused-share e = step (eqb e.source e.destination)
+  unused_share e = step (eqb e.source e.destination)
     where
       step : (b : Bool) → (not b && uses p i e.source e.destination) ≡ false
-          → cond (not b && ltb 0 (throughOf (struckOut p i) v e)) (2 ^ 32 * throughOf (struckOut p i) v e / count_of (struckOut p i) e) 0
-          ≡ cond (not b && ltb 0 (throughOf p v e)) (2 ^ 32 * throughOf p v e / count_of p e) 0
+          → cond (not b && ltb 0 (through_of (struck_out p i) v e)) (2 ^ 32 * through_of (struck_out p i) v e / count_of (struck_out p i) e) 0
+          ≡ cond (not b && ltb 0 (through_of p v e)) (2 ^ 32 * through_of p v e / count_of p e) 0
       step true none = refl
       step false none =
-          rw (unused-through p i e.source e.destination v none, unused-count p i e.source e.destination none)
+          rw (unused_through p i e.source e.destination v none, unused_count p i e.source e.destination none)
 
   -- A load without the record exceeds the one with it by one whole at most for each pair that uses the contact.
-  pub load_up : load (struckOut p i) v ≤ load p v + length (pairsUsing p i) * 2 ^ 32
-  unfolding partialLoad pairsBelow pairsUsing struckOut
+  pub load_up : load (struck_out p i) v ≤ load p v + length (pairs_using p i) * 2 ^ 32
+  unfolding partial_load pairs_below pairs_using struck_out
   load_up =
-      sum-select-within (share (struckOut p i) v) (share p v) (isPairOf (struckOut p i) v) (isPairOf p v) (isUser p i) (2 ^ 32)
-      (λ e. within (isUser p i e) (isPairOf (struckOut p i) v e) (whole (struckOut p i) v e) (unused-share e))
-      (endsBelow p.stations p.stations)
+      sum_select_within (share (struck_out p i) v) (share p v) (is_pair_of (struck_out p i) v) (is_pair_of p v) (is_user p i) (2 ^ 32)
+      (λ e. within (is_user p i e) (is_pair_of (struck_out p i) v e) (whole (struck_out p i) v e) (unused_share e))
+      (ends_below p.stations p.stations)
 
   -- and the other way round
-  pub load-down : load p v ≤ load (struckOut p i) v + length (pairsUsing p i) * 2 ^ 32
-  unfolding partialLoad pairsBelow pairsUsing struckOut
-  load-down =
-      sum-select-within (share p v) (share (struckOut p i) v) (isPairOf p v) (isPairOf (struckOut p i) v) (isUser p i) (2 ^ 32)
-      (λ e. within (isUser p i e) (isPairOf p v e) (whole p v e) (λ none. sym (unused-share e none)))
-      (endsBelow p.stations p.stations)
+  pub load_down : load p v ≤ load (struck_out p i) v + length (pairs_using p i) * 2 ^ 32
+  unfolding partial_load pairs_below pairs_using struck_out
+  load_down =
+      sum_select_within (share p v) (share (struck_out p i) v) (is_pair_of p v) (is_pair_of (struck_out p i) v) (is_user p i) (2 ^ 32)
+      (λ e. within (is_user p i e) (is_pair_of p v e) (whole p v e) (λ none. sym (unused_share e none)))
+      (ends_below p.stations p.stations)
 
 -- ---- differences
 
 -- the difference of two numbers, of which the second is no larger
-pub difference-up : (a b : ℕ) → b ≤ a → pos a -ℤ pos b ≡ pos (a - b)
-difference-up a zero h = ap pos (omega arith)
-difference-up a (suc b) h = rw (le-ltb a (suc b) h)
+pub difference_up : (a b : ℕ) → b ≤ a → pos a -ℤ pos b ≡ pos (a - b)
+difference_up a zero h = ap pos (omega arith)
+difference_up a (suc b) h = rw (le-ltb a (suc b) h)
 
 -- of which the second is larger
-pub difference-down : (a b : ℕ) → a < b → pos a -ℤ pos b ≡ negsuc (b - suc a)
-difference-down a zero h = absurd (omega arith)
-difference-down a (suc b) h = rw (lt-ltb a (suc b) h)
+pub difference_down : (a b : ℕ) → a < b → pos a -ℤ pos b ≡ negsuc (b - suc a)
+difference_down a zero h = absurd (omega arith)
+difference_down a (suc b) h = rw (lt-ltb a (suc b) h)
 
 -- it is at most by how much either exceeds the other
-pub difference-within : (a b k : ℕ) → a ≤ b + k → b ≤ a + k → magnitude (pos a -ℤ pos b) ≤ k
+pub difference_within : (a b k : ℕ) → a ≤ b + k → b ≤ a + k → magnitude (pos a -ℤ pos b) ≤ k
 unfolding magnitude
-difference-within a b k up down =
-    by_cases (dec_lt a b) (λ h. rw (difference-down a b h) (omega arith)) (λ n. rw (difference-up a b (omega arith)) (omega arith))
+difference_within a b k up down =
+    by_cases (dec_lt a b) (λ h. rw (difference_down a b h) (omega arith)) (λ n. rw (difference_up a b (omega arith)) (omega arith))
 
 -- the difference of two numbers below 2^49 fits 64 bits with a sign
-pub difference-fits : (a b : ℕ) → a < 2 ^ 49 → b < 2 ^ 49 → SFits w64 (pos a -ℤ pos b)
-difference-fits a b g h =
+pub difference_fits : (a b : ℕ) → a < 2 ^ 49 → b < 2 ^ 49 → SFits w64 (pos a -ℤ pos b)
+difference_fits a b g h =
     by_cases (dec_lt a b)
-    (λ less. record { sfits = rw (difference-down a b less) (omega arith) })
-    (λ n. record { sfits = rw (difference-up a b (omega arith)) (omega arith) })
+    (λ less. record { sfits = rw (difference_down a b less) (omega arith) })
+    (λ n. record { sfits = rw (difference_up a b (omega arith)) (omega arith) })
 
 module _ (p : Plan) (i v : ℕ) where
   -- A station's change is at most one whole for each pair that uses the contact, up or down.
-  pub change-within : magnitude (change p i v) ≤ length (pairsUsing p i) * 2 ^ 32
+  pub change_within : magnitude (change p i v) ≤ length (pairs_using p i) * 2 ^ 32
   unfolding change
-  change-within =
-      difference-within (load (struckOut p i) v) (load p v) (length (pairsUsing p i) * 2 ^ 32) (load_up p i v) (load-down p i v)
+  change_within =
+      difference_within (load (struck_out p i) v) (load p v) (length (pairs_using p i) * 2 ^ 32) (load_up p i v) (load_down p i v)
 
   -- Where no pair uses it, no load changes.
-  pub change-none : length (pairsUsing p i) ≡ 0 → change p i v ≡ pos 0
+  pub change_none : length (pairs_using p i) ≡ 0 → change p i v ≡ pos 0
   unfolding magnitude
-  change-none none = zero-magnitude (change p i v) (omega (arith, change-within))
+  change_none none = zero_magnitude (change p i v) (omega (arith, change_within))
     where
-      zero-magnitude : (k : ℤ) → magnitude k ≤ 0 → k ≡ pos 0
-      zero-magnitude (pos k) h = ap pos (omega arith)
-      zero-magnitude (negsuc k) h = absurd (omega arith)
+      zero_magnitude : (k : ℤ) → magnitude k ≤ 0 → k ≡ pos 0
+      zero_magnitude (pos k) h = ap pos (omega arith)
+      zero_magnitude (negsuc k) h = absurd (omega arith)

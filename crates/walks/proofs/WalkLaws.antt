@@ -9,18 +9,18 @@ use mathlib.Core.Option.{Option, none, some, map, bind, map-eq-some_iff, map-id,
 use mathlib.Core.Path.{◌≡◌, refl, sym, ◌∙◌, ap}
 use native.Mathlib.Omega.{arith}
 use lib.ListN.{length, get_elem?}
-use Rattle.temporal.specs.Plan.{Contact, Plan, Appearance, start, leadsTo, mayFollow}
-use Rattle.temporal.specs.Walk.{along, step, run, last_or, holds, endsIn}
-use Rattle.walks.proofs.RuleLaws.{Kept, follows-later, follows-earlier, leads-below}
-use Rattle.lists.proofs.OptionLaws.{position-below, guarded, holds-inv}
+use Rattle.temporal.specs.Plan.{Contact, Plan, Appearance, start, leads_to, may_follow}
+use Rattle.temporal.specs.Walk.{along, step, run, last_or, holds, ends_in}
+use Rattle.walks.proofs.RuleLaws.{Kept, follows_later, follows_earlier, leads_below}
+use Rattle.lists.proofs.OptionLaws.{position_below, guarded, holds_inv}
 
 -- what a step from x by the contact at position i to y consists of
 pub record StepBy (p : Plan) (x : Appearance) (i : ℕ) (y : Appearance) : Type 0 where
   pub contact : Contact
   pub at_position : get_elem? p.contacts i ≡ some contact
-  pub same-slot : y.slot ≡ contact.slot
-  pub follows : mayFollow p x.slot contact.slot ≡ true
-  pub leads : leadsTo contact x.station ≡ some y.station
+  pub same_slot_law : y.slot ≡ contact.slot
+  pub follows : may_follow p x.slot contact.slot ≡ true
+  pub leads : leads_to contact x.station ≡ some y.station
 
 -- no contact of a plan is in a slot past its last
 pub record SlotsWithin (p : Plan) : Type 0 where
@@ -36,130 +36,130 @@ pub record RunBy (p : Plan) (x : Appearance) (i : ℕ) (w : List ℕ) (l : List 
 
 module _ (p : Plan) where
   -- a step is by a contact of the plan that both rules allow
-  pub step-inv : (x : Appearance) (i : ℕ) {y : Appearance} → step p x i ≡ some y → StepBy p x i y
+  pub step_inv : (x : Appearance) (i : ℕ) {y : Appearance} → step p x i ≡ some y → StepBy p x i y
   unfolding step along
-  step-inv x i e =
+  step_inv x i e =
       let (c, found, taken) = (bind-eq-some_iff (get_elem? p.contacts i) (along p x)).0 e in
-      let (f, mapped) = guarded (mayFollow p x.slot c.slot) _ taken in
-      let (v, leads, whole) = (map-eq-some_iff _ (leadsTo c x.station)).0 mapped in
+      let (f, mapped) = guarded (may_follow p x.slot c.slot) _ taken in
+      let (v, leads, whole) = (map-eq-some_iff _ (leads_to c x.station)).0 mapped in
       record {
         contact = c;
         at_position = found;
-        same-slot = sym (ap (λ (a : Appearance). a.slot) whole);
+        same_slot_law = sym (ap (λ (a : Appearance). a.slot) whole);
         follows = f;
         leads = leads ∙ ap (λ (a : Appearance). some a.station) whole;
       }
 
   -- a contact of the plan that both rules allow is a step
-  pub step-intro : (x : Appearance) (i : ℕ) {y : Appearance} → StepBy p x i y → step p x i ≡ some y
+  pub step_intro : (x : Appearance) (i : ℕ) {y : Appearance} → StepBy p x i y → step p x i ≡ some y
   unfolding step along bind
-  step-intro x i s = rw (s.at_position, s.follows, s.leads, ← s.same-slot)
+  step_intro x i s = rw (s.at_position, s.follows, s.leads, ← s.same_slot_law)
 
   -- a step leads to a later slot
-  pub step-later : (x : Appearance) (i : ℕ) {y : Appearance} → step p x i ≡ some y → x.slot < y.slot
-  step-later x i e =
-      let s = step-inv x i e in
-      let later = follows-later p x.slot s.contact.slot s.follows in
+  pub step_later : (x : Appearance) (i : ℕ) {y : Appearance} → step p x i ≡ some y → x.slot < y.slot
+  step_later x i e =
+      let s = step_inv x i e in
+      let later = follows_later p x.slot s.contact.slot s.follows in
       omega arith
 
   -- a step is by a position of the plan
-  pub step-position : (x : Appearance) (i : ℕ) {y : Appearance} → step p x i ≡ some y → i < length p.contacts
-  step-position x i e = position-below p.contacts i (step-inv x i e).at_position
+  pub step_position : (x : Appearance) (i : ℕ) {y : Appearance} → step p x i ≡ some y → i < length p.contacts
+  step_position x i e = position_below p.contacts i (step_inv x i e).at_position
 
   -- (kept) A step from an appearance is one from each earlier appearance of its station.
-  pub step-earlier :
+  pub step_earlier :
       Kept p → SlotsWithin p → (x x' : Appearance) (i : ℕ) {y : Appearance} → x'.station ≡ x.station → x'.slot ≤ x.slot →
       step p x i ≡ some y → step p x' i ≡ some y
-  step-earlier kept fits x x' i {y} same earlier e = step-intro x' i (again (step-inv x i e))
+  step_earlier kept fits x x' i {y} same earlier e = step_intro x' i (again (step_inv x i e))
     where
       again : StepBy p x i y → StepBy p x' i y
       again s =
           record {
             contact = s.contact;
             at_position = s.at_position;
-            same-slot = s.same-slot;
+            same_slot_law = s.same_slot_law;
             follows =
-                follows-earlier p kept x.slot x'.slot s.contact.slot earlier
+                follows_earlier p kept x.slot x'.slot s.contact.slot earlier
                 (fits.within i s.contact s.at_position) s.follows;
-            leads = ap (leadsTo s.contact) same ∙ s.leads;
+            leads = ap (leads_to s.contact) same ∙ s.leads;
           }
 
   -- the run over no position is empty
-  pub run-nil : (x : Appearance) {l : List Appearance} → run p x [] ≡ some l → [] ≡ l
+  pub run_nil : (x : Appearance) {l : List Appearance} → run p x [] ≡ some l → [] ≡ l
   unfolding run
-  run-nil x e = cc
+  run_nil x e = cc
 
   -- a run over i and then w is a step by i and a run over w from where it leads
-  pub run-cons :
+  pub run_cons :
       (x : Appearance) (i : ℕ) (w : List ℕ) {l : List Appearance} → run p x (i ∷ w) ≡ some l → RunBy p x i w l
   unfolding run
-  run-cons x i w e =
+  run_cons x i w e =
       let (y, steps, mapped) = (bind-eq-some_iff (step p x i) _).0 e in
       let (m, goes_on, whole) = (map-eq-some_iff (◌∷◌ y) (run p y w)).0 mapped in
       record { next = y; others = m; steps = steps; goes_on = goes_on; whole = whole }
 
   -- a run has as many appearances as positions
   pub run_length : (x : Appearance) (w : List ℕ) {l : List Appearance} → run p x w ≡ some l → length l ≡ length w
-  run_length x [] e = ap length (sym (run-nil x e))
+  run_length x [] e = ap length (sym (run_nil x e))
   run_length x (i ∷ w) e =
-      let r = run-cons x i w e in
+      let r = run_cons x i w e in
       ap length (sym r.whole) ∙ ap suc (run_length r.next w r.goes_on)
 
   -- a run is over positions of the plan
-  pub run-positions :
+  pub run_positions :
       (x : Appearance) (w : List ℕ) {l : List Appearance} → run p x w ≡ some l → (i : ℕ) → Memᴰ i w →
       i < length p.contacts
-  run-positions x [] e i m = absurd (Memᴰ.not-nil m)
-  run-positions x (j ∷ w) e i m =
-      let r = run-cons x j w e in
+  run_positions x [] e i m = absurd (Memᴰ.not-nil m)
+  run_positions x (j ∷ w) e i m =
+      let r = run_cons x j w e in
       ⊎_elim
-      (λ (q : i ≡ j). rw q (step-position x j r.steps))
-      (run-positions r.next w r.goes_on i)
+      (λ (q : i ≡ j). rw q (step_position x j r.steps))
+      (run_positions r.next w r.goes_on i)
       (Memᴰ.cases_cons m)
 
   -- each hop of a run takes a slot at least
-  pub run-slots :
+  pub run_slots :
       (x : Appearance) (w : List ℕ) {l : List Appearance} → run p x w ≡ some l →
       x.slot + length w ≤ (last_or x l).slot
   unfolding last_or
-  run-slots x [] e = rw (← run-nil x e) (omega arith)
-  run-slots x (i ∷ w) e =
-      let r = run-cons x i w e in
-      let later = step-later x i r.steps in
-      let others = run-slots r.next w r.goes_on in
+  run_slots x [] e = rw (← run_nil x e) (omega arith)
+  run_slots x (i ∷ w) e =
+      let r = run_cons x i w e in
+      let later = step_later x i r.steps in
+      let others = run_slots r.next w r.goes_on in
       rw (← r.whole) (omega arith)
 
   -- the appearances l of a run from x, and after them those of the run over w from its last; none where there is none
-  abbrev pub thenRun : List ℕ → Appearance → List Appearance → Option (List Appearance)
-  thenRun w x l = map (◌++◌ l) (run p (last_or x l) w)
+  abbrev pub then_run : List ℕ → Appearance → List Appearance → Option (List Appearance)
+  then_run w x l = map (◌++◌ l) (run p (last_or x l) w)
 
-  then-run-cons :
+  then_run_cons :
       (w : List ℕ) (x y : Appearance) (r : Option (List Appearance)) →
-      map (◌∷◌ y) (bind r (thenRun w y)) ≡ bind (map (◌∷◌ y) r) (thenRun w x)
+      map (◌∷◌ y) (bind r (then_run w y)) ≡ bind (map (◌∷◌ y) r) (then_run w x)
   unfolding bind last_or
-  then-run-cons w x y none = refl
-  then-run-cons w x y (some l) = map-map (◌∷◌ y) (◌++◌ l) (run p (last_or y l) w)
+  then_run_cons w x y none = refl
+  then_run_cons w x y (some l) = map-map (◌∷◌ y) (◌++◌ l) (run p (last_or y l) w)
 
   -- the run over u and then w is the run over u, then the one over w from where u leads
-  pub run-append : (x : Appearance) (u w : List ℕ) → run p x (u ++ w) ≡ bind (run p x u) (thenRun w x)
+  pub run_append : (x : Appearance) (u w : List ℕ) → run p x (u ++ w) ≡ bind (run p x u) (then_run w x)
   unfolding run last_or bind
-  run-append x [] w = sym (ap (λ f. f (run p x w)) map-id)
-  run-append x (i ∷ u) w = go (step p x i) (λ y. run-append y u w)
+  run_append x [] w = sym (ap (λ f. f (run p x w)) map-id)
+  run_append x (i ∷ u) w = go (step p x i) (λ y. run_append y u w)
     where
       go :
           (o : Option Appearance) →
-          ((y : Appearance) → run p y (u ++ w) ≡ bind (run p y u) (thenRun w y)) →
+          ((y : Appearance) → run p y (u ++ w) ≡ bind (run p y u) (then_run w y)) →
           bind o (λ y. map (◌∷◌ y) (run p y (u ++ w))) ≡
-          bind (bind o (λ y. map (◌∷◌ y) (run p y u))) (thenRun w x)
+          bind (bind o (λ y. map (◌∷◌ y) (run p y u))) (then_run w x)
       go none ih = refl
-      go (some y) ih = rw (ih y) (then-run-cons w x y (run p y u))
+      go (some y) ih = rw (ih y) (then_run_cons w x y (run p y u))
 
   -- runs over u and then over w from where u leads make up one over both
   pub run_join :
       (x : Appearance) (u w : List ℕ) {l m : List Appearance} → run p x u ≡ some l → run p (last_or x l) w ≡ some m →
       run p x (u ++ w) ≡ some (l ++ m)
   unfolding bind
-  run_join x u w d e = rw (run-append, d, e)
+  run_join x u w d e = rw (run_append, d, e)
 
 -- what a run from x over u and then w consists of
 pub record RunOfTwo (p : Plan) (x : Appearance) (u w : List ℕ) (n : List Appearance) : Type 0 where
@@ -171,37 +171,37 @@ pub record RunOfTwo (p : Plan) (x : Appearance) (u w : List ℕ) (n : List Appea
 
 module _ (p : Plan) where
   -- a run over u and then w is one over u and one over w from where u leads
-  pub run-split :
+  pub run_split :
       (x : Appearance) (u w : List ℕ) {n : List Appearance} → run p x (u ++ w) ≡ some n → RunOfTwo p x u w n
-  run-split x u w e =
-      let (l, begins, mapped) = (bind-eq-some_iff (run p x u) _).0 (sym (run-append p x u w) ∙ e) in
+  run_split x u w e =
+      let (l, begins, mapped) = (bind-eq-some_iff (run p x u) _).0 (sym (run_append p x u w) ∙ e) in
       let (m, goes_on, whole) = (map-eq-some_iff (◌++◌ l) (run p (last_or x l) w)).0 mapped in
       record { first = l; second = m; begins = begins; goes_on = goes_on; whole = whole }
 
 -- the last of two runs in turn is the last of the second from the last of the first
-pub last-append : (x : Appearance) (l m : List Appearance) → last_or x (l ++ m) ≡ last_or (last_or x l) m
+pub last_append : (x : Appearance) (l m : List Appearance) → last_or x (l ++ m) ≡ last_or (last_or x l) m
 unfolding last_or
-last-append x [] m = refl
-last-append x (y ∷ l) m = last-append y l m
+last_append x [] m = refl
+last_append x (y ∷ l) m = last_append y l m
 
 module _ (p : Plan) (g : SlotsWithin p) where
   -- a run from a slot of the plan ends in a slot of the plan
-  pub run-last-within :
+  pub run_last_within :
       (x : Appearance) (w : List ℕ) {l : List Appearance} → x.slot ≤ p.slots → run p x w ≡ some l →
       (last_or x l).slot ≤ p.slots
   unfolding last_or
-  run-last-within x [] h e = rw (← run-nil p x e) h
-  run-last-within x (i ∷ w) h e =
-      let r = run-cons p x i w e in
-      let s = step-inv p x i r.steps in
+  run_last_within x [] h e = rw (← run_nil p x e) h
+  run_last_within x (i ∷ w) h e =
+      let r = run_cons p x i w e in
+      let s = step_inv p x i r.steps in
       let fits = g.within i s.contact s.at_position in
-      rw (← r.whole) (run-last-within r.next w (omega arith) r.goes_on)
+      rw (← r.whole) (run_last_within r.next w (omega arith) r.goes_on)
 
   -- a walk has at most as many hops as the plan has slots
-  pub run-within : (s : ℕ) (w : List ℕ) {l : List Appearance} → run p (start s) w ≡ some l → length w ≤ p.slots
-  run-within s w e =
-      let few = run-slots p (start s) w e in
-      let fits = run-last-within (start s) w (omega arith) e in
+  pub run_within : (s : ℕ) (w : List ℕ) {l : List Appearance} → run p (start s) w ≡ some l → length w ≤ p.slots
+  run_within s w e =
+      let few = run_slots p (start s) w e in
+      let fits = run_last_within (start s) w (omega arith) e in
       omega arith
 
 -- what a walk w from x whose last appearance passes a test consists of
@@ -212,68 +212,68 @@ pub record Ends (p : Plan) (x : Appearance) (t : Appearance → Bool) (w : List 
 
 module _ (p : Plan) (x : Appearance) (t : Appearance → Bool) where
   -- a walk that ends in a test has a run whose last appearance passes it
-  pub ends-inv : (w : List ℕ) → endsIn p x t w ≡ true → Ends p x t w
-  unfolding endsIn
-  ends-inv w e =
-      let (l, runs, passes) = holds-inv (run p x w) _ e in
+  pub ends_inv : (w : List ℕ) → ends_in p x t w ≡ true → Ends p x t w
+  unfolding ends_in
+  ends_inv w e =
+      let (l, runs, passes) = holds_inv (run p x w) _ e in
       record { visits = l; runs = runs; passes = passes }
 
   -- a run whose last appearance passes a test is a walk that ends in it
-  pub ends-intro :
-      (w : List ℕ) {l : List Appearance} → run p x w ≡ some l → t (last_or x l) ≡ true → endsIn p x t w ≡ true
-  unfolding endsIn holds
-  ends-intro w runs passes = rw runs passes
+  pub ends_intro :
+      (w : List ℕ) {l : List Appearance} → run p x w ≡ some l → t (last_or x l) ≡ true → ends_in p x t w ≡ true
+  unfolding ends_in holds
+  ends_intro w runs passes = rw runs passes
 
   -- where a walk that ends in a test leads passes it
-  pub ends_at : (w : List ℕ) {l : List Appearance} → endsIn p x t w ≡ true → run p x w ≡ some l → t (last_or x l) ≡ true
-  unfolding endsIn holds
+  pub ends_at : (w : List ℕ) {l : List Appearance} → ends_in p x t w ≡ true → run p x w ≡ some l → t (last_or x l) ≡ true
+  unfolding ends_in holds
   ends_at w e runs = rw runs at e
 
   -- the empty walk ends where it begins
-  pub ends-nil : endsIn p x t [] ≡ t x
-  unfolding endsIn holds run last_or
-  ends-nil = refl
+  pub ends_nil : ends_in p x t [] ≡ t x
+  unfolding ends_in holds run last_or
+  ends_nil = refl
 
   -- a walk over i and then w is a step by i and a walk over w from where it leads
-  pub ends-cons : (i : ℕ) (w : List ℕ) → endsIn p x t (i ∷ w) ≡ holds (step p x i) (λ y. endsIn p y t w)
-  unfolding endsIn holds run last_or bind
-  ends-cons i w = go (step p x i)
+  pub ends_cons : (i : ℕ) (w : List ℕ) → ends_in p x t (i ∷ w) ≡ holds (step p x i) (λ y. ends_in p y t w)
+  unfolding ends_in holds run last_or bind
+  ends_cons i w = go (step p x i)
     where
-      drop-first :
+      drop_first :
           (y : Appearance) (r : Option (List Appearance)) →
           holds (map (◌∷◌ y) r) (λ l. t (last_or x l)) ≡ holds r (λ l. t (last_or y l))
-      drop-first y none = refl
-      drop-first y (some l) = refl
+      drop_first y none = refl
+      drop_first y (some l) = refl
 
       go :
           (o : Option Appearance) →
-          holds (bind o (λ y. map (◌∷◌ y) (run p y w))) (λ l. t (last_or x l)) ≡ holds o (λ y. endsIn p y t w)
+          holds (bind o (λ y. map (◌∷◌ y) (run p y w))) (λ l. t (last_or x l)) ≡ holds o (λ y. ends_in p y t w)
       go none = refl
-      go (some y) = drop-first y (run p y w)
+      go (some y) = drop_first y (run p y w)
 
   -- a walk that ends in a test goes on from where its first step leads
-  pub ends-step :
-      (i : ℕ) (w : List ℕ) → endsIn p x t (i ∷ w) ≡ true →
-      (y : Appearance) × (step p x i ≡ some y) × (endsIn p y t w ≡ true)
-  ends-step i w e = holds-inv (step p x i) _ (sym (ends-cons i w) ∙ e)
+  pub ends_step :
+      (i : ℕ) (w : List ℕ) → ends_in p x t (i ∷ w) ≡ true →
+      (y : Appearance) × (step p x i ≡ some y) × (ends_in p y t w ≡ true)
+  ends_step i w e = holds_inv (step p x i) _ (sym (ends_cons i w) ∙ e)
 
   -- a step and a walk from where it leads make up a walk
-  pub ends-after :
-      (i : ℕ) (w : List ℕ) {y : Appearance} → step p x i ≡ some y → endsIn p y t w ≡ true → endsIn p x t (i ∷ w) ≡ true
+  pub ends_after :
+      (i : ℕ) (w : List ℕ) {y : Appearance} → step p x i ≡ some y → ends_in p y t w ≡ true → ends_in p x t (i ∷ w) ≡ true
   unfolding holds
-  ends-after i w steps e = ends-cons i w ∙ rw steps e
+  ends_after i w steps e = ends_cons i w ∙ rw steps e
 
 -- a walk from a station below n, over contacts with hearers below n, ends at one
-pub run-station :
+pub run_station :
     (p : Plan) (n : ℕ) →
     ((i : ℕ) (c : Contact) → get_elem? p.contacts i ≡ some c → c.hearer < n) →
     (x : Appearance) (w : List ℕ) {l : List Appearance} → x.station < n → run p x w ≡ some l → (last_or x l).station < n
 unfolding last_or
-run-station p n inside x [] h e = rw (← run-nil p x e) h
-run-station p n inside x (i ∷ w) h e =
-    let r = run-cons p x i w e in
-    let s = step-inv p x i r.steps in
+run_station p n inside x [] h e = rw (← run_nil p x e) h
+run_station p n inside x (i ∷ w) h e =
+    let r = run_cons p x i w e in
+    let s = step_inv p x i r.steps in
     let here : r.next.station < n =
-    leads-below s.contact x.station r.next.station n
+    leads_below s.contact x.station r.next.station n
     (inside i s.contact s.at_position) s.leads in
-    rw (← r.whole) (run-station p n inside r.next w here r.goes_on)
+    rw (← r.whole) (run_station p n inside r.next w here r.goes_on)

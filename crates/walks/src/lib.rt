@@ -1,1 +1,2 @@
 // Laws alone: what follows from the definitions of plans, walks, paths and loads.
+#![tactic(auto)]

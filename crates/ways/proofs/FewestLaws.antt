@@ -10,8 +10,8 @@ use native.Mathlib.Omega.{arith}
 use lib.ListN.{length}
 use Rattle.temporal.specs.Plan.{Plan}
 use Rattle.temporal.specs.Shortest.{shortest, hops}
-use Rattle.walks.proofs.ShortestLaws.{Bounded, Found, nowhere, at-hops, found, hops-empty, hops-least}
-use Rattle.walks.proofs.ShortestLaws.{shortest-least, least-member, mem-ofHops}
+use Rattle.walks.proofs.ShortestLaws.{Bounded, Found, nowhere, at_hops, found, hops_empty, hops_least}
+use Rattle.walks.proofs.ShortestLaws.{shortest_least, least_member, mem_of_hops_law}
 
 -- h is the fewest positions of a list of which P holds; 65535 where there is none
 pub record Fewest (P : List ℕ → Type 0) (h : ℕ) : Type 0 where
@@ -20,21 +20,21 @@ pub record Fewest (P : List ℕ → Type 0) (h : ℕ) : Type 0 where
   pub reached : h < 65535 → (w : List ℕ) × P w × (length w ≡ h)
 
 -- a predicate that holds of no less has no smaller fewest
-fewest-less : {P : List ℕ → Type 0} {h l : ℕ} → Fewest P h → Fewest P l → l ≤ h
-fewest-less {P} {h} {l} f g = by_cases (dec_le 65535 h) (λ q. let b = g.bound in omega arith) found-there
+fewest_less : {P : List ℕ → Type 0} {h l : ℕ} → Fewest P h → Fewest P l → l ≤ h
+fewest_less {P} {h} {l} f g = by_cases (dec_le 65535 h) (λ q. let b = g.bound in omega arith) found_there
   where
-    found-there : (65535 ≤ h → ⊥) → l ≤ h
-    found-there q = let (w, holds, e) = f.reached (omega arith) in omega (arith, g.least w holds)
+    found_there : (65535 ≤ h → ⊥) → l ≤ h
+    found_there q = let (w, holds, e) = f.reached (omega arith) in omega (arith, g.least w holds)
 
 -- a predicate has one fewest
-pub fewest-unique : {P : List ℕ → Type 0} {h l : ℕ} → Fewest P h → Fewest P l → h ≡ l
-fewest-unique f g = omega (arith, fewest-less f g, fewest-less g f)
+pub fewest_unique : {P : List ℕ → Type 0} {h l : ℕ} → Fewest P h → Fewest P l → h ≡ l
+fewest_unique f g = omega (arith, fewest_less f g, fewest_less g f)
 
 -- predicates that hold of the same lists have the same fewest
-pub fewest-same : {P Q : List ℕ → Type 0} {h : ℕ} → ((w : List ℕ) → P w → Q w) → ((w : List ℕ) → Q w → P w)
+pub fewest_same : {P Q : List ℕ → Type 0} {h : ℕ} → ((w : List ℕ) → P w → Q w) → ((w : List ℕ) → Q w → P w)
     → Fewest P h
     → Fewest Q h
-fewest-same there back f =
+fewest_same there back f =
     record {
       bound = f.bound;
       least = λ w q. f.least w (back w q);
@@ -42,22 +42,22 @@ fewest-same there back f =
     }
 
 -- the hops of the shortest lists that pass a bounded test are their fewest
-pub fewest-shortest : {p : Plan} {t : List ℕ → Bool} → Bounded p t → p.slots < 65535
+pub fewest_shortest : {p : Plan} {t : List ℕ → Bool} → Bounded p t → p.slots < 65535
     → Fewest (λ w. t w ≡ true) (hops (shortest p t))
-fewest-shortest {p} {t} b few = step (found b)
+fewest_shortest {p} {t} b few = step (found b)
   where
     step : Found p t → Fewest (λ w. t w ≡ true) (hops (shortest p t))
     step (nowhere e n) =
-        let none = hops-empty (shortest p t) e in
+        let none = hops_empty (shortest p t) e in
         record { bound = omega arith; least = λ w q. absurd (n w q); reached = λ q. absurd (omega arith) }
-    step (at-hops k h e) =
-        let here = hops-least h in
+    step (at_hops k h e) =
+        let here = hops_least h in
         let fits = h.fits in
-        let (w, m) = least-member h in
-        let (size, inside, passes) = (mem-ofHops p t k).0 m in
+        let (w, m) = least_member h in
+        let (size, inside, passes) = (mem_of_hops_law p t k).0 m in
         record {
           bound = omega arith;
-          least = λ u q. shortest-least b q;
+          least = λ u q. shortest_least b q;
           reached = λ q. (w, passes, size ∙ sym here);
         }
 
@@ -67,8 +67,8 @@ module _ {P Q R : List ℕ → Type 0} (i : ℕ)
     (into : (w : List ℕ) → P w → R w)
     (before : (u : List ℕ) → Q u → R (i ∷ u))
     (out : (w : List ℕ) → R w → P w ⊎ ((u : List ℕ) × (w ≡ i ∷ u) × Q u)) where
-  pub fewest-joined : {h l : ℕ} → Fewest P h → Fewest Q l → Fewest R (min h (l + 1))
-  fewest-joined {h} {l} f g =
+  pub fewest_joined : {h l : ℕ} → Fewest P h → Fewest Q l → Fewest R (min h (l + 1))
+  fewest_joined {h} {l} f g =
       record {
         bound = let b = f.bound in omega arith;
         least = λ w r. ⊎_elim

@@ -12,10 +12,10 @@ use native.Mathlib.Omega.{arith}
 use native.Mathlib.Decide.{ℕ_discrete}
 use lib.ListN.{length, length-append}
 use Rattle.temporal.specs.Lists.{Before}
-use Rattle.lists.proofs.ListLaws.{not-both}
+use Rattle.lists.proofs.ListLaws.{not_both}
 use Rattle.ways.specs.Prefix.{LeastOf, Later, NoneLater}
-use Rattle.ways.specs.Found.{firstFrom}
-use Rattle.ways.proofs.OrderLaws.{before-onward, before_last, before-cases, Snoc, snoc}
+use Rattle.ways.specs.Found.{first_from}
+use Rattle.ways.proofs.OrderLaws.{before_onward, before_last, before_cases, Snoc, snoc}
 
 -- ---- a search
 
@@ -27,13 +27,13 @@ module _ (f : ℕ → Bool) where
     pub sooner : (k : ℕ) → i ≤ k → f k ≡ true → j ≤ k
 
   -- what is found is the first that passes, and within
-  pub first_some : (i k : ℕ) {j : ℕ} → firstFrom f i k ≡ some j → (j < i + k) × FirstAt i j
-  unfolding firstFrom
+  pub first_some : (i k : ℕ) {j : ℕ} → first_from f i k ≡ some j → (j < i + k) × FirstAt i j
+  unfolding first_from
   first_some i zero e = absurd (let z : ◌≡◌ {A = ℕ} 0 1 = cc in omega arith)
   first_some i (suc k) {j} e = go (f i) refl e (λ g. first_some (i + 1) k g)
     where
-      go : (b : Bool) → f i ≡ b → cond b (some i) (firstFrom f (i + 1) k) ≡ some j
-          → (firstFrom f (i + 1) k ≡ some j → (j < i + 1 + k) × FirstAt (i + 1) j)
+      go : (b : Bool) → f i ≡ b → cond b (some i) (first_from f (i + 1) k) ≡ some j
+          → (first_from f (i + 1) k ≡ some j → (j < i + 1 + k) × FirstAt (i + 1) j)
           → (j < i + suc k) × FirstAt i j
       go true q e ih =
           let here : i ≡ j = cc in
@@ -46,37 +46,37 @@ module _ (f : ℕ → Bool) where
               low = omega arith;
               passes = r.passes;
               sooner = λ m h g. by_cases (ℕ_discrete m i)
-                  (λ same. absurd (not-both g (ap f same ∙ q)))
+                  (λ same. absurd (not_both g (ap f same ∙ q)))
                   (λ other. r.sooner m (omega arith) g);
             },
           )
 
   -- where nothing is found none passes
-  pub first-none : (i k : ℕ) → firstFrom f i k ≡ none → (j : ℕ) → i ≤ j → j < i + k → f j ≡ true → ⊥
-  unfolding firstFrom
-  first-none i zero e j low high g = absurd (omega arith)
-  first-none i (suc k) e j low high g =
-      go (f i) refl e (λ r more. first-none (i + 1) k r j more (omega arith) g)
+  pub first_none : (i k : ℕ) → first_from f i k ≡ none → (j : ℕ) → i ≤ j → j < i + k → f j ≡ true → ⊥
+  unfolding first_from
+  first_none i zero e j low high g = absurd (omega arith)
+  first_none i (suc k) e j low high g =
+      go (f i) refl e (λ r more. first_none (i + 1) k r j more (omega arith) g)
     where
-      go : (b : Bool) → f i ≡ b → cond b (some i) (firstFrom f (i + 1) k) ≡ none
-          → (firstFrom f (i + 1) k ≡ none → i + 1 ≤ j → ⊥)
+      go : (b : Bool) → f i ≡ b → cond b (some i) (first_from f (i + 1) k) ≡ none
+          → (first_from f (i + 1) k ≡ none → i + 1 ≤ j → ⊥)
           → ⊥
       go true q e ih = absurd (let z : ◌≡◌ {A = ℕ} 0 1 = cc in omega arith)
       go false q e ih =
-          by_cases (ℕ_discrete j i) (λ same. not-both g (ap f same ∙ q)) (λ other. ih e (omega arith))
+          by_cases (ℕ_discrete j i) (λ same. not_both g (ap f same ∙ q)) (λ other. ih e (omega arith))
 
   -- a search up to m finds i, passes it over, or ends
-  pub search-finds : (i m : ℕ) → i < m → f i ≡ true → firstFrom f i (m - i) ≡ some i
-  unfolding firstFrom
-  search-finds i m h e = let more : m - i ≡ suc (m - (i + 1)) = omega arith in rw (more, e)
+  pub search_finds : (i m : ℕ) → i < m → f i ≡ true → first_from f i (m - i) ≡ some i
+  unfolding first_from
+  search_finds i m h e = let more : m - i ≡ suc (m - (i + 1)) = omega arith in rw (more, e)
 
-  pub search-passes : (i m : ℕ) → i < m → f i ≡ false → firstFrom f i (m - i) ≡ firstFrom f (i + 1) (m - (i + 1))
-  unfolding firstFrom
-  search-passes i m h e = let more : m - i ≡ suc (m - (i + 1)) = omega arith in rw (more, e)
+  pub search_passes : (i m : ℕ) → i < m → f i ≡ false → first_from f i (m - i) ≡ first_from f (i + 1) (m - (i + 1))
+  unfolding first_from
+  search_passes i m h e = let more : m - i ≡ suc (m - (i + 1)) = omega arith in rw (more, e)
 
-  pub search-ends : (i m : ℕ) → m ≤ i → firstFrom f i (m - i) ≡ none
-  unfolding firstFrom
-  search-ends i m h = let over : m - i ≡ 0 = omega arith in rw over
+  pub search_ends : (i m : ℕ) → m ≤ i → first_from f i (m - i) ≡ none
+  unfolding first_from
+  search_ends i m h = let over : m - i ≡ 0 = omega arith in rw over
 
 -- ---- the next list
 
@@ -86,7 +86,7 @@ module _ (t : List ℕ → Bool) (front : (w : List ℕ) (i : ℕ) → t (w ++ i
   longer : (q q' : List ℕ) (i j : ℕ) → ((k : ℕ) → t (q ++ k ∷ []) ≡ true → i ≤ k) → (q' ≡ q) ⊎ Before q q'
       → t (q' ++ j ∷ []) ≡ true
       → (q' ++ j ∷ [] ≡ q ++ i ∷ []) ⊎ Before (q ++ i ∷ []) (q' ++ j ∷ [])
-  longer q q' i j first (inr b) e = inr (before-onward q q' (i ∷ []) (j ∷ []) b)
+  longer q q' i j first (inr b) e = inr (before_onward q q' (i ∷ []) (j ∷ []) b)
   longer q q' i j first (inl same) e =
       let least = first j (rw same at e) in
       by_cases (ℕ_discrete i j)
@@ -94,10 +94,10 @@ module _ (t : List ℕ → Bool) (front : (w : List ℕ) (i : ℕ) → t (w ++ i
       (λ h. inr (rw same (before_last q i j (omega arith))))
 
   -- the least front with its first last number is the least
-  pub least-longer : (k i : ℕ) (q : List ℕ) → LeastOf t k q → t (q ++ i ∷ []) ≡ true
+  pub least_longer : (k i : ℕ) (q : List ℕ) → LeastOf t k q → t (q ++ i ∷ []) ≡ true
       → ((j : ℕ) → t (q ++ j ∷ []) ≡ true → i ≤ j)
       → LeastOf t (suc k) (q ++ i ∷ [])
-  least-longer k i q l e first =
+  least_longer k i q l e first =
       record {
         size = omega (arith, length-append q (i ∷ []), l.size);
         passes = e;
@@ -115,12 +115,12 @@ module _ (t : List ℕ → Bool) (front : (w : List ℕ) (i : ℕ) → t (w ++ i
         → Before q v.front ⊎ ((q ≡ v.front) × (i < v.last))
     behind u v b =
         let same = v.size in
-        before-cases q v.front i v.last (omega arith) (rw v.whole at b)
+        before_cases q v.front i v.last (omega arith) (rw v.whole at b)
 
     -- a greater last number, the first that passes, makes the next list
-    pub later-here : (j : ℕ) → i < j → t (q ++ j ∷ []) ≡ true → ((m : ℕ) → i < m → t (q ++ m ∷ []) ≡ true → j ≤ m)
+    pub later_here : (j : ℕ) → i < j → t (q ++ j ∷ []) ≡ true → ((m : ℕ) → i < m → t (q ++ m ∷ []) ≡ true → j ≤ m)
         → Later t (suc k) (q ++ i ∷ []) (q ++ j ∷ [])
-    later-here j more e first =
+    later_here j more e first =
         record {
           size = omega (arith, length-append q (j ∷ []));
           passes = e;
@@ -133,7 +133,7 @@ module _ (t : List ℕ → Bool) (front : (w : List ℕ) (i : ℕ) → t (w ++ i
       where
         go : (q' : List ℕ) (m : ℕ) → t (q' ++ m ∷ []) ≡ true → Before q q' ⊎ ((q ≡ q') × (i < m))
             → (q' ++ m ∷ [] ≡ q ++ j ∷ []) ⊎ Before (q ++ j ∷ []) (q' ++ m ∷ [])
-        go q' m there (inl b) = inr (before-onward q q' (j ∷ []) (m ∷ []) b)
+        go q' m there (inl b) = inr (before_onward q q' (j ∷ []) (m ∷ []) b)
         go q' m there (inr h) =
             let same = h.0 in
             let greater = h.1 in
@@ -145,9 +145,9 @@ module _ (t : List ℕ → Bool) (front : (w : List ℕ) (i : ℕ) → t (w ++ i
     -- where no greater last number passes
     module _ (stuck : (m : ℕ) → i < m → t (q ++ m ∷ []) ≡ true → ⊥) where
       -- a list behind has a front behind
-      front-behind : (u : List ℕ) (v : Snoc k u) → t u ≡ true → Before (q ++ i ∷ []) u
+      front_behind : (u : List ℕ) (v : Snoc k u) → t u ≡ true → Before (q ++ i ∷ []) u
           → Before q v.front × (t (v.front ++ v.last ∷ []) ≡ true)
-      front-behind u v passes b =
+      front_behind u v passes b =
           let there : t (v.front ++ v.last ∷ []) ≡ true = rw (← v.whole) passes in (
             ⊎_elim (λ h. h)
                 (λ h. let same = h.0 in absurd (stuck v.last h.1 (rw (← same) at there))) (behind u v b),
@@ -155,25 +155,25 @@ module _ (t : List ℕ → Bool) (front : (w : List ℕ) (i : ℕ) → t (w ++ i
           )
 
       -- the next front with its first last number is the next list
-      pub later-behind : (q' : List ℕ) (j : ℕ) → Later t k q q' → t (q' ++ j ∷ []) ≡ true
+      pub later_behind : (q' : List ℕ) (j : ℕ) → Later t k q q' → t (q' ++ j ∷ []) ≡ true
           → ((m : ℕ) → t (q' ++ m ∷ []) ≡ true → j ≤ m)
           → Later t (suc k) (q ++ i ∷ []) (q' ++ j ∷ [])
-      later-behind q' j l e first =
+      later_behind q' j l e first =
           record {
             size = omega (arith, length-append q' (j ∷ []), l.size);
             passes = e;
-            after = before-onward q q' (i ∷ []) (j ∷ []) l.after;
+            after = before_onward q q' (i ∷ []) (j ∷ []) l.after;
             least = λ u sized passes b.
                 let v = snoc k u sized in
-                let (c, there) = front-behind u v passes b in
+                let (c, there) = front_behind u v passes b in
                 rw v.whole
                 (longer q' v.front j v.last first
                 (l.least v.front v.size (front v.front v.last there) c) there);
           }
 
       -- where there is no next front there is no next list
-      pub none-behind : NoneLater t k q → NoneLater t (suc k) (q ++ i ∷ [])
-      none-behind n u sized passes b =
+      pub none_behind : NoneLater t k q → NoneLater t (suc k) (q ++ i ∷ [])
+      none_behind n u sized passes b =
           let v = snoc k u sized in
-          let (c, there) = front-behind u v passes b in
+          let (c, there) = front_behind u v passes b in
           n v.front v.size (front v.front v.last there) c

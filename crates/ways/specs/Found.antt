@@ -4,11 +4,11 @@ use Rattle.std.specs.Prelude.{ℕ, zero, suc, ◌+◌, ◌-◌, ◌*◌, ◌<◌
 use Rattle.std.proofs.Math.Option.{Option, none, some, bind}
 use Rattle.temporal.specs.Plan.{Plan, Terms, units, Appearance, start}
 use Rattle.temporal.specs.Walk.{step, holds}
-use Rattle.temporal.specs.Shortest.{shortestWalksTo, hops}
+use Rattle.temporal.specs.Shortest.{shortest_walks_to, hops}
 use Rattle.temporal.specs.Bytes.{records, plan_of}
-use Rattle.temporal.specs.Cause.{planFault}
+use Rattle.temporal.specs.Cause.{plan_fault}
 use Rattle.temporal.specs.Outcome.{over}
-use Rattle.temporal.specs.Cursor.{indexIn}
+use Rattle.temporal.specs.Cursor.{index_in}
 use Rattle.ways.specs.declared.Pair.{Pair}
 use Rattle.ways.specs.declared.Spot.{Spot}
 use Rattle.ways.specs.declared.End.{End}
@@ -16,7 +16,7 @@ use Rattle.ways.specs.declared.End.TheVariants as end
 use Rattle.ways.specs.declared.Found.{Found}
 use Rattle.ways.specs.declared.Found.TheVariants as found
 use Rattle.ways.specs.Home.{Table}
-use Rattle.ways.specs.Prefix.{endAfter, completes}
+use Rattle.ways.specs.Prefix.{end_after, completes}
 
 -- the appearance that a struct of the code holds
 abbrev pub spot_of : Spot → Appearance
@@ -28,31 +28,31 @@ end_of (end.At x) = some (spot_of x)
 end_of end.Nowhere = none
 
 -- the position that a search found, or none
-unfoldable pub foundOf : Found → Option ℕ
-foundOf (found.At i) = some i
-foundOf found.Nothing = none
+unfoldable pub found_of : Found → Option ℕ
+found_of (found.At i) = some i
+found_of found.Nothing = none
 
 -- the terms, the plan, the complete list of the pair, and the test whether positions begin a member of it
-abbrev pub termsIn : Pair → Terms
-termsIn q = units q.turnaround q.keeping
+abbrev pub terms_in : Pair → Terms
+terms_in q = units q.turnaround q.keeping
 
-abbrev pub planIn : List ℕ → Pair → Plan
-planIn bs q = plan_of bs q.stations q.slots (termsIn q)
+abbrev pub plan_in : List ℕ → Pair → Plan
+plan_in bs q = plan_of bs q.stations q.slots (terms_in q)
 
-abbrev pub listIn : List ℕ → Pair → List (List ℕ)
-listIn bs q = shortestWalksTo (planIn bs q) q.source q.destination
+abbrev pub list_in : List ℕ → Pair → List (List ℕ)
+list_in bs q = shortest_walks_to (plan_in bs q) q.source q.destination
 
 abbrev pub begins : List ℕ → Pair → List ℕ → Bool
-begins bs q = completes (planIn bs q) q.source q.destination q.hops
+begins bs q = completes (plan_in bs q) q.source q.destination q.hops
 
 -- whether position i leads on from x to an appearance whose entry in the table is a given number
-unfoldable pub servesAt : Plan → List ℕ → ℕ → Appearance → ℕ → ℕ → Bool
-servesAt p l width x need i = holds (step p x i) (λ y. eqb (get_or l (y.station * width + y.slot) 0) need)
+unfoldable pub serves_at : Plan → List ℕ → ℕ → Appearance → ℕ → ℕ → Bool
+serves_at p l width x need i = holds (step p x i) (λ y. eqb (get_or l (y.station * width + y.slot) 0) need)
 
 -- the first number, of k from i on, that passes a test
-unfoldable pub firstFrom : (ℕ → Bool) → ℕ → ℕ → Option ℕ
-firstFrom f i zero = none
-firstFrom f i (suc k) = let r = firstFrom f (i + 1) k in cond (f i) (some i) r
+unfoldable pub first_from : (ℕ → Bool) → ℕ → ℕ → Option ℕ
+first_from f i zero = none
+first_from f i (suc k) = let r = first_from f (i + 1) k in cond (f i) (some i) r
 
 -- an answer and a buffer
 pub record Placed : Type 0 where
@@ -67,13 +67,13 @@ put_at k b (some i) = record { answer = true; buffer = set b k i }
 -- the first position from a given one on that leads on from the end of the first k entries and has so far to go
 unfoldable pub found_at : List ℕ → Pair → List ℕ → ℕ → ℕ → List ℕ → Option ℕ
 found_at bs q l k from b =
-    bind (endAfter (planIn bs q) (start q.source) (take k b)) (λ x.
-    firstFrom (servesAt (planIn bs q) l (q.slots + 1) x (q.hops - (k + 1))) from (records bs - from))
+    bind (end_after (plan_in bs q) (start q.source) (take k b)) (λ x.
+    first_from (serves_at (plan_in bs q) l (q.slots + 1) x (q.hops - (k + 1))) from (records bs - from))
 
 -- an accepted plan with a completion table of the destination
 pub record Searchable (bs : List ℕ) (q : Pair) (l : List ℕ) : Type 0 where
-  pub accepted : planFault bs q.stations q.slots ≡ 0
-  pub table : Table bs q.stations q.slots (termsIn q) q.destination l
+  pub accepted : plan_fault bs q.stations q.slots ≡ 0
+  pub table : Table bs q.stations q.slots (terms_in q) q.destination l
 
 -- besides, leg k of the pair's and a buffer that has an entry for it
 pub record Placeable (bs : List ℕ) (q : Pair) (l : List ℕ) (k : ℕ) (b : List ℕ) : Type 0 where
@@ -84,35 +84,35 @@ pub record Placeable (bs : List ℕ) (q : Pair) (l : List ℕ) (k : ℕ) (b : Li
 -- A pair with a walk: an accepted plan, a source in it, the pair's hops, and room for them in a buffer. A caller has
 -- excluded the causes 1 to 9.
 pub record Listable (bs : List ℕ) (q : Pair) (b : List ℕ) : Type 0 where
-  pub accepted : planFault bs q.stations q.slots ≡ 0
+  pub accepted : plan_fault bs q.stations q.slots ≡ 0
   pub source : q.source < q.stations
-  pub fewest : q.hops ≡ hops (listIn bs q)
+  pub fewest : q.hops ≡ hops (list_in bs q)
   pub path : q.hops < 65535
   pub room : q.slots ≤ length b
 
 -- what finding the first walk asks
 pub record Startable (bs : List ℕ) (q : Pair) (l b : List ℕ) : Type 0 where
   pub listable : Listable bs q b
-  pub table : Table bs q.stations q.slots (termsIn q) q.destination l
+  pub table : Table bs q.stations q.slots (terms_in q) q.destination l
 
 -- what advancing the first k entries asks: they begin a shortest walk
 pub record Advancable (bs : List ℕ) (q : Pair) (l : List ℕ) (k : ℕ) (b : List ℕ) : Type 0 where
   pub listable : Listable bs q b
-  pub table : Table bs q.stations q.slots (termsIn q) q.destination l
+  pub table : Table bs q.stations q.slots (terms_in q) q.destination l
   pub legs : k ≤ q.hops
   pub standing : begins bs q (take k b) ≡ true
 
 -- whether a buffer begins with a member of the complete list
-abbrev pub isOffered : List ℕ → Pair → List ℕ → Bool
-isOffered bs q b = holds (indexIn (listIn bs q) b) (λ i. true)
+abbrev pub is_offered : List ℕ → Pair → List ℕ → Bool
+is_offered bs q b = holds (index_in (list_in bs q) b) (λ i. true)
 
 -- what finding the next walk asks: the buffer begins with a shortest walk
 pub record Continuable (bs : List ℕ) (q : Pair) (l b : List ℕ) : Type 0 where
   pub listable : Listable bs q b
-  pub table : Table bs q.stations q.slots (termsIn q) q.destination l
-  pub offered : isOffered bs q b ≡ true
+  pub table : Table bs q.stations q.slots (terms_in q) q.destination l
+  pub offered : is_offered bs q b ≡ true
 
 -- The buffer is moved from the member of a list with which it begins to the next one; on the last it stays.
 pub record Stepped (l : List (List ℕ)) (old : List ℕ) (r : Bool) (new : List ℕ) : Type 0 where
-  pub next : (i : ℕ) → indexIn l old ≡ some i
+  pub next : (i : ℕ) → index_in l old ≡ some i
       → (r ≡ ltb (i + 1) (length l)) × (new ≡ cond (ltb (i + 1) (length l)) (over (get_or l (i + 1) []) old) old)

@@ -6,16 +6,16 @@ use Rattle.temporal.specs.Lists.{Before}
 use Rattle.temporal.specs.Plan.{Plan, Appearance, start}
 use Rattle.temporal.specs.Walk.{run, last_or, holds}
 use Rattle.temporal.specs.Outcome.{over}
-use Rattle.ways.specs.Home.{homeFrom}
+use Rattle.ways.specs.Home.{home_from}
 
 -- the appearance in which the positions w end from x; none where w is no walk from x
-unfoldable pub endAfter : Plan → Appearance → List ℕ → Option Appearance
-endAfter p x w = map (last_or x) (run p x w)
+unfoldable pub end_after : Plan → Appearance → List ℕ → Option Appearance
+end_after p x w = map (last_or x) (run p x w)
 
 -- Whether w is a walk from s whose hops and the fewest hops from its end to z are together k. Where k is the pair's hops
 -- these are the beginnings of its shortest walks: document 01's legs of which the last contact leads home.
 unfoldable pub completes : Plan → ℕ → ℕ → ℕ → List ℕ → Bool
-completes p s z k w = holds (endAfter p (start s) w) (λ x. eqb (length w + homeFrom p z x) k)
+completes p s z k w = holds (end_after p (start s) w) (λ x. eqb (length w + home_from p z x) k)
 
 -- w' is the least, in lexicographic order, of the lists of k numbers that pass a test
 pub record LeastOf (t : List ℕ → Bool) (k : ℕ) (w' : List ℕ) : Type 0 where

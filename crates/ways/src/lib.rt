@@ -1,27 +1,28 @@
 // The completion table, and the shortest walks of a pair in lexicographic order: the first one, whether a buffer begins
 // with one, and the one after it. None of these is an operation: a caller has excluded every cause of refusal before.
+#![tactic(auto)]
 ghost use Rattle.std.specs.Prelude.{◌≡◌, [], ℕ, ◌+◌, ◌-◌, ◌*◌, ◌<◌, ◌≤◌, length, get_or, take};
-ghost use Rattle.temporal.specs.Plan.{Plan, units, Keeps, start, mayFollow};
+ghost use Rattle.temporal.specs.Plan.{Plan, units, Keeps, start, may_follow};
 ghost use Rattle.temporal.specs.Walk.{step};
-ghost use Rattle.temporal.specs.Bytes.{contactAt, records, plan_of};
+ghost use Rattle.temporal.specs.Bytes.{contact_at, records, plan_of};
 ghost use Rattle.temporal.specs.Outcome.{over};
 ghost use Rattle.ways.specs.Home.{Completable, Completed};
-ghost use Rattle.ways.specs.Column.{lowered, foldedBack, storedBack, isDue, Begun, RecordWithin};
-ghost use Rattle.ways.specs.Window.{loweredRun, foldedWindow, begunWindow, FoldableWindow};
-ghost use Rattle.ways.specs.Prefix.{endAfter, Advanced};
+ghost use Rattle.ways.specs.Column.{lowered, folded_back, stored_back, is_due, Begun, RecordWithin};
+ghost use Rattle.ways.specs.Window.{lowered_run, folded_window, begun_window, FoldableWindow};
+ghost use Rattle.ways.specs.Prefix.{end_after, Advanced};
 ghost use Rattle.ways.specs.Found.{
   spot_of,
   end_of,
-  foundOf,
-  planIn,
-  listIn,
+  found_of,
+  plan_in,
+  list_in,
   begins,
-  servesAt,
-  firstFrom,
+  serves_at,
+  first_from,
   found_at,
   Placed,
   put_at,
-  isOffered,
+  is_offered,
   Searchable,
   Placeable,
   Listable,
@@ -33,7 +34,7 @@ ghost use Rattle.ways.specs.Found.{
 
 // What a listing is about: the numbers of an accepted plan, its units' turnaround and for how many slots they keep a reading, a pair
 // of its stations, and the pair's hops.
-#[derive(Drop)]
+#[derive(Clone, Copy)]
 pub struct Pair {
     pub stations: usize,
     pub slots: usize,
@@ -45,21 +46,21 @@ pub struct Pair {
 }
 
 // An appearance: a station, reached in a slot.
-#[derive(Drop)]
+#[derive(Clone, Copy)]
 pub struct Spot {
     pub station: usize,
     pub slot: usize,
 }
 
 // Where positions lead.
-#[derive(Drop)]
+#[derive(Clone, Copy)]
 pub enum End {
     At(Spot),
     Nowhere,
 }
 
 // What a search for a position yields.
-#[derive(Drop)]
+#[derive(Clone, Copy)]
 pub enum Found {
     At(usize),
     Nothing,
@@ -79,7 +80,7 @@ fn lower(work: &mut [u64], at: usize, from: usize)
 // Folds the record at j into the start's column: its sender's entry is lowered by its hearer's of the record's slot.
 fn fold_back(work: &mut [u64], plan: &[u8], width: usize, j: usize)
     requires { RecordWithin plan.now width j work.old }
-    ensures { work.new ≡ foldedBack width (contactAt plan.now j) work.old }
+    ensures { work.new ≡ folded_back width (contact_at plan.now j) work.old }
 {
     let c = plan::contact_at(plan, j);
     let at = c.sender * width;
@@ -90,7 +91,7 @@ fn fold_back(work: &mut [u64], plan: &[u8], width: usize, j: usize)
 // Stores what the hearer of the record at j has to go: its entry of the record's slot becomes that of the start's column.
 fn store_back(work: &mut [u64], plan: &[u8], width: usize, j: usize)
     requires { RecordWithin plan.now width j work.old }
-    ensures { work.new ≡ storedBack width (contactAt plan.now j) work.old }
+    ensures { work.new ≡ stored_back width (contact_at plan.now j) work.old }
 {
     let c = plan::contact_at(plan, j);
     let from = c.hearer * width;
@@ -127,7 +128,7 @@ fn above(a: usize, b: usize) -> usize
 // follow it.
 fn is_due(plan: &[u8], g: usize, i: usize, j: usize) -> bool
     requires { (i ≤ j) × (0 < j) × (j * 6 ≤ length plan.now) }
-    ensures { result ≡ isDue plan.now g i j }
+    ensures { result ≡ is_due plan.now g i j }
 {
     if 0 < i {
         let c = plan::contact_at(plan, i - 1);
@@ -162,7 +163,7 @@ fn complete_lasting(work: &mut [u64], plan: &[u8], n: usize, t: usize, g: usize,
 // Lowers as many entries as size says, from a place on, to one more than another entry, where that is less.
 fn lower_run(work: &mut [u64], at: usize, size: usize, from: usize)
     requires { (at + size ≤ length work.old) × (from < length work.old) }
-    ensures { work.new ≡ loweredRun work.old at from size }
+    ensures { work.new ≡ lowered_run work.old at from size }
 {
     let mut i = 0;
     while i < size {
@@ -175,7 +176,7 @@ fn lower_run(work: &mut [u64], at: usize, size: usize, from: usize)
 // what is heard has turned round and is still kept are lowered by its hearer's of the record's own slot.
 fn fold_window(work: &mut [u64], plan: &[u8], width: usize, g: usize, h: usize, j: usize)
     requires { FoldableWindow plan.now width j work.old }
-    ensures { work.new ≡ foldedWindow width (units g h) (contactAt plan.now j) work.old }
+    ensures { work.new ≡ folded_window width (units g h) (contact_at plan.now j) work.old }
 {
     let c = plan::contact_at(plan, j);
     let row = c.sender * width;
@@ -190,7 +191,7 @@ fn fold_window(work: &mut [u64], plan: &[u8], width: usize, g: usize, h: usize, 
 // Clears the table, and puts the empty walk of the destination into every slot.
 fn begin_window(work: &mut [u64], n: usize, width: usize, z: usize)
     requires { (n * width ≤ length work.old) × (z < n) }
-    ensures { work.new ≡ begunWindow n width z work.old }
+    ensures { work.new ≡ begun_window n width z work.old }
 {
     memory::fill64(work, n * width, 65535);
     memory::fill_part(work, z * width, width, 0);
@@ -232,7 +233,7 @@ pub fn wide(x: u16) -> usize
 
 // Whether a contact in slot u may follow an appearance in slot t.
 fn may_follow(g: usize, h: usize, t: usize, u: usize) -> bool
-    ensures { (p : Plan) → p.terms ≡ units g h → result ≡ mayFollow p t u }
+    ensures { (p : Plan) → p.terms ≡ units g h → result ≡ may_follow p t u }
 {
     if u <= t {
         return false;
@@ -270,7 +271,7 @@ fn step_on(plan: &[u8], g: usize, h: usize, x: Spot, i: usize) -> End
 // Where the first k entries of a buffer lead from the source. No entry is trusted.
 fn end_of(way: &[u16], plan: &[u8], q: Pair, k: usize) -> End
     requires { k ≤ length way.now }
-    ensures { end_of result ≡ endAfter (planIn plan.now q) (start q.source) (take k way.now) }
+    ensures { end_of result ≡ end_after (plan_in plan.now q) (start q.source) (take k way.now) }
 {
     let mut x = Spot {
         station: q.source,
@@ -291,7 +292,7 @@ fn end_of(way: &[u16], plan: &[u8], q: Pair, k: usize) -> End
 // Whether position i leads on from an appearance to one from which so many hops are left.
 fn serves(work: &[u64], plan: &[u8], q: Pair, x: Spot, need: u64, i: usize) -> bool
     requires { Searchable plan.now q work.now }
-    ensures { result ≡ servesAt (planIn plan.now q) work.now (q.slots + 1) (spot_of x) need i }
+    ensures { result ≡ serves_at (plan_in plan.now q) work.now (q.slots + 1) (spot_of x) need i }
 {
     let end = step_on(plan, q.turnaround, q.keeping, x, i);
     let End::At(y) = end else {
@@ -304,7 +305,7 @@ fn serves(work: &[u64], plan: &[u8], q: Pair, x: Spot, need: u64, i: usize) -> b
 // The first position from a given one on that leads home with so many hops left behind it.
 fn find(work: &[u64], plan: &[u8], q: Pair, x: Spot, need: u64, from: usize) -> Found
     requires { Searchable plan.now q work.now }
-    ensures { foundOf result ≡ firstFrom (servesAt (planIn plan.now q) work.now (q.slots + 1) (spot_of x) need)
+    ensures { found_of result ≡ first_from (serves_at (plan_in plan.now q) work.now (q.slots + 1) (spot_of x) need)
         from (records plan.now - from) }
 {
     let m = plan.len() / 6;
@@ -324,7 +325,7 @@ fn find(work: &[u64], plan: &[u8], q: Pair, x: Spot, need: u64, from: usize) -> 
 // The first position from a given one on that leads home behind the first k entries of a buffer.
 pub fn found_behind(way: &[u16], work: &[u64], plan: &[u8], q: Pair, k: usize, from: usize) -> Found
     requires { Placeable plan.now q work.now k way.now }
-    ensures { foundOf result ≡ found_at plan.now q work.now k from way.now }
+    ensures { found_of result ≡ found_at plan.now q work.now k from way.now }
 {
     let end = end_of(way, plan, q, k);
     let End::At(x) = end else {
@@ -356,7 +357,7 @@ fn place(way: &mut [u16], work: &[u64], plan: &[u8], q: Pair, k: usize, from: us
 // Writes the first shortest walk of a pair that has one: leg by leg the first position that leads home.
 pub fn first_path(way: &mut [u16], work: &[u64], plan: &[u8], q: Pair)
     requires { Startable plan.now q work.now way.old }
-    ensures { way.new ≡ over (get_or (listIn plan.now q) 0 []) way.old }
+    ensures { way.new ≡ over (get_or (list_in plan.now q) 0 []) way.old }
 {
     let hops = q.hops;
     let mut k = 0;
@@ -369,7 +370,7 @@ pub fn first_path(way: &mut [u16], work: &[u64], plan: &[u8], q: Pair)
 // Whether a buffer begins with a shortest walk of a pair that has one.
 pub fn offered(way: &[u16], plan: &[u8], q: Pair) -> bool
     requires { Listable plan.now q way.now }
-    ensures { result ≡ isOffered plan.now q way.now }
+    ensures { result ≡ is_offered plan.now q way.now }
 {
     let end = end_of(way, plan, q, q.hops);
     let End::At(x) = end else {
@@ -401,7 +402,7 @@ fn advance(way: &mut [u16], work: &[u64], plan: &[u8], q: Pair, leg: usize) -> b
 // Moves a buffer that begins with a shortest walk on to the next one. False on the last, and the buffer stays.
 pub fn next_path(way: &mut [u16], work: &[u64], plan: &[u8], q: Pair) -> bool
     requires { Continuable plan.now q work.now way.old }
-    ensures { Stepped (listIn plan.now q) way.old result way.new }
+    ensures { Stepped (list_in plan.now q) way.old result way.new }
 {
     advance(way, work, plan, q, q.hops)
 }

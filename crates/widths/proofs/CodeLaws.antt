@@ -1,13 +1,13 @@
 -- What the functions over rows of keys need and leave, from what the functions that they call leave. Assumes nothing.
 use Rattle.std.proofs.Common.{◌≡◌, ℕ, suc, ◌+◌, ◌-◌, ◌*◌, ◌<◌, ◌≤◌, min, Bool, ltb, List, length, sym, refl, ap, ◌∙◌, subst, mul-le-mul_right, arith}
-use Rattle.temporal.specs.Bytes.{contactAt}
+use Rattle.temporal.specs.Bytes.{contact_at}
 use Rattle.plan.specs.declared.Contact.{Contact}
-use Rattle.plan.specs.Record.{contactOf}
+use Rattle.plan.specs.Record.{contact_of}
 use Rattle.memory.specs.Fill.{filled}
 use Rattle.pass.specs.Row.{combined}
-use Rattle.pass.specs.Sweep.{stationAt, HearersFit}
-use Rattle.pass.proofs.PlaceLaws.{slot-chosen}
-use Rattle.widths.specs.Key.{mergedKey, sentKey, widened, settledKeys, settledKeysBy, foldedKeys, startedKeys, begunKeys}
+use Rattle.pass.specs.Sweep.{station_at, HearersFit}
+use Rattle.pass.proofs.PlaceLaws.{slot_chosen}
+use Rattle.widths.specs.Key.{merged_key, sent_key, widened, settled_keys, settled_keys_by, folded_keys, started_keys, begun_keys}
 use Rattle.widths.specs.Key.{KeysFit, FoldableKeys, SourcesFit, BeginFits, SlotKeys}
 use Rattle.widths.proofs.CellLaws.{row_fits}
 
@@ -19,11 +19,11 @@ pub record FoldRows (many base : ℕ) (w : List ℕ) (r : Contact) : Type 0 wher
   pub hearer : (base + r.hearer) * many + many ≤ length w
   pub sender : r.sender * many + many ≤ length w
 
-pub fold-rows : (bs : List ℕ) (n many base bounds j : ℕ) (w : List ℕ) (r : Contact) → FoldableKeys bs n many base bounds j w
-    → contactOf r ≡ contactAt bs j → FoldRows many base w r
-fold-rows bs n many base bounds j w r f e =
-    let sender : r.sender < n = subst (λ c. c.sender < n) (sym e) f.sender-station in
-    let hearer : r.hearer < n = subst (λ c. c.hearer < n) (sym e) f.hearer-station in
+pub fold_rows : (bs : List ℕ) (n many base bounds j : ℕ) (w : List ℕ) (r : Contact) → FoldableKeys bs n many base bounds j w
+    → contact_of r ≡ contact_at bs j → FoldRows many base w r
+fold_rows bs n many base bounds j w r f e =
+    let sender : r.sender < n = subst (λ c. c.sender < n) (sym e) f.sender_station in
+    let hearer : r.hearer < n = subst (λ c. c.hearer < n) (sym e) f.hearer_station in
     let before = f.part.before in
     let behind = f.part.behind in
     let small = f.part.small in
@@ -33,10 +33,10 @@ fold-rows bs n many base bounds j w r f e =
       sender = row_fits many r.sender (bounds + 1) w (omega arith) f.part.fits;
     }
 
-pub folded-keys-by : (bs : List ℕ) (many base j : ℕ) (w out : List ℕ) (r : Contact) → contactOf r ≡ contactAt bs j
-    → out ≡ combined sentKey w ((base + r.hearer) * many) (r.sender * many) many → out ≡ foldedKeys many base w (contactAt bs j)
-unfolding foldedKeys
-folded-keys-by bs many base j w out r e sent = sent ∙ ap (foldedKeys many base w) e
+pub folded_keys_by : (bs : List ℕ) (many base j : ℕ) (w out : List ℕ) (r : Contact) → contact_of r ≡ contact_at bs j
+    → out ≡ combined sent_key w ((base + r.hearer) * many) (r.sender * many) many → out ≡ folded_keys many base w (contact_at bs j)
+unfolding folded_keys
+folded_keys_by bs many base j w out r e sent = sent ∙ ap (folded_keys many base w) e
 
 -- ---- a station is settled
 
@@ -47,8 +47,8 @@ pub record StationRows (many base bounds v : ℕ) (w : List ℕ) : Type 0 where
   pub waits : (base + v) * many + many ≤ length w
   pub bound : bounds * many + many ≤ length w
 
-pub station-rows : (n many base bounds v : ℕ) (w : List ℕ) → KeysFit n many base bounds w → v < n → StationRows many base bounds v w
-station-rows n many base bounds v w f h =
+pub station_rows : (n many base bounds v : ℕ) (w : List ℕ) → KeysFit n many base bounds w → v < n → StationRows many base bounds v w
+station_rows n many base bounds v w f h =
     let before = f.before in
     let behind = f.behind in
     let small = f.small in
@@ -59,11 +59,11 @@ station-rows n many base bounds v w f h =
       bound = row_fits many bounds (bounds + 1) w (omega arith) f.fits;
     }
 
-pub settled-by : (many base bounds v : ℕ) (w one two out : List ℕ) → one ≡ combined mergedKey w (v * many) ((base + v) * many) many
+pub settled_by_law : (many base bounds v : ℕ) (w one two out : List ℕ) → one ≡ combined merged_key w (v * many) ((base + v) * many) many
     → two ≡ combined widened one (bounds * many) (v * many) many → out ≡ filled two ((base + v) * many) many 4611615649683210240
-    → out ≡ settledKeys many base bounds w v
-unfolding settledKeys
-settled-by many base bounds v w one two out a b d = cc
+    → out ≡ settled_keys many base bounds w v
+unfolding settled_keys
+settled_by_law many base bounds v w one two out a b d = cc
 
 -- ---- a slot is settled
 
@@ -71,58 +71,58 @@ settled-by many base bounds v w one two out a b d = cc
 pub record SettlingKeys (f : ℕ → ℕ) (many base bounds : ℕ) (old : List ℕ) (e i : ℕ) (now : List ℕ) : Type 0 where
   pub within : i ≤ e
   pub same : length now ≡ length old
-  pub rest : settledKeysBy f many base bounds now i (e - i) ≡ settledKeysBy f many base bounds old 0 e
+  pub rest : settled_keys_by f many base bounds now i (e - i) ≡ settled_keys_by f many base bounds old 0 e
 
 module _ (f : ℕ → ℕ) (many base bounds : ℕ) (old : List ℕ) (e : ℕ) where
-  pub settling-none : SettlingKeys f many base bounds old e 0 old
-  settling-none = let all : e - 0 ≡ e = omega arith in record { within = omega arith; same = refl; rest = rw all }
+  pub settling_none : SettlingKeys f many base bounds old e 0 old
+  settling_none = let all : e - 0 ≡ e = omega arith in record { within = omega arith; same = refl; rest = rw all }
 
   module _ (i : ℕ) (now : List ℕ) (x : SettlingKeys f many base bounds old e i now) where
-    pub settling-more : (now' : List ℕ) (v : ℕ) → i < e → v ≡ f i → now' ≡ settledKeys many base bounds now v → length now' ≡ length now
+    pub settling_more : (now' : List ℕ) (v : ℕ) → i < e → v ≡ f i → now' ≡ settled_keys many base bounds now v → length now' ≡ length now
         → SettlingKeys f many base bounds old e (i + 1) now'
-    unfolding settledKeysBy
-    settling-more now' v h is out kept =
+    unfolding settled_keys_by
+    settling_more now' v h is out kept =
         let more : e - i ≡ suc (e - (i + 1)) = omega arith in
         record {
           within = omega arith;
           same = kept ∙ x.same;
-          rest = rw (out, is) (sym (ap (settledKeysBy f many base bounds now i) more) ∙ x.rest);
+          rest = rw (out, is) (sym (ap (settled_keys_by f many base bounds now i) more) ∙ x.rest);
         }
 
-    pub settling-all : e ≤ i → now ≡ settledKeysBy f many base bounds old 0 e
-    unfolding settledKeysBy
-    settling-all h = let none : e - i ≡ 0 = omega arith in sym (ap (settledKeysBy f many base bounds now i) none) ∙ x.rest
+    pub settling_all : e ≤ i → now ≡ settled_keys_by f many base bounds old 0 e
+    unfolding settled_keys_by
+    settling_all h = let none : e - i ≡ 0 = omega arith in sym (ap (settled_keys_by f many base bounds now i) none) ∙ x.rest
 
-pub slot-keys : (bs : List ℕ) (n j e : ℕ) (fits : HearersFit bs n j e) (up : j ≤ e) (many base bounds : ℕ) (old new : List ℕ) (all : Bool) (count : ℕ)
-    → all ≡ ltb n (e - j) → count ≡ min n (e - j) → new ≡ settledKeysBy (stationAt bs all j) many base bounds old 0 count
+pub slot_keys : (bs : List ℕ) (n j e : ℕ) (fits : HearersFit bs n j e) (up : j ≤ e) (many base bounds : ℕ) (old new : List ℕ) (all : Bool) (count : ℕ)
+    → all ≡ ltb n (e - j) → count ≡ min n (e - j) → new ≡ settled_keys_by (station_at bs all j) many base bounds old 0 count
     → SlotKeys bs n many base bounds j e old new
-slot-keys bs n j e fits up many base bounds old new all count is most out =
+slot_keys bs n j e fits up many base bounds old new all count is most out =
     record {
-      stations = stationAt bs all j;
+      stations = station_at bs all j;
       from = 0;
       count = min n (e - j);
-      chosen = slot-chosen bs n j e fits up all is;
-      out = out ∙ ap (settledKeysBy (stationAt bs all j) many base bounds old 0) most;
+      chosen = slot_chosen bs n j e fits up all is;
+      out = out ∙ ap (settled_keys_by (station_at bs all j) many base bounds old 0) most;
     }
 
 -- ---- the beginning
 
-pub begin-rows : (many bounds first : ℕ) (w : List ℕ) → BeginFits many bounds first w
+pub begin_rows : (many bounds first : ℕ) (w : List ℕ) → BeginFits many bounds first w
     → (bounds * many + many ≤ length w) × SourcesFit first many w
-begin-rows many bounds first w f =
+begin_rows many bounds first w f =
     let last = row_fits many bounds (bounds + 1) w (omega arith) f.fits in
     let before = f.before in (
       last,
-      record { rows = f.rows; fits = rows-within before },
+      record { rows = f.rows; fits = rows_within before },
     )
   where
-    rows-within : first + many ≤ bounds → (first + many) * many ≤ length w
-    rows-within h = let a = mul-le-mul_right {m = first + many} {n = bounds} many h in let l = row_fits many bounds (bounds + 1) w (omega arith) f.fits in omega arith
+    rows_within : first + many ≤ bounds → (first + many) * many ≤ length w
+    rows_within h = let a = mul-le-mul_right {m = first + many} {n = bounds} many h in let l = row_fits many bounds (bounds + 1) w (omega arith) f.fits in omega arith
 
-pub sources-kept : (first many : ℕ) (w w' : List ℕ) → SourcesFit first many w → length w' ≡ length w → SourcesFit first many w'
-sources-kept first many w w' f e = let fits = f.fits in record { rows = f.rows; fits = omega arith }
+pub sources_kept : (first many : ℕ) (w w' : List ℕ) → SourcesFit first many w → length w' ≡ length w → SourcesFit first many w'
+sources_kept first many w w' f e = let fits = f.fits in record { rows = f.rows; fits = omega arith }
 
-pub begun-keys-by : (many bounds first : ℕ) (w one two out : List ℕ) → one ≡ filled w 0 (bounds * many) 4611615649683210240
-    → two ≡ filled one (bounds * many) many 0 → out ≡ startedKeys many two first 0 many → out ≡ begunKeys many bounds w first
-unfolding begunKeys
-begun-keys-by many bounds first w one two out a b d = cc
+pub begun_keys_by : (many bounds first : ℕ) (w one two out : List ℕ) → one ≡ filled w 0 (bounds * many) 4611615649683210240
+    → two ≡ filled one (bounds * many) many 0 → out ≡ started_keys many two first 0 many → out ≡ begun_keys many bounds w first
+unfolding begun_keys
+begun_keys_by many bounds first w one two out a b d = cc

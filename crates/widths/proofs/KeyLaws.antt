@@ -2,44 +2,44 @@
 use Rattle.std.proofs.Common.{◌≡◌, ℕ, ◌+◌, ◌-◌, ◌*◌, ◌/◌, ◌%◌, ◌^◌, ◌<◌, ◌≤◌, ◌≢◌, sym, ap, ◌∙◌, mod-eq_of_lt, arith, eq-eqb, ne_eqb}
 use lib.Arith.{digits_div, digits_mod}
 use lib.Bits.{or_add_and, and_le_l, and_comm}
-use Rattle.widths.specs.Key.{key_of, mergedKey, sentKey, widened}
+use Rattle.widths.specs.Key.{key_of, merged_key, sent_key, widened}
 
 module _ (h c : ℕ) (small : c < 70368744177664) where
-  pub key-hops : key_of h c / 70368744177664 ≡ h
+  pub key_hops : key_of h c / 70368744177664 ≡ h
   unfolding key_of
-  key-hops = digits_div h small
+  key_hops = digits_div h small
 
-  pub key-count : key_of h c % 70368744177664 ≡ c
+  pub key_count : key_of h c % 70368744177664 ≡ c
   unfolding key_of
-  key-count = digits_mod h small
+  key_count = digits_mod h small
 
 module _ (h c l d : ℕ) (few : c < 70368744177664) (small : d < 70368744177664) where
   -- fewer hops take the place of the key
-  pub merged-fewer : l < h → mergedKey (key_of h c) (key_of l d) ≡ key_of l d
-  unfolding mergedKey key_of
-  merged-fewer less =
+  pub merged_fewer : l < h → merged_key (key_of h c) (key_of l d) ≡ key_of l d
+  unfolding merged_key key_of
+  merged_fewer less =
       rw (digits_div h few, digits_div l small, ne_eqb h l (omega arith)) (omega arith)
 
   -- as many hops add the count
-  pub merged-equal : l ≡ h → h ≤ 65535 → c + d < 70368744177664 → mergedKey (key_of h c) (key_of l d) ≡ key_of h (c + d)
-  unfolding mergedKey key_of
-  merged-equal same most fits =
+  pub merged_equal : l ≡ h → h ≤ 65535 → c + d < 70368744177664 → merged_key (key_of h c) (key_of l d) ≡ key_of h (c + d)
+  unfolding merged_key key_of
+  merged_equal same most fits =
       rw (digits_div h few, digits_div l small, eq-eqb h l (sym same), digits_mod l small)
       (mod-eq_of_lt (omega arith) ∙ omega arith)
 
   -- more hops leave the key
-  pub merged-more : h < l → mergedKey (key_of h c) (key_of l d) ≡ key_of h c
-  unfolding mergedKey key_of
-  merged-more more =
+  pub merged_more : h < l → merged_key (key_of h c) (key_of l d) ≡ key_of h c
+  unfolding merged_key key_of
+  merged_more more =
       rw (digits_div h few, digits_div l small, ne_eqb h l (omega arith)) (omega arith)
 
 -- over one hop more
-pub sent-key : (a h c : ℕ) → h ≤ 65535 → c < 70368744177664 → sentKey a (key_of h c) ≡ mergedKey a (key_of (h + 1) c)
-unfolding sentKey key_of
-sent-key a h c most small =
+pub sent_key_law : (a h c : ℕ) → h ≤ 65535 → c < 70368744177664 → sent_key a (key_of h c) ≡ merged_key a (key_of (h + 1) c)
+unfolding sent_key key_of
+sent_key_law a h c most small =
     let fits : h * 70368744177664 + c + 70368744177664 < 2 ^ 64 = omega arith in
     let same : h * 70368744177664 + c + 70368744177664 ≡ (h + 1) * 70368744177664 + c = omega arith in
-    ap (mergedKey a) (mod-eq_of_lt fits ∙ same)
+    ap (merged_key a) (mod-eq_of_lt fits ∙ same)
 
 -- a bound does not fall
 pub widened_more : (a b : ℕ) → a ≤ widened a b
@@ -49,9 +49,9 @@ widened_more a b =
     omega (arith, or_add_and a x, and_comm a x, and_le_l x a)
 
 -- and is not below the count
-pub widened-count : (a h c : ℕ) → c < 70368744177664 → h ≤ 65535 → c * 262144 ≤ widened a (key_of h c)
+pub widened_count : (a h c : ℕ) → c < 70368744177664 → h ≤ 65535 → c * 262144 ≤ widened a (key_of h c)
 unfolding widened key_of
-widened-count a h c small most =
+widened_count a h c small most =
     let x = (h * 70368744177664 + c) * 2 ^ 18 % 2 ^ 64 in
     let same : (h * 70368744177664 + c) * 2 ^ 18 ≡ h * 2 ^ 64 + c * 262144 = omega arith in
     let low : x ≡ c * 262144 = ap (λ y. y % 2 ^ 64) same ∙ digits_mod h (omega arith) in
@@ -60,14 +60,14 @@ widened-count a h c small most =
 -- ---- as code finds the key
 
 module _ (a b : ℕ) where
-  pub key-same : (r : ℕ) → a / 70368744177664 ≡ b / 70368744177664 → r ≡ (a + b % 70368744177664) % 2 ^ 64 → r ≡ mergedKey a b
-  unfolding mergedKey
-  key-same r same e = e ∙ sym (rw (eq-eqb (a / 70368744177664) (b / 70368744177664) same))
+  pub key_same : (r : ℕ) → a / 70368744177664 ≡ b / 70368744177664 → r ≡ (a + b % 70368744177664) % 2 ^ 64 → r ≡ merged_key a b
+  unfolding merged_key
+  key_same r same e = e ∙ sym (rw (eq-eqb (a / 70368744177664) (b / 70368744177664) same))
 
-  pub key-less : a / 70368744177664 ≢ b / 70368744177664 → b < a → b ≡ mergedKey a b
-  unfolding mergedKey
-  key-less other less = sym (rw (ne_eqb (a / 70368744177664) (b / 70368744177664) other) (omega arith))
+  pub key_less : a / 70368744177664 ≢ b / 70368744177664 → b < a → b ≡ merged_key a b
+  unfolding merged_key
+  key_less other less = sym (rw (ne_eqb (a / 70368744177664) (b / 70368744177664) other) (omega arith))
 
-  pub key-kept : a / 70368744177664 ≢ b / 70368744177664 → a ≤ b → a ≡ mergedKey a b
-  unfolding mergedKey
-  key-kept other less = sym (rw (ne_eqb (a / 70368744177664) (b / 70368744177664) other) (omega arith))
+  pub key_kept : a / 70368744177664 ≢ b / 70368744177664 → a ≤ b → a ≡ merged_key a b
+  unfolding merged_key
+  key_kept other less = sym (rw (ne_eqb (a / 70368744177664) (b / 70368744177664) other) (omega arith))

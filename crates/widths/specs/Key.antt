@@ -3,7 +3,7 @@
 -- Assumes nothing.
 use Rattle.std.specs.Prelude.{◌≡◌, ℕ, zero, suc, ◌+◌, ◌-◌, ◌*◌, ◌/◌, ◌%◌, ◌^◌, ◌<◌, ◌≤◌, min, cond, List, length, ◌==◌, bit_or, nat_lt, slice_index, slice_set}
 use Rattle.temporal.specs.Plan.{Contact}
-use Rattle.temporal.specs.Bytes.{contactAt}
+use Rattle.temporal.specs.Bytes.{contact_at}
 use Rattle.memory.specs.Fill.{filled}
 use Rattle.pass.specs.Row.{combined}
 use Rattle.pass.specs.Sweep.{Chosen}
@@ -13,12 +13,12 @@ unfoldable pub key_of : ℕ → ℕ → ℕ
 key_of h c = h * 70368744177664 + c
 
 -- of two keys that of fewer hops; with as many hops both counts
-unfoldable pub mergedKey : ℕ → ℕ → ℕ
-mergedKey a b = cond (a / 70368744177664 == b / 70368744177664) ((a + b % 70368744177664) % 2 ^ 64) (min a b)
+unfoldable pub merged_key : ℕ → ℕ → ℕ
+merged_key a b = cond (a / 70368744177664 == b / 70368744177664) ((a + b % 70368744177664) % 2 ^ 64) (min a b)
 
 -- the same with the second over one hop more
-unfoldable pub sentKey : ℕ → ℕ → ℕ
-sentKey a b = mergedKey a ((b + 70368744177664) % 2 ^ 64)
+unfoldable pub sent_key : ℕ → ℕ → ℕ
+sent_key a b = merged_key a ((b + 70368744177664) % 2 ^ 64)
 
 -- a bound that is not below the count of a key, both in the upper 46 bits
 unfoldable pub widened : ℕ → ℕ → ℕ
@@ -26,39 +26,39 @@ widened a b = bit_or a (b * 2 ^ 18 % 2 ^ 64)
 
 -- station v is settled: what waits for it, in the part whose rows begin at row base, is taken in, its counts widen the bounds, and nothing
 -- waits there any more
-unfoldable pub settledKeys : ℕ → ℕ → ℕ → List ℕ → ℕ → List ℕ
-settledKeys many base bounds w v =
+unfoldable pub settled_keys : ℕ → ℕ → ℕ → List ℕ → ℕ → List ℕ
+settled_keys many base bounds w v =
     filled
-    (combined widened (combined mergedKey w (v * many) ((base + v) * many) many) (bounds * many) (v * many) many)
+    (combined widened (combined merged_key w (v * many) ((base + v) * many) many) (bounds * many) (v * many) many)
     ((base + v) * many) many 4611615649683210240
 
 -- the stations f i, f (i + 1) and so on, k of them
-unfoldable pub settledKeysBy : (ℕ → ℕ) → ℕ → ℕ → ℕ → List ℕ → ℕ → ℕ → List ℕ
-settledKeysBy f many base bounds w i zero = w
-settledKeysBy f many base bounds w i (suc k) = settledKeysBy f many base bounds (settledKeys many base bounds w (f i)) (i + 1) k
+unfoldable pub settled_keys_by : (ℕ → ℕ) → ℕ → ℕ → ℕ → List ℕ → ℕ → ℕ → List ℕ
+settled_keys_by f many base bounds w i zero = w
+settled_keys_by f many base bounds w i (suc k) = settled_keys_by f many base bounds (settled_keys many base bounds w (f i)) (i + 1) k
 
 -- a record is folded in: what is settled for its sender goes on to what waits for its hearer
-unfoldable pub foldedKeys : ℕ → ℕ → List ℕ → Contact → List ℕ
-foldedKeys many base w c = combined sentKey w ((base + c.hearer) * many) (c.sender * many) many
+unfoldable pub folded_keys : ℕ → ℕ → List ℕ → Contact → List ℕ
+folded_keys many base w c = combined sent_key w ((base + c.hearer) * many) (c.sender * many) many
 
 -- the empty walks of k sources from s on, each in its own column from column c on
-unfoldable pub startedKeys : ℕ → List ℕ → ℕ → ℕ → ℕ → List ℕ
-startedKeys many w s c zero = w
-startedKeys many w s c (suc k) = startedKeys many (slice_set w (s * many + c) 1) (s + 1) (c + 1) k
+unfoldable pub started_keys : ℕ → List ℕ → ℕ → ℕ → ℕ → List ℕ
+started_keys many w s c zero = w
+started_keys many w s c (suc k) = started_keys many (slice_set w (s * many + c) 1) (s + 1) (c + 1) k
 
 -- no walks but those, and bounds of 0
-unfoldable pub begunKeys : ℕ → ℕ → List ℕ → ℕ → List ℕ
-begunKeys many bounds w first =
-    startedKeys many (filled (filled w 0 (bounds * many) 4611615649683210240) (bounds * many) many 0) first 0 many
+unfoldable pub begun_keys : ℕ → ℕ → List ℕ → ℕ → List ℕ
+begun_keys many bounds w first =
+    started_keys many (filled (filled w 0 (bounds * many) 4611615649683210240) (bounds * many) many 0) first 0 many
 
 -- the split of rows whose counts have a bound: 3 below 2^8, 2 below 2^16, 1 below 2^32, else 0
-unfoldable pub splitFor : ℕ → ℕ
-splitFor b = cond (nat_lt b 67108864) 3 (cond (nat_lt b 17179869184) 2 (cond (nat_lt b 1125899906842624) 1 0))
+unfoldable pub split_for : ℕ → ℕ
+split_for b = cond (nat_lt b 67108864) 3 (cond (nat_lt b 17179869184) 2 (cond (nat_lt b 1125899906842624) 1 0))
 
 -- those of k bounds from a place on, two bits each, the first lowest
-unfoldable pub splitsFrom : List ℕ → ℕ → ℕ → ℕ
-splitsFrom w at zero = 0
-splitsFrom w at (suc k) = splitFor (slice_index w at) + 4 * splitsFrom w (at + 1) k
+unfoldable pub splits_from : List ℕ → ℕ → ℕ → ℕ
+splits_from w at zero = 0
+splits_from w at (suc k) = split_for (slice_index w at) + 4 * splits_from w (at + 1) k
 
 -- the rows of many sources from first on lie within a list
 pub record SourcesFit (first many : ℕ) (w : List ℕ) : Type 0 where
@@ -82,8 +82,8 @@ pub record KeysFit (n many base bounds : ℕ) (w : List ℕ) : Type 0 where
 -- the record at j can be folded in
 pub record FoldableKeys (bs : List ℕ) (n many base bounds j : ℕ) (w : List ℕ) : Type 0 where
   pub inside : j * 6 + 5 < length bs
-  pub sender-station : (contactAt bs j).sender < n
-  pub hearer-station : (contactAt bs j).hearer < n
+  pub sender_station : (contact_at bs j).sender < n
+  pub hearer_station : (contact_at bs j).hearer < n
   pub part : KeysFit n many base bounds w
 
 -- what settling a slot leaves, whose records are those from j to before e
@@ -92,4 +92,4 @@ pub record SlotKeys (bs : List ℕ) (n many base bounds j e : ℕ) (old new : Li
   pub from : ℕ
   pub count : ℕ
   pub chosen : Chosen bs n j e stations from count
-  pub out : new ≡ settledKeysBy stations many base bounds old from count
+  pub out : new ≡ settled_keys_by stations many base bounds old from count

@@ -1,22 +1,23 @@
 // The pass without rows where nothing goes stale, for several sources at once: it settles cause 9 and finds in how many bits every sum of
 // counts on the way fits. A station has a row of keys, one for each source: hops and a count in one entry. What is settled comes first, then
 // what is heard and waits, in a part for each slot of the turnaround, then a row of bounds.
+#![tactic(auto)]
 ghost use Rattle.std.specs.Prelude.{◌≡◌, ◌+◌, ◌*◌, ◌%◌, ◌<◌, ◌≤◌, length};
 ghost use Rattle.temporal.specs.Plan.{units};
-ghost use Rattle.temporal.specs.Bytes.{contactAt};
-ghost use Rattle.temporal.specs.Struck.{lackingRecord};
+ghost use Rattle.temporal.specs.Bytes.{contact_at};
+ghost use Rattle.temporal.specs.Struck.{lacking_record};
 ghost use Rattle.pass.specs.Row.{combined, RowsFit};
 ghost use Rattle.pass.specs.Sweep.{HearersFit};
 ghost use Rattle.widths.specs.Key.{
-  mergedKey,
-  sentKey,
+  merged_key,
+  sent_key,
   widened,
-  settledKeys,
-  foldedKeys,
-  startedKeys,
-  begunKeys,
-  splitFor,
-  splitsFrom,
+  settled_keys,
+  folded_keys,
+  started_keys,
+  begun_keys,
+  split_for,
+  splits_from,
   KeysFit,
   FoldableKeys,
   SourcesFit,
@@ -27,7 +28,7 @@ ghost use Rattle.widths.specs.Found.{WidthsReady, WidthsFound};
 
 // Of two keys that of fewer hops; with as many hops both counts.
 fn merged_key(a: u64, b: u64) -> u64
-    ensures { result ≡ mergedKey a b }
+    ensures { result ≡ merged_key a b }
 {
     if a / 70368744177664 == b / 70368744177664 {
         return std::num::wrapping_add_u64(a, b % 70368744177664);
@@ -41,7 +42,7 @@ fn merged_key(a: u64, b: u64) -> u64
 // Takes a row of keys, each over one hop more, into another.
 fn send_keys(work: &mut [u64], to: usize, from: usize, size: usize)
     requires { RowsFit work.old to from size }
-    ensures { work.new ≡ combined sentKey work.old to from size }
+    ensures { work.new ≡ combined sent_key work.old to from size }
 {
     let mut j = 0;
     while j < size {
@@ -54,7 +55,7 @@ fn send_keys(work: &mut [u64], to: usize, from: usize, size: usize)
 // Takes a row of keys into another.
 fn merge_keys(work: &mut [u64], to: usize, from: usize, size: usize)
     requires { RowsFit work.old to from size }
-    ensures { work.new ≡ combined mergedKey work.old to from size }
+    ensures { work.new ≡ combined merged_key work.old to from size }
 {
     let mut j = 0;
     while j < size {
@@ -78,7 +79,7 @@ fn widen_bounds(work: &mut [u64], to: usize, from: usize, size: usize)
 // Settles what waits for station v in the part whose rows begin at row base.
 fn settle_keys(work: &mut [u64], n: usize, many: usize, base: usize, bounds: usize, v: usize)
     requires { KeysFit n many base bounds work.old × (v < n) }
-    ensures { work.new ≡ settledKeys many base bounds work.old v }
+    ensures { work.new ≡ settled_keys many base bounds work.old v }
 {
     let row = v * many;
     let waits = (base + v) * many;
@@ -98,8 +99,8 @@ fn fold_keys(
     bounds: usize,
     j: usize,
 )
-    requires { FoldableKeys (lackingRecord plan.now out) n many base bounds j work.old }
-    ensures { work.new ≡ foldedKeys many base work.old (contactAt (lackingRecord plan.now out) j) }
+    requires { FoldableKeys (lacking_record plan.now out) n many base bounds j work.old }
+    ensures { work.new ≡ folded_keys many base work.old (contact_at (lacking_record plan.now out) j) }
 {
     let c = plan::kept_contact(plan, out, j);
     let to = (base + c.hearer) * many;
@@ -119,8 +120,8 @@ fn settle_hearers(
     j: usize,
     end: usize,
 )
-    requires { KeysFit n many base bounds work.old × HearersFit (lackingRecord plan.now out) n j end × (j ≤ end) }
-    ensures { SlotKeys (lackingRecord plan.now out) n many base bounds j end work.old work.new }
+    requires { KeysFit n many base bounds work.old × HearersFit (lacking_record plan.now out) n j end × (j ≤ end) }
+    ensures { SlotKeys (lacking_record plan.now out) n many base bounds j end work.old work.new }
 {
     let all = n < end - j;
     let count = pass::smaller(n, end - j);
@@ -135,7 +136,7 @@ fn settle_hearers(
 // Writes the empty walk of each of many sources from first on, each in its column.
 fn start_sources(work: &mut [u64], first: usize, many: usize)
     requires { SourcesFit first many work.old }
-    ensures { work.new ≡ startedKeys many work.old first 0 many }
+    ensures { work.new ≡ started_keys many work.old first 0 many }
 {
     let mut c = 0;
     while c < many {
@@ -147,7 +148,7 @@ fn start_sources(work: &mut [u64], first: usize, many: usize)
 // Begins with no other walks, and with bounds of 0.
 fn begin_keys(work: &mut [u64], many: usize, bounds: usize, first: usize)
     requires { BeginFits many bounds first work.old }
-    ensures { work.new ≡ begunKeys many bounds work.old first }
+    ensures { work.new ≡ begun_keys many bounds work.old first }
 {
     let at = bounds * many;
     memory::fill_part(work, 0, at, 4611615649683210240);
@@ -165,7 +166,7 @@ fn part_row(n: usize, q: usize, u: usize) -> usize
 
 // The split of rows whose counts have a bound.
 fn split_for(bound: u64) -> u64
-    ensures { result ≡ splitFor bound }
+    ensures { result ≡ split_for bound }
 {
     if bound < 67108864 {
         return 3;
@@ -182,7 +183,7 @@ fn split_for(bound: u64) -> u64
 // Those of many bounds from a place on, two bits each, the first lowest.
 fn splits_from(work: &[u64], at: usize, many: usize) -> u64
     requires { (at + many ≤ length work.now) × (many ≤ 32) }
-    ensures { result ≡ splitsFrom work.now at many }
+    ensures { result ≡ splits_from work.now at many }
 {
     let mut splits: u64 = 0;
     let mut i = many;
@@ -207,8 +208,8 @@ pub fn widths_of(
     first: usize,
     many: usize,
 ) -> u64
-    requires { WidthsReady (lackingRecord plan.now out) n t (units g h) first many work.old }
-    ensures { WidthsFound (lackingRecord plan.now out) n t (units g h) first many work.old work.new result }
+    requires { WidthsReady (lacking_record plan.now out) n t (units g h) first many work.old }
+    ensures { WidthsFound (lacking_record plan.now out) n t (units g h) first many work.old work.new result }
 {
     let q = pass::smaller(g, t);
     let bounds = (1 + q) * n;

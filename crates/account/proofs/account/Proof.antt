@@ -2,9 +2,9 @@
 -- Assumes nothing.
 use native.Mathlib.Omega.{arith}
 use mathlib.Core.Path.{sym, ap₂, ◌∙◌}
-use Rattle.report.specs.Sizes.{overLimits}
-use Rattle.report.proofs.ReportLaws.{refusal-room, wrong-length, wrong-limits, limit-stations}
-use Rattle.account.proofs.AccountedLaws.{account-text, account-walks, account-input}
+use Rattle.report.specs.Sizes.{over_limits}
+use Rattle.report.proofs.ReportLaws.{refusal_room, wrong_length_law, wrong_limits, limit_stations}
+use Rattle.account.proofs.AccountedLaws.{account_text_law, account_walks, account_input}
 use borrow.Author.Rules.{rules}
 use Rattle.account.proofs.account.Statement.{statement}
 use Rattle.account.proofs.account.Tie as tie
@@ -13,12 +13,12 @@ wrong-input-requires : tie.Need-wrong-input-requires
 wrong-input-requires c κs = search rules
 
 put-refusal-requires : tie.Need-put-refusal-requires
-put-refusal-requires c κs = refusal-room 2 _ (search rules)
+put-refusal-requires c κs = refusal_room 2 _ (search rules)
 
 returns : tie.Need-returns
 returns c =
-    let e = wrong-length _ (sym c.before.before.before.wrong-input.ensures ∙ c.before.before.if1.true) in
-    account-text _ _ _ _ _ _ _ _ c.put-refusal.ensures (account-input _ _ _ _ 1 e)
+    let e = wrong_length_law _ (sym c.before.before.before.wrong-input.ensures ∙ c.before.before.if1.true) in
+    account_text_law _ _ _ _ _ _ _ _ c.put-refusal.ensures (account_input _ _ _ _ 1 e)
 
 top-of-requires : tie.Need-top-of-requires
 top-of-requires c κs = search rules
@@ -30,7 +30,7 @@ over-limits-requires : tie.Need-over-limits-requires
 over-limits-requires c κs = search rules
 
 put-refusal-requires-2 : tie.Need-put-refusal-requires-2
-put-refusal-requires-2 c κs = refusal-room 1 _ (search rules)
+put-refusal-requires-2 c κs = refusal_room 1 _ (search rules)
 
 returns-2 : tie.Need-returns-2
 returns-2 c =
@@ -41,23 +41,23 @@ returns-2 c =
     let right = top.before in
     let over = sym limits.over-limits.ensures ∙ test.if2.true in
     let whole = sym right.before.wrong-input.ensures ∙ right.if1.false in
-    account-text _ _ _ _ _ _ _ _ c.put-refusal2.ensures
-    (account-input _ _ _ _ 0
-    (wrong-limits _ whole (ap₂ overLimits (sym top.top_of.ensures) (sym slots.slots-of.ensures) ∙ over)))
+    account_text_law _ _ _ _ _ _ _ _ c.put-refusal2.ensures
+    (account_input _ _ _ _ 0
+    (wrong_limits _ whole (ap₂ over_limits (sym top.top_of.ensures) (sym slots.slots-of.ensures) ∙ over)))
 
 walks-of-requires : tie.Need-walks-of-requires
 walks-of-requires c κs = search rules
 
 add-account-within : tie.Need-overflow-add-account-within
 add-account-within c =
-    omega (arith, limit-stations _ _ (sym c.before.before.over-limits.ensures ∙ c.before.if2.false))
+    omega (arith, limit_stations _ _ (sym c.before.before.over-limits.ensures ∙ c.before.if2.false))
 
 account-within-requires : tie.Need-account-within-requires
 account-within-requires c κs =
     record {
       within =
           record {
-            right-input =
+            right_input =
                 let right = c.before.before.before.before.before.before.before.before.before.before.before in
                 sym right.before.wrong-input.ensures ∙ right.if1.false;
             stations = c.before.before.before.before.before.before.before.before.before.before.top_of.ensures;
@@ -65,22 +65,22 @@ account-within-requires c κs =
             limits =
                 let test = c.before.before.before.before.before.before.before in
                 sym test.before.over-limits.ensures ∙ test.if2.false;
-            out-size = search rules;
-            pairs-size = search rules;
-            loads-size = search rules;
-            work-size = search rules;
+            out_size = search rules;
+            pairs_size = search rules;
+            loads_size = search rules;
+            work_size_law = search rules;
           };
-      few-walks = omega (arith, c.before.before.before.before.before.before.walks-of.ensures);
-      out-size = search rules;
-      layers-size = search rules;
-      way-size = search rules;
-      work-size = search rules;
+      few_walks = omega (arith, c.before.before.before.before.before.before.walks_of.ensures);
+      out_size = search rules;
+      layers_size = search rules;
+      way_size = search rules;
+      work_size_law = search rules;
     }
 
 returns-3 : tie.Need-returns-3
 returns-3 c =
     let walks = c.before.before.before.before.before.before.before in
-    account-walks _ _ _ _ _ _ _ _ walks.walks-of.ensures c.account-within.ensures
+    account_walks _ _ _ _ _ _ _ _ walks.walks_of.ensures c.account-within.ensures
 
 pub account-spec : {M : Type 1} → statement M
 account-spec =

@@ -1,6 +1,6 @@
 -- `account::account_loaded` meets its contract: the first line, the layered plan, the pairs.
 -- Assumes nothing.
-use Rattle.account.proofs.AccountedLaws.{station-room, loaded-layerable, layers-writable, account-written}
+use Rattle.account.proofs.AccountedLaws.{station_room, loaded_layerable, layers_writable, account_written}
 use borrow.Author.Rules.{rules}
 use Rattle.account.proofs.account_loaded.Statement.{statement}
 use Rattle.account.proofs.account_loaded.Tie as tie
@@ -20,19 +20,19 @@ shared-slice-read-put-station c = search rules
 put-station-requires : tie.Need-put-station-requires
 put-station-requires c κs =
     let start = c.before.before.before.before.before.before.before.before.before.before in
-    station-room _ _ _ _ _ _ start.args.out.now _ _ _ _ _ start.requires
+    station_room _ _ _ _ _ _ start.args.out.now _ _ _ _ _ start.requires
 
 layer-requires : tie.Need-layer-requires
 layer-requires c κs =
     let start = c.before.before.before.before.before.before.before.before.before.before.before.before.before.before in
-    loaded-layerable _ _ _ _ _ _ _ _ _ start.args.layers.now _ _ start.requires
+    loaded_layerable _ _ _ _ _ _ _ _ _ start.args.layers.now _ _ start.requires
 
 put-pairs-of-requires : tie.Need-put-pairs-of-requires
 put-pairs-of-requires c κs =
     let layered = c.before.before.before.before.before.before.before in
     let station = layered.before.before.before.before in
     let start = station.before.before.before.before.before.before.before.before.before.before.before in
-    layers-writable _ _ _ _ _ _ _ _ _ _ _ _ start.requires _ _ station.put-station.ensures _ layered.layer.ensures
+    layers_writable _ _ _ _ _ _ _ _ _ _ _ _ start.requires _ _ station.put-station.ensures _ layered.layer.ensures
 
 same_length : tie.Need-same-length
 same_length c = search rules
@@ -54,7 +54,7 @@ returns c =
     let pairs = c.before.before.before.before.before.before.before.before in
     let station = pairs.before.before.before.before.before.before.before.before.before.before.before.before in
     let start = station.before.before.before.before.before.before.before.before.before.before.before in
-    account-written _ _ _ _ _ _ _ _ _ _ _ _ start.requires _ _ station.put-station.ensures _ _ pairs.put-pairs-of.ensures
+    account_written _ _ _ _ _ _ _ _ _ _ _ _ start.requires _ _ station.put-station.ensures _ _ pairs.put-pairs-of.ensures
 
 pub account-loaded-spec : {M : Type 1} → statement M
 account-loaded-spec =

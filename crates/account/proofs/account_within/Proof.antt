@@ -1,7 +1,7 @@
 -- `account::account_within` meets its contract: the number of a refusal, or the account from the tables that loads leaves.
 -- Assumes nothing.
-use Rattle.report.proofs.ReportLaws.{refusal-room}
-use Rattle.account.proofs.AccountedLaws.{account-text, accounted-refused, accounted-loaded, loaded-for}
+use Rattle.report.proofs.ReportLaws.{refusal_room}
+use Rattle.account.proofs.AccountedLaws.{account_text_law, accounted_refused, accounted_loaded, loaded_for}
 use borrow.Author.Rules.{rules}
 use Rattle.account.proofs.account_within.Statement.{statement}
 use Rattle.account.proofs.account_within.Tie as tie
@@ -18,7 +18,7 @@ account-loaded-requires c κs =
     let number = test.before in
     let loads = number.before.before.before.before.before.before.before in
     let start = loads.before.before.before.before.before.before.before.before.before.before.before in
-    loaded-for _ _ _ _ _ _ _ _ _ _ _ _ start.requires loads.loads.result _ _ _ loads.loads.ensures _
+    loaded_for _ _ _ _ _ _ _ _ _ _ _ _ start.requires loads.loads.result _ _ _ loads.loads.ensures _
     number.number_of.ensures test.if1.true loads.loads.auto.1.1.1.1.1.1.1.0
 
 same_length : tie.Need-same-length
@@ -46,8 +46,8 @@ returns c =
     let number = test.before in
     let loads = number.before.before.before.before.before.before.before in
     let start = loads.before.before.before.before.before.before.before.before.before.before.before in
-    account-text _ _ _ _ _ _ _ _ written.account-loaded.ensures
-    (accounted-loaded _ _ _ _ _ _ _ _ _ _ _ _ start.requires loads.loads.result _ _ _ loads.loads.ensures _
+    account_text_law _ _ _ _ _ _ _ _ written.account-loaded.ensures
+    (accounted_loaded _ _ _ _ _ _ _ _ _ _ _ _ start.requires loads.loads.result _ _ _ loads.loads.ensures _
     number.number_of.ensures test.if1.true)
 
 put-refusal-requires : tie.Need-put-refusal-requires
@@ -55,7 +55,7 @@ put-refusal-requires c κs =
     let number = c.before.before in
     let loads = number.before.before.before.before.before.before.before in
     let start = loads.before.before.before.before.before.before.before.before.before.before.before in
-    refusal-room _ _ start.requires.within.out-size
+    refusal_room _ _ start.requires.within.out_size
 
 same-length-7 : tie.Need-same-length-7
 same-length-7 c = search rules
@@ -76,8 +76,8 @@ returns-2 c =
     let number = test.before in
     let loads = number.before.before.before.before.before.before.before in
     let start = loads.before.before.before.before.before.before.before.before.before.before.before in
-    account-text _ _ _ _ _ _ _ _ written.put-refusal.ensures
-    (accounted-refused _ _ _ _ _ _ _ _ _ _ _ _ start.requires loads.loads.result _ _ _ loads.loads.ensures _
+    account_text_law _ _ _ _ _ _ _ _ written.put-refusal.ensures
+    (accounted_refused _ _ _ _ _ _ _ _ _ _ _ _ start.requires loads.loads.result _ _ _ loads.loads.ensures _
     number.number_of.ensures test.if1.false)
 
 pub account-within-spec : {M : Type 1} → statement M

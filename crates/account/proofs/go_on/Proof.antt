@@ -1,7 +1,7 @@
 -- `account::go_on` meets its contract: the first walk, or the one after that with which the buffer begins.
 -- Assumes nothing.
 use native.Mathlib.Omega.{arith}
-use Rattle.account.proofs.ListedLaws.{move-next, moved-next}
+use Rattle.account.proofs.ListedLaws.{move_next, moved_next}
 use borrow.Author.Rules.{rules}
 use Rattle.account.proofs.go_on.Statement.{statement}
 use Rattle.account.proofs.go_on.Tie as tie
@@ -18,7 +18,7 @@ returns c = rw c.before.before.before.before.if1.true c.before.before.first-path
 next-path-requires : tie.Need-next-path-requires
 next-path-requires c κs =
     let start = c.before.before.before.before.before in
-    move-next _ _ _ start.args.way.now _ start.requires (omega arith)
+    move_next _ _ _ start.args.way.now _ start.requires (omega arith)
 
 same-length-2 : tie.Need-same-length-2
 same-length-2 c = search rules
@@ -26,7 +26,7 @@ same-length-2 c = search rules
 returns-2 : tie.Need-returns-2
 returns-2 c =
     let start = c.before.before.before.before.before.before.before.before in
-    moved-next _ _ _ _ _ start.requires (omega arith) _ _ c.before.before.next-path.ensures
+    moved_next _ _ _ _ _ start.requires (omega arith) _ _ c.before.before.next-path.ensures
 
 pub go-on-spec : {M : Type 1} → statement M
 go-on-spec =

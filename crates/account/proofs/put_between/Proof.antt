@@ -2,20 +2,20 @@
 -- Assumes nothing.
 use native.Mathlib.Omega.{arith}
 use Rattle.account.proofs.BetweenLaws.{
-  between-same,
-  between-refused,
+  between_same,
+  between_refused,
   between_none,
-  between-share,
-  between-figures,
-  between-writable,
-  between-written,
+  between_share,
+  between_figures,
+  between_writable,
+  between_written,
 }
 use borrow.Author.Rules.{rules}
 use Rattle.account.proofs.put_between.Statement.{statement}
 use Rattle.account.proofs.put_between.Tie as tie
 
 returns : tie.Need-returns
-returns c = between-same _ _ _ _ _ _ _ _ _ _ _ _ _ _ c.before.before.before.before.before.before.before.requires c.if1.true
+returns c = between_same _ _ _ _ _ _ _ _ _ _ _ _ _ _ c.before.before.before.before.before.before.before.requires c.if1.true
 
 pair-requires : tie.Need-pair-requires
 pair-requires c κs = search rules
@@ -34,7 +34,7 @@ same-length-2 c = search rules
 
 returns-2 : tie.Need-returns-2
 returns-2 c =
-    between-refused _ _ _ _ _ _ _ _ _ _ _ _ _ _ c.before.before.before.before.before.before.before.before.before.before.before.before.before.before.before.before.requires c.before.before.before.before.before.before.before.before.before.if1.false _ _ _ c.before.before.before.before.before.before.pair.ensures _ c.enum_told.given.1
+    between_refused _ _ _ _ _ _ _ _ _ _ _ _ _ _ c.before.before.before.before.before.before.before.before.before.before.before.before.before.before.before.before.requires c.before.before.before.before.before.before.before.before.before.if1.false _ _ _ c.before.before.before.before.before.before.pair.ensures _ c.enum_told.given.1
 
 mul-x : tie.Need-overflow-mul-x
 mul-x c = search rules
@@ -54,7 +54,7 @@ returns-3 c =
 
 share-requires : tie.Need-share-requires
 share-requires c κs =
-    between-share _ _ _ _ _ _ _ _ _ _ _ _ _ _ c.before.before.before.before.before.before.before.before.before.before.before.before.before.before.before.before.before.before.before.requires c.before.before.before.before.before.before.before.before.before.before.before.before.if1.false _ _ _ c.before.before.before.before.before.before.before.before.before.pair.ensures _ _ c.before.before.before.hops.given.1 c.if2.false
+    between_share _ _ _ _ _ _ _ _ _ _ _ _ _ _ c.before.before.before.before.before.before.before.before.before.before.before.before.before.before.before.before.before.before.before.requires c.before.before.before.before.before.before.before.before.before.before.before.before.if1.false _ _ _ c.before.before.before.before.before.before.before.before.before.pair.ensures _ _ c.before.before.before.hops.given.1 c.if2.false
 
 put-pair-requires : tie.Need-put-pair-requires
 put-pair-requires c κs =
@@ -62,8 +62,8 @@ put-pair-requires c κs =
     let answer = c.before.before.before.before.before.before.before.before.before.before.before.before.before.pair in
     let told = c.before.before.before.before.before.before.before.hops.given.1 in
     let some = c.before.before.before.before.if2.false in
-    between-writable _ _ _ _ _ _ _ _ _ _ _ _ _ start.args.out.now start.requires c.before.before.before.before.before.before.before.before.before.before.before.before.before.before.before.before.if1.false _ _ _ answer.ensures _ _ told some _
-    (between-figures _ _ _ _ _ _ _ _ _ _ _ _ _ start.args.out.now start.requires c.before.before.before.before.before.before.before.before.before.before.before.before.before.before.before.before.if1.false _ _ _ answer.ensures _ _ told some _
+    between_writable _ _ _ _ _ _ _ _ _ _ _ _ _ start.args.out.now start.requires c.before.before.before.before.before.before.before.before.before.before.before.before.before.before.before.before.if1.false _ _ _ answer.ensures _ _ told some _
+    (between_figures _ _ _ _ _ _ _ _ _ _ _ _ _ start.args.out.now start.requires c.before.before.before.before.before.before.before.before.before.before.before.before.before.before.before.before.if1.false _ _ _ answer.ensures _ _ told some _
     c.before.before.before.share.ensures) answer.auto.1.1.1.1.1.1.1.1.0
 
 same-length-5 : tie.Need-same-length-5
@@ -84,8 +84,8 @@ returns-4 c =
     let answer = c.before.before.before.before.before.before.before.before.before.before.before.before.before.before.before.before.before.before.before.before.pair in
     let told = c.before.before.before.before.before.before.before.before.before.before.before.before.before.before.hops.given.1 in
     let some = c.before.before.before.before.before.before.before.before.before.before.before.if2.false in
-    between-written _ _ _ _ _ _ _ _ _ _ _ _ _ _ start.requires c.before.before.before.before.before.before.before.before.before.before.before.before.before.before.before.before.before.before.before.before.before.before.before.if1.false _ _ _ answer.ensures _ _ told some _
-    (between-figures _ _ _ _ _ _ _ _ _ _ _ _ _ _ start.requires c.before.before.before.before.before.before.before.before.before.before.before.before.before.before.before.before.before.before.before.before.before.before.before.if1.false _ _ _ answer.ensures _ _ told some _
+    between_written _ _ _ _ _ _ _ _ _ _ _ _ _ _ start.requires c.before.before.before.before.before.before.before.before.before.before.before.before.before.before.before.before.before.before.before.before.before.before.before.if1.false _ _ _ answer.ensures _ _ told some _
+    (between_figures _ _ _ _ _ _ _ _ _ _ _ _ _ _ start.requires c.before.before.before.before.before.before.before.before.before.before.before.before.before.before.before.before.before.before.before.before.before.before.before.if1.false _ _ _ answer.ensures _ _ told some _
     c.before.before.before.before.before.before.before.before.before.before.share.ensures) _ _ c.before.before.before.before.before.before.put-pair.ensures
 
 pub put-between-spec : {M : Type 1} → statement M

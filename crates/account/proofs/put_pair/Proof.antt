@@ -1,7 +1,7 @@
 -- `account::put_pair` meets its contract: the completion table, then the line, the walks and how many more there are.
 -- Assumes nothing.
 use native.Mathlib.Omega.{arith}
-use Rattle.account.proofs.PairTextLaws.{pair-line-room, pair-walks-writable, pair-more-room, pair-written}
+use Rattle.account.proofs.PairTextLaws.{pair_line_room, pair_walks_writable, pair_more_room, pair_written}
 use borrow.Author.Rules.{rules}
 use Rattle.account.proofs.put_pair.Statement.{statement}
 use Rattle.account.proofs.put_pair.Tie as tie
@@ -21,13 +21,13 @@ fewer-requires c κs = search rules
 put-pair-line-requires : tie.Need-put-pair-line-requires
 put-pair-line-requires c κs =
     let start = c.before.before.before.before.before.before.before.before.before.before.before in
-    pair-line-room _ _ _ _ _ _ _ _ _ start.args.out.now start.requires
+    pair_line_room _ _ _ _ _ _ _ _ _ start.args.out.now start.requires
 
 put-walks-requires : tie.Need-put-walks-requires
 put-walks-requires c κs =
     let start = c.before.before.before.before.before.before.before.before.before.before.before.before.before.before.before.before.before in
     rw c.before.before.before.before.before.before.before.fewer.ensures
-    (pair-walks-writable _ _ _ _ _ _ _ _ _ start.args.out.now start.requires _ _ c.before.before.before.before.before.put-pair-line.ensures _
+    (pair_walks_writable _ _ _ _ _ _ _ _ _ start.args.out.now start.requires _ _ c.before.before.before.before.before.put-pair-line.ensures _
     c.before.before.before.before.before.before.before.before.before.before.complete.ensures)
 
 sub-put-more : tie.Need-overflow-sub-put-more
@@ -37,7 +37,7 @@ put-more-requires : tie.Need-put-more-requires
 put-more-requires c κs =
     let start = c.before.before.before.before.before.before.before.before.before.before.before.before.before.before.before.before.before.before.before.before.before.before.before.before in
     rw c.before.before.before.before.before.before.before.before.before.before.before.before.before.before.fewer.ensures
-    (pair-more-room _ _ _ _ _ _ _ _ _ start.args.out.now start.requires _ _ c.before.before.before.before.before.before.before.before.before.before.before.before.put-pair-line.ensures _ _
+    (pair_more_room _ _ _ _ _ _ _ _ _ start.args.out.now start.requires _ _ c.before.before.before.before.before.before.before.before.before.before.before.before.put-pair-line.ensures _ _
     (rw c.before.before.before.before.before.before.before.before.before.before.before.before.before.before.fewer.ensures at c.before.before.before.before.before.before.put-Walks.ensures))
 
 same_length : tie.Need-same-length
@@ -53,7 +53,7 @@ returns : tie.Need-returns
 returns c =
     let start = c.before.before.before.before.before.before.before.before.before.before.before.before.before.before.before.before.before.before.before.before.before.before.before.before.before.before.before in
     let most = c.before.before.before.before.before.before.before.before.before.before.before.before.before.before.before.before.before.fewer.ensures in
-    pair-written _ _ _ _ _ _ _ _ _ start.args.out.now start.requires _ _ c.before.before.before.before.before.before.before.before.before.before.before.before.before.before.before.put-pair-line.ensures _ _
+    pair_written _ _ _ _ _ _ _ _ _ start.args.out.now start.requires _ _ c.before.before.before.before.before.before.before.before.before.before.before.before.before.before.before.put-pair-line.ensures _ _
     (rw most at c.before.before.before.before.before.before.before.before.before.put-Walks.ensures) _ _ (rw most at c.before.before.put-more.ensures)
 
 pub put-pair-spec : {M : Type 1} → statement M

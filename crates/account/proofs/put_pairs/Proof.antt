@@ -4,17 +4,17 @@
 use Prim.Native.Nat.{◌-◌}
 use native.Mathlib.Omega.{arith}
 use Rattle.text.specs.Pieces.{pieces}
-use Rattle.text.proofs.GoingLaws.{Going, going-begin}
-use Rattle.text.proofs.PieceLaws.{piece-next, piece-all}
-use Rattle.account.specs.Work.{sourceText}
-use Rattle.account.proofs.SourceLaws.{Lengths, lengths-begin, lengths-next, source-next, pairs-room, pairs-written}
+use Rattle.text.proofs.GoingLaws.{Going, going_begin}
+use Rattle.text.proofs.PieceLaws.{piece_next, piece_all}
+use Rattle.account.specs.Work.{source_text}
+use Rattle.account.proofs.SourceLaws.{Lengths, lengths_begin, lengths_next, source_next, pairs_room, pairs_written}
 use borrow.Author.Rules.{rules}
 use Rattle.account.proofs.put_pairs.Statement.{statement}
 use Rattle.account.proofs.put_pairs.Tie as tie
 
 abbrev invariant-loop : tie.invariant-loop
 invariant-loop out₀ at input layered n t g v k through₀ way₀ work₀ end₀ s₀ out through way work end s =
-    Going at (pieces (sourceText input n t g v k) 0 n) out₀ end (pieces (sourceText input n t g v k) s n) out ×
+    Going at (pieces (source_text input n t g v k) 0 n) out₀ end (pieces (source_text input n t g v k) s n) out ×
     Lengths through₀ way₀ work₀ through way work
 
 abbrev decreases-loop : tie.decreases-loop
@@ -23,13 +23,13 @@ decreases-loop out₀ at input layered n t g v k through₀ way₀ work₀ end�
 loop-holds : tie.Need-loop-init invariant-loop decreases-loop
 loop-holds c =
     let start = c.before.before.before.before.before.before in
-    (going-begin _ _ _ (pairs-room _ _ _ _ _ _ _ _ _ _ _ start.args.out.now start.requires), lengths-begin _ _ _)
+    (going_begin _ _ _ (pairs_room _ _ _ _ _ _ _ _ _ _ _ start.args.out.now start.requires), lengths_begin _ _ _)
 
 put-source-requires : tie.Need-put-source-requires invariant-loop decreases-loop
 put-source-requires c κs =
     let start = c.before.before.before.before.before.before.before.before.before.before.before.before in
     let loop = c.before.before.before.before.before.loop in
-    source-next _ _ _ _ _ _ _ _ _ _ _ start.args.out.now _ _ _ _ _ loop.invariant.1 _ start.requires (omega arith) loop.invariant.0
+    source_next _ _ _ _ _ _ _ _ _ _ _ start.args.out.now _ _ _ _ _ loop.invariant.1 _ start.requires (omega arith) loop.invariant.0
 
 add-s : tie.Need-overflow-add-s invariant-loop decreases-loop
 add-s c = search rules
@@ -41,8 +41,8 @@ loop-again : tie.Need-loop-preserved invariant-loop decreases-loop
 loop-again c =
     let loop = c.before.before.before.before.before.before.before.before.before.before.before.before.before.before.loop in
     let told = c.before.before.before.before.before.before.before.before.put-source in (
-      piece-next _ _ _ _ _ _ _ _ loop.invariant.0 (omega arith) _ _ told.ensures,
-      lengths-next loop.invariant.1 told.auto.1.1.1.1.1.1.1.1.1.1.0 told.auto.1.1.1.1.1.1.1.1.1.1.1.0 told.auto.1.1.1.1.1.1.1.1.1.1.1.1.0,
+      piece_next _ _ _ _ _ _ _ _ loop.invariant.0 (omega arith) _ _ told.ensures,
+      lengths_next loop.invariant.1 told.auto.1.1.1.1.1.1.1.1.1.1.0 told.auto.1.1.1.1.1.1.1.1.1.1.1.0 told.auto.1.1.1.1.1.1.1.1.1.1.1.1.0,
     )
 
 same_length : tie.Need-same-length invariant-loop decreases-loop
@@ -55,10 +55,10 @@ same-length-3 : tie.Need-same-length-3 invariant-loop decreases-loop
 same-length-3 c = c.before.loop.invariant.1.way_same
 
 same-length-4 : tie.Need-same-length-4 invariant-loop decreases-loop
-same-length-4 c = c.before.loop.invariant.1.work-same
+same-length-4 c = c.before.loop.invariant.1.work_same
 
 returns : tie.Need-returns invariant-loop decreases-loop
-returns c = pairs-written _ _ _ _ _ _ _ _ _ _ (piece-all _ _ _ _ _ _ _ _ c.before.loop.invariant.0 (omega arith))
+returns c = pairs_written _ _ _ _ _ _ _ _ _ _ (piece_all _ _ _ _ _ _ _ _ c.before.loop.invariant.0 (omega arith))
 
 pub put-pairs-spec : {M : Type 1} → statement M
 put-pairs-spec =

@@ -12,7 +12,7 @@ mul-size c = search rules
 slice-aggregate-put-pairs : tie.Need-slice-aggregate-put-pairs
 slice-aggregate-put-pairs c =
     let start = c.before.before.before.before.before.before.before.before in
-    sym (length-take-le _ start.args.layers.now start.requires.layers-room)
+    sym (length-take-le _ start.args.layers.now start.requires.layers_room)
 
 put-pairs-requires : tie.Need-put-pairs-requires
 put-pairs-requires c κs = search rules

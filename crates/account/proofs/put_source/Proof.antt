@@ -4,24 +4,24 @@
 use Prim.Native.Nat.{◌-◌}
 use native.Mathlib.Omega.{arith}
 use Rattle.text.specs.Pieces.{pieces}
-use Rattle.text.proofs.GoingLaws.{Going, going-begin}
-use Rattle.text.proofs.PieceLaws.{piece-next, piece-all}
-use Rattle.account.specs.Work.{betweenText, sourceText}
-use Rattle.account.proofs.SourceLaws.{Lengths, lengths-begin, lengths-next, between_next}
+use Rattle.text.proofs.GoingLaws.{Going, going_begin}
+use Rattle.text.proofs.PieceLaws.{piece_next, piece_all}
+use Rattle.account.specs.Work.{between_text, source_text}
+use Rattle.account.proofs.SourceLaws.{Lengths, lengths_begin, lengths_next, between_next}
 use borrow.Author.Rules.{rules}
 use Rattle.account.proofs.put_source.Statement.{statement}
 use Rattle.account.proofs.put_source.Tie as tie
 
 abbrev invariant-loop : tie.invariant-loop
 invariant-loop out₀ at input layered n t g v k s through₀ way₀ work₀ end₀ z₀ out through way work end z =
-    Going at (sourceText input n t g v k s) out₀ end (pieces (betweenText input n t g v k s) z n) out ×
+    Going at (source_text input n t g v k s) out₀ end (pieces (between_text input n t g v k s) z n) out ×
     Lengths through₀ way₀ work₀ through way work
 
 abbrev decreases-loop : tie.decreases-loop
 decreases-loop out₀ at input layered n t g v k s through₀ way₀ work₀ end₀ z₀ out through way work end z = n - z
 
 loop-holds : tie.Need-loop-init invariant-loop decreases-loop
-loop-holds c = (going-begin _ _ _ c.before.before.before.before.before.before.requires.room, lengths-begin _ _ _)
+loop-holds c = (going_begin _ _ _ c.before.before.before.before.before.before.requires.room, lengths_begin _ _ _)
 
 put-between-requires : tie.Need-put-between-requires invariant-loop decreases-loop
 put-between-requires c κs =
@@ -39,8 +39,8 @@ loop-again : tie.Need-loop-preserved invariant-loop decreases-loop
 loop-again c =
     let loop = c.before.before.before.before.before.before.before.before.before.before.before.before.before.before.loop in
     let told = c.before.before.before.before.before.before.before.before.put-between in (
-      piece-next _ _ _ _ _ _ _ _ loop.invariant.0 (omega arith) _ _ told.ensures,
-      lengths-next loop.invariant.1 told.auto.1.1.1.1.1.1.1.1.1.1.1.0 told.auto.1.1.1.1.1.1.1.1.1.1.1.1.0 told.auto.1.1.1.1.1.1.1.1.1.1.1.1.1.0,
+      piece_next _ _ _ _ _ _ _ _ loop.invariant.0 (omega arith) _ _ told.ensures,
+      lengths_next loop.invariant.1 told.auto.1.1.1.1.1.1.1.1.1.1.1.0 told.auto.1.1.1.1.1.1.1.1.1.1.1.1.0 told.auto.1.1.1.1.1.1.1.1.1.1.1.1.1.0,
     )
 
 same_length : tie.Need-same-length invariant-loop decreases-loop
@@ -53,10 +53,10 @@ same-length-3 : tie.Need-same-length-3 invariant-loop decreases-loop
 same-length-3 c = c.before.loop.invariant.1.way_same
 
 same-length-4 : tie.Need-same-length-4 invariant-loop decreases-loop
-same-length-4 c = c.before.loop.invariant.1.work-same
+same-length-4 c = c.before.loop.invariant.1.work_same
 
 returns : tie.Need-returns invariant-loop decreases-loop
-returns c = piece-all _ _ _ _ _ _ _ _ c.before.loop.invariant.0 (omega arith)
+returns c = piece_all _ _ _ _ _ _ _ _ c.before.loop.invariant.0 (omega arith)
 
 pub put-source-spec : {M : Type 1} → statement M
 put-source-spec =

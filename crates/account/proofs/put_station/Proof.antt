@@ -1,6 +1,6 @@
 -- `account::put_station` meets its contract: a label, then three numbers.
 -- Assumes nothing.
-use Rattle.account.specs.Account.{stationLine}
+use Rattle.account.specs.Account.{station_line}
 use borrow.Author.Rules.{rules}
 use Rattle.account.proofs.put_station.Statement.{statement}
 use Rattle.account.proofs.put_station.Tie as tie
@@ -18,14 +18,14 @@ slice-aggregate-put-labelled-4 : tie.Need-slice-aggregate-put-labelled-4
 slice-aggregate-put-labelled-4 c = search rules
 
 put-labelled-requires : tie.Need-put-labelled-requires
-unfolding stationLine
+unfolding station_line
 put-labelled-requires c κs = c.before.before.before.before.before.before.requires
 
 same_length : tie.Need-same-length
 same_length c = search rules
 
 returns : tie.Need-returns
-unfolding stationLine
+unfolding station_line
 returns c = c.before.before.put-labelled.ensures
 
 pub put-station-spec : {M : Type 1} → statement M

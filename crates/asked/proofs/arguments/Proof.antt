@@ -1,7 +1,7 @@
 -- `asked::arguments` meets its contract: no more walks are asked for than may be.
 -- Assumes nothing.
 use borrow.Author.Rules.{rules}
-use Rattle.asked.proofs.RequestLaws.{walks-within}
+use Rattle.asked.proofs.RequestLaws.{walks_within}
 use Rattle.asked.proofs.arguments.Statement.{statement}
 use Rattle.asked.proofs.arguments.Tie as tie
 
@@ -48,7 +48,7 @@ returns : tie.Need-returns
 returns c = search rules
 
 returns-2 : tie.Need-returns-2
-returns-2 c = walks-within _ _ _ _ _ c.before.before.before.request-of.ensures c.before.station.given.1
+returns-2 c = walks_within _ _ _ _ _ c.before.before.before.request-of.ensures c.before.station.given.1
 
 pub arguments-spec : {M : Type 1} → statement M
 arguments-spec =

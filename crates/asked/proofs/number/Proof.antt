@@ -7,28 +7,28 @@ use lib.ListN.{length, drop}
 use borrow.Author.Rules.{rules}
 use Rattle.asked.specs.Asked.{largest, number_of}
 use Rattle.asked.proofs.NumberLaws.{
-  wordOn,
-  number-empty,
-  number-start,
-  number-low,
-  number-high,
+  word_on,
+  number_empty,
+  number_start,
+  number_low,
+  number_high,
   number_more,
-  number-end,
+  number_end,
 }
 use Rattle.asked.proofs.number.Statement.{statement}
 use Rattle.asked.proofs.number.Tie as tie
 
 abbrev invariant-loop : tie.invariant-loop
-invariant-loop word x₀ i₀ x i = (x ≤ largest) × (wordOn x (drop i word) ≡ number_of word)
+invariant-loop word x₀ i₀ x i = (x ≤ largest) × (word_on x (drop i word) ≡ number_of word)
 
 abbrev decreases-loop : tie.decreases-loop
 decreases-loop word x₀ i₀ x i = length word - i
 
 returns : tie.Need-returns invariant-loop decreases-loop
-returns c = number-empty _ (omega arith)
+returns c = number_empty _ (omega arith)
 
 loop-holds : tie.Need-loop-init invariant-loop decreases-loop
-loop-holds c = (search rules, number-start _ (omega arith))
+loop-holds c = (search rules, number_start _ (omega arith))
 
 shared-slice-read-c : tie.Need-shared-slice-read-c invariant-loop decreases-loop
 shared-slice-read-c c = search rules
@@ -38,11 +38,11 @@ cast-c c = omega (arith, c.shared-slice-known2.given c.before.before.loop.i)
 
 returns-2 : tie.Need-returns-2 invariant-loop decreases-loop
 returns-2 c =
-    let l = c.before.before.before.loop in number-low _ _ l.i (omega arith) l.invariant.1 (omega arith)
+    let l = c.before.before.before.loop in number_low _ _ l.i (omega arith) l.invariant.1 (omega arith)
 
 returns-3 : tie.Need-returns-3 invariant-loop decreases-loop
 returns-3 c =
-    let l = c.before.before.before.before.loop in number-high _ _ l.i (omega arith) l.invariant.1 (omega arith)
+    let l = c.before.before.before.before.loop in number_high _ _ l.i (omega arith) l.invariant.1 (omega arith)
 
 grown-requires : tie.Need-grown-requires invariant-loop decreases-loop
 grown-requires c κs = search rules
@@ -61,7 +61,7 @@ loop-again c = (
 )
 
 returns-4 : tie.Need-returns-4 invariant-loop decreases-loop
-returns-4 c = let l = c.before.loop in number-end _ _ l.i (omega arith) l.invariant.0 l.invariant.1
+returns-4 c = let l = c.before.loop in number_end _ _ l.i (omega arith) l.invariant.0 l.invariant.1
 
 pub number-spec : {M : Type 1} → statement M
 number-spec =

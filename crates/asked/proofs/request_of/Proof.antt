@@ -4,12 +4,12 @@ use mathlib.Core.Path.{◌≡◌, sym, ◌∙◌}
 use borrow.Author.Rules.{rules}
 use Rattle.asked.specs.declared.Word.TheVariants as word
 use Rattle.asked.specs.Asked.{number_of}
-use Rattle.asked.proofs.RequestLaws.{wrong-count, wrong_first, wrong_second, wrong-walks, account-asked}
+use Rattle.asked.proofs.RequestLaws.{wrong_count, wrong_first, wrong_second, wrong_walks, account_asked}
 use Rattle.asked.proofs.request_of.Statement.{statement}
 use Rattle.asked.proofs.request_of.Tie as tie
 
 returns : tie.Need-returns
-returns c = wrong-count _ _ _ c.if1.true
+returns c = wrong_count _ _ _ c.if1.true
 
 number-requires : tie.Need-number-requires
 number-requires c κs = search rules
@@ -48,13 +48,13 @@ returns-3 c =
 returns-4 : tie.Need-returns-4
 returns-4 c =
     let n = c.before.before.before.before in
-    wrong-walks _ _ _ _ _ n.before.before.before.before.before.if1.false (station n.before)
+    wrong_walks _ _ _ _ _ n.before.before.before.before.before.if1.false (station n.before)
     (sym n.number2.ensures ∙ c.before.before.walks.given.1) c.if2.true
 
 returns-5 : tie.Need-returns-5
 returns-5 c =
     let n = c.before.before.before.before in
-    account-asked _ _ _ _ _ n.before.before.before.before.before.if1.false (station n.before)
+    account_asked _ _ _ _ _ n.before.before.before.before.before.if1.false (station n.before)
     (sym n.number2.ensures ∙ c.before.before.walks.given.1) c.if2.false
 
 pub request-of-spec : {M : Type 1} → statement M

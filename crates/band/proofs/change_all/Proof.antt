@@ -2,8 +2,8 @@
 -- Assumes nothing.
 use Prim.Native.Nat.{◌-◌}
 use native.Mathlib.Omega.{arith}
-use Rattle.band.proofs.SlotWalk.{standing-position}
-use Rattle.band.proofs.TakingLaws.{Changing, changing-none, changing-free, changing-more, changing-all}
+use Rattle.band.proofs.SlotWalk.{standing_position}
+use Rattle.band.proofs.TakingLaws.{Changing, changing_none, changing_free, changing_more, changing_all}
 use Rattle.band.proofs.change_all.Statement.{statement}
 use Rattle.band.proofs.change_all.Tie as tie
 
@@ -14,13 +14,13 @@ abbrev decreases-loop : tie.decreases-loop
 decreases-loop plan taking table₀ at₀ j₀ table at j = 255 - j
 
 loop-holds : tie.Need-loop-init invariant-loop decreases-loop
-loop-holds c = changing-none _ _ _ c.before.before.requires.0 c.before.before.requires.1
+loop-holds c = changing_none _ _ _ c.before.before.requires.0 c.before.before.requires.1
 
 add-slot-end : tie.Need-overflow-add-slot-end invariant-loop decreases-loop
 add-slot-end c = omega arith
 
 slot-end-requires : tie.Need-slot-end-requires invariant-loop decreases-loop
-slot-end-requires c κs = standing-position _ _ _ c.before.loop.invariant.standing
+slot-end-requires c κs = standing_position _ _ _ c.before.loop.invariant.standing
 
 mul-changed : tie.Need-overflow-mul-changed invariant-loop decreases-loop
 mul-changed c = omega arith
@@ -39,7 +39,7 @@ changed-requires : tie.Need-changed-requires invariant-loop decreases-loop
 changed-requires c κs =
     let at = c.before.before.before in
     let pre = at.before.before.before.requires in
-    changing-free _ _ _ pre.0 pre.1 _ _ _ at.loop.invariant (omega arith) _ c.before.slot-end.ensures
+    changing_free _ _ _ pre.0 pre.1 _ _ _ at.loop.invariant (omega arith) _ c.before.slot-end.ensures
 
 mul-table : tie.Need-overflow-mul-table invariant-loop decreases-loop
 mul-table c = omega arith
@@ -61,7 +61,7 @@ loop-again : tie.Need-loop-preserved invariant-loop decreases-loop
 loop-again c =
     let at = c.before.before.before.before in
     let pre = at.before.before.before.requires in
-    changing-more _ _ _ pre.0 pre.1 _ _ _ at.loop.invariant (omega arith) _ c.before.before.slot-end.ensures _
+    changing_more _ _ _ pre.0 pre.1 _ _ _ at.loop.invariant (omega arith) _ c.before.before.slot-end.ensures _
     c.changed.ensures
 
 same_length : tie.Need-same-length invariant-loop decreases-loop
@@ -70,7 +70,7 @@ same_length c = c.before.loop.invariant.same
 returns : tie.Need-returns invariant-loop decreases-loop
 returns c =
     let pre = c.before.before.before.before.requires in
-    changing-all _ _ _ pre.0 pre.1 _ _ _ c.before.loop.invariant (omega arith)
+    changing_all _ _ _ pre.0 pre.1 _ _ _ c.before.loop.invariant (omega arith)
 
 pub change-all-spec : {M : Type 1} → statement M
 change-all-spec =

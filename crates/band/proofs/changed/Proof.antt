@@ -2,7 +2,7 @@
 -- Assumes nothing.
 use native.Mathlib.Omega.{arith}
 use borrow.Author.Rules.{rules}
-use Rattle.band.proofs.TakingLaws.{in-fits, out-fits}
+use Rattle.band.proofs.TakingLaws.{in_fits, out_fits}
 use Rattle.band.proofs.changed.Statement.{statement}
 use Rattle.band.proofs.changed.Tie as tie
 
@@ -10,19 +10,19 @@ enum-known-taking : tie.Need-enum-known-taking
 enum-known-taking c = search rules
 
 cast-result : tie.Need-overflow-cast-result
-cast-result c = record { fits = omega (arith, in-fits _ _ _ c.before.before.before.requires _ c.before.taking.given.1) }
+cast-result c = record { fits = omega (arith, in_fits _ _ _ c.before.before.before.requires _ c.before.taking.given.1) }
 
 add-result : tie.Need-overflow-add-result
-add-result c = record { fits = omega (arith, in-fits _ _ _ c.before.before.before.requires _ c.before.taking.given.1) }
+add-result c = record { fits = omega (arith, in_fits _ _ _ c.before.before.before.requires _ c.before.taking.given.1) }
 
 enum_told : tie.Need-enum-told
 enum_told c = search rules
 
 cast-result-2 : tie.Need-overflow-cast-result-2
-cast-result-2 c = record { fits = omega (arith, out-fits _ _ _ c.before.before.requires c.enum_told.given.1) }
+cast-result-2 c = record { fits = omega (arith, out_fits _ _ _ c.before.before.requires c.enum_told.given.1) }
 
 sub-result : tie.Need-overflow-sub-result
-sub-result c = out-fits _ _ _ c.before.before.requires c.enum_told.given.1
+sub-result c = out_fits _ _ _ c.before.before.requires c.enum_told.given.1
 
 returns : tie.Need-returns
 returns c = rw c.before.taking.given.1

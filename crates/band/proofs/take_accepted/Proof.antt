@@ -2,16 +2,16 @@
 -- Assumes nothing.
 use native.Mathlib.Omega.{arith}
 use mathlib.Core.Path.{sym, ◌∙◌}
-use Rattle.band.proofs.TakingLaws.{taken-short, taken-lent, taken_refused, taken_free}
+use Rattle.band.proofs.TakingLaws.{taken_short, taken_lent, taken_refused, taken_free}
 use borrow.Author.Rules.{rules}
 use Rattle.band.proofs.take_accepted.Statement.{statement}
 use Rattle.band.proofs.take_accepted.Tie as tie
 
 returns : tie.Need-returns
-returns c = taken-short _ _ _ _ _ c.before.before.before.requires (omega arith)
+returns c = taken_short _ _ _ _ _ c.before.before.before.requires (omega arith)
 
 refused-somewhere-requires : tie.Need-refused-somewhere-requires
-refused-somewhere-requires c κs = taken-lent _ _ _ _ c.before.before.before.before.requires (omega arith)
+refused-somewhere-requires c κs = taken_lent _ _ _ _ c.before.before.before.before.requires (omega arith)
 
 refusal-requires : tie.Need-refusal-requires
 refusal-requires c κs = search rules
@@ -26,7 +26,7 @@ returns-2 c =
 
 change-all-requires : tie.Need-change-all-requires
 change-all-requires c κs = (
-  taken-lent _ _ _ _ c.before.before.before.before.before.before.before.requires (omega arith),
+  taken_lent _ _ _ _ c.before.before.before.before.before.before.before.requires (omega arith),
   sym c.before.before.refused-somewhere.ensures ∙ c.before.if2.false,
 )
 

@@ -2,15 +2,15 @@
 -- Assumes nothing.
 use native.Mathlib.Omega.{arith}
 use mathlib.Core.Path.{sym}
-use Rattle.calls.proofs.CallLaws.{keeping-less, keeping-more}
+use Rattle.calls.proofs.CallLaws.{keeping_less, keeping_more}
 use Rattle.calls.proofs.wrong_keeping.Statement.{statement}
 use Rattle.calls.proofs.wrong_keeping.Tie as tie
 
 returns : tie.Need-returns
-returns c = sym (keeping-less _ c.if1.true)
+returns c = sym (keeping_less _ c.if1.true)
 
 returns-2 : tie.Need-returns-2
-returns-2 c = keeping-more _ (omega arith)
+returns-2 c = keeping_more _ (omega arith)
 
 pub wrong-keeping-spec : {M : Type 1} → statement M
 wrong-keeping-spec = tie.close (tie.spec returns returns-2)

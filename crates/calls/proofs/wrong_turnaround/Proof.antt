@@ -2,15 +2,15 @@
 -- Assumes nothing.
 use native.Mathlib.Omega.{arith}
 use mathlib.Core.Path.{sym}
-use Rattle.calls.proofs.CallLaws.{terms-none, terms-some}
+use Rattle.calls.proofs.CallLaws.{terms_none, terms_some}
 use Rattle.calls.proofs.wrong_turnaround.Statement.{statement}
 use Rattle.calls.proofs.wrong_turnaround.Tie as tie
 
 returns : tie.Need-returns
-returns c h = sym (terms-none _ c.if1.true)
+returns c h = sym (terms_none _ c.if1.true)
 
 returns-2 : tie.Need-returns-2
-returns-2 c h = terms-some _ c.if1.false
+returns-2 c h = terms_some _ c.if1.false
 
 pub wrong-turnaround-spec : {M : Type 1} → statement M
 wrong-turnaround-spec = tie.close (tie.spec returns returns-2)

@@ -2,7 +2,7 @@
 -- Assumes nothing.
 use mathlib.Core.Path.{sym}
 use lib.Seq.{length-take-le}
-use Rattle.report.proofs.ReportLaws.{texted-within}
+use Rattle.report.proofs.ReportLaws.{texted_within}
 use borrow.Author.Rules.{rules}
 use Rattle.cases_load.proofs.write_text.Statement.{statement}
 use Rattle.cases_load.proofs.write_text.Tie as tie
@@ -11,10 +11,10 @@ report-requires : tie.Need-report-requires
 report-requires c κs = search rules
 
 array-share-prefix-out : tie.Need-array-share-prefix-out
-array-share-prefix-out c = texted-within c.report.ensures.texted
+array-share-prefix-out c = texted_within c.report.ensures.texted
 
 slice-aggregate-write-part : tie.Need-slice-aggregate-write-part
-slice-aggregate-write-part c = sym (length-take-le _ _ (texted-within c.before.report.ensures.texted))
+slice-aggregate-write-part c = sym (length-take-le _ _ (texted_within c.before.report.ensures.texted))
 
 write-part-requires : tie.Need-write-part-requires
 write-part-requires c κs = search rules

@@ -3,19 +3,19 @@
 -- Assumes nothing.
 use Prim.Native.Nat.{◌-◌}
 use native.Mathlib.Omega.{arith}
-use Rattle.changes.proofs.WritingLaws.{Writing, writing-none, writing_more}
-use Rattle.changes.proofs.ChangeLaws.{zeroAt, zeros-all}
+use Rattle.changes.proofs.WritingLaws.{Writing, writing_none, writing_more}
+use Rattle.changes.proofs.ChangeLaws.{zero_at, zeros_all}
 use Rattle.changes.proofs.clear_changes.Statement.{statement}
 use Rattle.changes.proofs.clear_changes.Tie as tie
 
 abbrev invariant-loop : tie.invariant-loop
-invariant-loop changes₀ n v₀ changes v = Writing zeroAt n changes₀ v changes
+invariant-loop changes₀ n v₀ changes v = Writing zero_at n changes₀ v changes
 
 abbrev decreases-loop : tie.decreases-loop
 decreases-loop changes₀ n v₀ changes v = n - v
 
 loop-holds : tie.Need-loop-init invariant-loop decreases-loop
-loop-holds c = writing-none _ _ _
+loop-holds c = writing_none _ _ _
 
 mul-changes : tie.Need-overflow-mul-changes invariant-loop decreases-loop
 mul-changes c = omega arith
@@ -36,7 +36,7 @@ same_length : tie.Need-same-length invariant-loop decreases-loop
 same_length c = c.before.loop.invariant.same_length
 
 returns : tie.Need-returns invariant-loop decreases-loop
-returns c = zeros-all _ _ _ _ (omega arith) c.before.loop.invariant
+returns c = zeros_all _ _ _ _ (omega arith) c.before.loop.invariant
 
 pub clear-changes-spec : {M : Type 1} → statement M
 clear-changes-spec =

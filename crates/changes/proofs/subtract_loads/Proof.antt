@@ -3,20 +3,20 @@
 -- Assumes nothing.
 use Prim.Native.Nat.{◌-◌}
 use native.Mathlib.Omega.{arith}
-use Rattle.changes.specs.Changes.{differenceAt, withDifferences}
-use Rattle.changes.proofs.WritingLaws.{Writing, writing-none, writing-all}
-use Rattle.changes.proofs.ChangeLaws.{load_fits, loads-fit, load_is, entry-is, difference-more}
+use Rattle.changes.specs.Changes.{difference_at, with_differences}
+use Rattle.changes.proofs.WritingLaws.{Writing, writing_none, writing_all}
+use Rattle.changes.proofs.ChangeLaws.{load_fits, loads_fit, load_is, entry_is, difference_more}
 use Rattle.changes.proofs.subtract_loads.Statement.{statement}
 use Rattle.changes.proofs.subtract_loads.Tie as tie
 
 abbrev invariant-loop : tie.invariant-loop
-invariant-loop changes₀ loads at n v₀ changes v = Writing (differenceAt loads at changes₀) n changes₀ v changes
+invariant-loop changes₀ loads at n v₀ changes v = Writing (difference_at loads at changes₀) n changes₀ v changes
 
 abbrev decreases-loop : tie.decreases-loop
 decreases-loop changes₀ loads at n v₀ changes v = n - v
 
 loop-holds : tie.Need-loop-init invariant-loop decreases-loop
-loop-holds c = writing-none _ _ _
+loop-holds c = writing_none _ _ _
 
 add-load : tie.Need-overflow-add-load invariant-loop decreases-loop
 add-load c = omega arith
@@ -41,8 +41,8 @@ sub-change c =
     let pre = c.before.before.before.before.requires in
     let inside = c.before.before.loop-test.true in
     let load = load_is _ _ _ _ _ inside pre.writable in
-    let entry = entry-is _ _ _ _ _ inside pre _ c.before.before.before.loop.invariant in
-    search (loads-fit, load, entry)
+    let entry = entry_is _ _ _ _ _ inside pre _ c.before.before.before.loop.invariant in
+    search (loads_fit, load, entry)
 
 mul-change : tie.Need-overflow-mul-change invariant-loop decreases-loop
 mul-change c = omega arith
@@ -58,14 +58,14 @@ loop-less c = omega arith
 
 loop-again : tie.Need-loop-preserved invariant-loop decreases-loop
 loop-again c =
-    difference-more _ _ _ _ _ (omega arith) c.before.before.before.before.requires _ c.before.before.before.loop.invariant
+    difference_more _ _ _ _ _ (omega arith) c.before.before.before.before.requires _ c.before.before.before.loop.invariant
 
 same_length : tie.Need-same-length invariant-loop decreases-loop
 same_length c = c.before.loop.invariant.same_length
 
 returns : tie.Need-returns invariant-loop decreases-loop
-unfolding withDifferences
-returns c = writing-all _ _ _ _ _ (omega arith) c.before.loop.invariant
+unfolding with_differences
+returns c = writing_all _ _ _ _ _ (omega arith) c.before.loop.invariant
 
 pub subtract-loads-spec : {M : Type 1} → statement M
 subtract-loads-spec =

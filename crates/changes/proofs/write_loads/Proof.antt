@@ -3,20 +3,20 @@
 -- Assumes nothing.
 use Prim.Native.Nat.{◌-◌}
 use native.Mathlib.Omega.{arith}
-use Rattle.changes.specs.Changes.{loadAt, withLoads}
-use Rattle.changes.proofs.WritingLaws.{Writing, writing-none, writing-all}
-use Rattle.changes.proofs.ChangeLaws.{load_fits, load-more}
+use Rattle.changes.specs.Changes.{load_at, with_loads}
+use Rattle.changes.proofs.WritingLaws.{Writing, writing_none, writing_all}
+use Rattle.changes.proofs.ChangeLaws.{load_fits, load_more}
 use Rattle.changes.proofs.write_loads.Statement.{statement}
 use Rattle.changes.proofs.write_loads.Tie as tie
 
 abbrev invariant-loop : tie.invariant-loop
-invariant-loop changes₀ loads at n v₀ changes v = Writing (loadAt loads at) n changes₀ v changes
+invariant-loop changes₀ loads at n v₀ changes v = Writing (load_at loads at) n changes₀ v changes
 
 abbrev decreases-loop : tie.decreases-loop
 decreases-loop changes₀ loads at n v₀ changes v = n - v
 
 loop-holds : tie.Need-loop-init invariant-loop decreases-loop
-loop-holds c = writing-none _ _ _
+loop-holds c = writing_none _ _ _
 
 add-load : tie.Need-overflow-add-load invariant-loop decreases-loop
 add-load c = omega arith
@@ -43,14 +43,14 @@ loop-less : tie.Need-loop-smaller invariant-loop decreases-loop
 loop-less c = omega arith
 
 loop-again : tie.Need-loop-preserved invariant-loop decreases-loop
-loop-again c = load-more _ _ _ _ _ (omega arith) c.before.before.before.requires _ c.before.before.loop.invariant
+loop-again c = load_more _ _ _ _ _ (omega arith) c.before.before.before.requires _ c.before.before.loop.invariant
 
 same_length : tie.Need-same-length invariant-loop decreases-loop
 same_length c = c.before.loop.invariant.same_length
 
 returns : tie.Need-returns invariant-loop decreases-loop
-unfolding withLoads
-returns c = writing-all _ _ _ _ _ (omega arith) c.before.loop.invariant
+unfolding with_loads
+returns c = writing_all _ _ _ _ _ (omega arith) c.before.loop.invariant
 
 pub write-loads-spec : {M : Type 1} → statement M
 write-loads-spec =

@@ -1,6 +1,6 @@
 -- `drawing::read_double` meets its contract: four words, the high one first.
 -- Assumes nothing.
-use Rattle.drawing.proofs.ReadLaws.{double-is}
+use Rattle.drawing.proofs.ReadLaws.{double_is}
 use Rattle.std.proofs.Common.{rules}
 use Rattle.drawing.proofs.read_double.Statement.{statement}
 use Rattle.drawing.proofs.read_double.Tie as tie
@@ -47,7 +47,7 @@ add-result c = search rules
 returns : tie.Need-returns
 returns c =
     let second = c.before.before in
-    double-is _ _ _ _ _ _ second.before.read_word.ensures.0 second.read-word2.ensures.0 c.before.read-word3.ensures.0
+    double_is _ _ _ _ _ _ second.before.read_word.ensures.0 second.read-word2.ensures.0 c.before.read-word3.ensures.0
     c.read-word4.ensures.0
 
 pub read-double-spec : {M : Type 1} → statement M

@@ -2,7 +2,7 @@
 -- Assumes nothing.
 use Rattle.std.proofs.Common.{subst, rules}
 use Rattle.drawing.specs.Reading.{NumberOf}
-use Rattle.drawing.proofs.ReadLaws.{no-low, no-high, numbers-read}
+use Rattle.drawing.proofs.ReadLaws.{no_low, no_high, numbers_read}
 use Rattle.drawing.proofs.read_drawn.Statement.{statement}
 use Rattle.drawing.proofs.read_drawn.Tie as tie
 
@@ -16,7 +16,7 @@ enum_told : tie.Need-enum-told
 enum_told c = search rules
 
 returns : tie.Need-returns
-returns c = no-low _ c.before.before.before.requires (subst (NumberOf _) c.enum_told.given.1 c.before.before.number_of.ensures)
+returns c = no_low _ c.before.before.before.requires (subst (NumberOf _) c.enum_told.given.1 c.before.before.number_of.ensures)
 
 number-of-requires-2 : tie.Need-number-of-requires-2
 number-of-requires-2 c κs = search rules
@@ -30,7 +30,7 @@ enum-told-2 c = search rules
 returns-2 : tie.Need-returns-2
 returns-2 c =
     let second = c.before.before in
-    no-high _ second.before.before.before.before.before.requires
+    no_high _ second.before.before.before.before.before.requires
     (subst (NumberOf _) c.enum-told2.given.1 second.number-of2.ensures)
 
 read-numbers-requires : tie.Need-read-numbers-requires
@@ -40,7 +40,7 @@ returns-3 : tie.Need-returns-3
 returns-3 c =
     let second = c.before.before.before.before in
     let first = second.before.before.before.before in
-    numbers-read _ first.before.requires _ _ _
+    numbers_read _ first.before.requires _ _ _
     (subst (NumberOf _) second.before.before.load.given.1 first.number_of.ensures)
     (subst (NumberOf _) c.before.before.sum.given.1 second.number-of2.ensures)
     c.read-numbers.ensures

@@ -7,7 +7,7 @@ use Rattle.drawing.proofs.read_numbers.Tie as tie
 
 returns : tie.Need-returns
 unfolding NumbersRead
-returns c = λ p q. let a = q.station-low in omega arith
+returns c = λ p q. let a = q.station_low in omega arith
 
 returns-2 : tie.Need-returns-2
 unfolding NumbersRead
@@ -19,7 +19,7 @@ returns-3 c = λ p q. let a = q.adds in omega arith
 
 returns-4 : tie.Need-returns-4
 unfolding NumbersRead
-returns-4 c = λ p q. let a = q.adds in let b = q.pairs-low in omega arith
+returns-4 c = λ p q. let a = q.adds in let b = q.pairs_low in omega arith
 
 returns-5 : tie.Need-returns-5
 unfolding NumbersRead
@@ -31,9 +31,9 @@ returns-6 c = (
   refl,
   refl,
   record {
-    station-low = omega arith;
+    station_low = omega arith;
     load_low = omega arith;
-    pairs-low = omega arith;
+    pairs_low = omega arith;
     no_pairs = λ e. c.if6.false;
     adds = omega arith;
   },
@@ -45,9 +45,9 @@ returns-7 c = (
   refl,
   refl,
   record {
-    station-low = omega arith;
+    station_low = omega arith;
     load_low = omega arith;
-    pairs-low = omega arith;
+    pairs_low = omega arith;
     no_pairs = λ e. absurd (c.if5.false e);
     adds = omega arith;
   },

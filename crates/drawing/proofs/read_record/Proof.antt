@@ -2,7 +2,7 @@
 -- Assumes nothing.
 use Rattle.std.proofs.Common.{subst, rules}
 use Rattle.temporal.specs.Drawing.{Reads}
-use Rattle.drawing.specs.Reading.{ParsedAs, readBack}
+use Rattle.drawing.specs.Reading.{ParsedAs, read_result}
 use Rattle.drawing.proofs.read_record.Statement.{statement}
 use Rattle.drawing.proofs.read_record.Tie as tie
 
@@ -27,7 +27,7 @@ returns-2 : tie.Need-returns-2
 unfolding ParsedAs
 returns-2 c =
     let found = c.before.before in
-    subst (λ b. Reads b (readBack c.read-drawn.result))
+    subst (λ b. Reads b (read_result c.read-drawn.result))
     (subst (ParsedAs _) found.drawn.given.1 found.before.before.parse-record.ensures).1
     c.read-drawn.ensures
 

@@ -1,7 +1,7 @@
 -- `drawing::read_word` meets its contract: two bytes, the high one first.
 -- Assumes nothing.
 use Rattle.std.proofs.Common.{arith, rules}
-use Rattle.drawing.proofs.ReadLaws.{word-is}
+use Rattle.drawing.proofs.ReadLaws.{word_is}
 use Rattle.drawing.proofs.read_word.Statement.{statement}
 use Rattle.drawing.proofs.read_word.Tie as tie
 
@@ -30,7 +30,7 @@ returns : tie.Need-returns
 returns c =
     let low = c.before.before.wide.ensures in
     let next = c.wide2.ensures in
-    (word-is _ _ _ _ low.0 next.0, omega arith)
+    (word_is _ _ _ _ low.0 next.0, omega arith)
 
 pub read-word-spec : {M : Type 1} → statement M
 read-word-spec =

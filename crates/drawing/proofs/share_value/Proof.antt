@@ -2,7 +2,7 @@
 -- Assumes nothing.
 use Rattle.std.proofs.Common.{◌^◌, arith, le→leb}
 use lib.Ieee.{in_float, of_bits}
-use Rattle.drawing.proofs.DoubleLaws.{share-double}
+use Rattle.drawing.proofs.DoubleLaws.{share_double}
 use Rattle.drawing.proofs.share_value.Statement.{statement}
 use Rattle.drawing.proofs.share_value.Tie as tie
 
@@ -12,7 +12,7 @@ int-to-float-result c = le→leb c.before.args.x (2 ^ 53) (omega arith)
 
 returns : tie.Need-returns
 unfolding of_bits
-returns c = share-double _ c.before.requires
+returns c = share_double _ c.before.requires
 
 pub share-value-spec : {M : Type 1} → statement M
 share-value-spec = tie.close (tie.spec int-to-float-result returns)

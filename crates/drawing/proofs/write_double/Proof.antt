@@ -1,7 +1,7 @@
 -- `drawing::write_double` meets its contract: eight stores in sequence are the eight bytes.
 -- Assumes nothing.
 use Rattle.std.proofs.Common.{arith, length-set, rules}
-use Rattle.drawing.proofs.ByteLaws.{eight-stores}
+use Rattle.drawing.proofs.ByteLaws.{eight_stores}
 use Rattle.drawing.proofs.write_double.Statement.{statement}
 use Rattle.drawing.proofs.write_double.Tie as tie
 
@@ -78,7 +78,7 @@ same_length : tie.Need-same-length
 same_length c = simp length-set
 
 returns : tie.Need-returns
-returns c = eight-stores c.args.records.now c.args.at c.args.bits
+returns c = eight_stores c.args.records.now c.args.at c.args.bits
 
 pub write-double-spec : {M : Type 1} → statement M
 write-double-spec =

@@ -1,8 +1,8 @@
 -- `drawing::write_record` meets its contract: two stores, and a double behind them, and a double behind that.
 -- Assumes nothing.
 use Rattle.std.proofs.Common.{arith, length-set, rules}
-use Rattle.drawing.specs.Doubles.{drawnBytes}
-use Rattle.drawing.proofs.RecordLaws.{length-begun, record-stores, length-written}
+use Rattle.drawing.specs.Doubles.{drawn_bytes}
+use Rattle.drawing.proofs.RecordLaws.{length_begun, record_stores, length_written}
 use Rattle.drawing.proofs.write_record.Statement.{statement}
 use Rattle.drawing.proofs.write_record.Tie as tie
 
@@ -40,21 +40,21 @@ write-double-requires-2 : tie.Need-write-double-requires-2
 write-double-requires-2 c κs =
     let once = c.before.before.before.before in
     let a = once.before.before.before.before.args in
-    omega (arith, length-begun a.records.now _ a.at a.drawn.station _ once.write-double.ensures)
+    omega (arith, length_begun a.records.now _ a.at a.drawn.station _ once.write-double.ensures)
 
 same_length : tie.Need-same-length
 same_length c =
     let once = c.before.before.before.before.before.before.before in
     let a = once.before.before.before.before.args in
-    length-written a.records.now _ a.at a.drawn.station _ once.write-double.ensures _ _
+    length_written a.records.now _ a.at a.drawn.station _ once.write-double.ensures _ _
     c.before.before.write-double2.ensures
 
 returns : tie.Need-returns
-unfolding drawnBytes
+unfolding drawn_bytes
 returns c =
     let once = c.before.before.before.before.before.before.before in
     let a = once.before.before.before.before.args in
-    record-stores a.records.now _ a.at a.drawn.station _ once.write-double.ensures _ _
+    record_stores a.records.now _ a.at a.drawn.station _ once.write-double.ensures _ _
     c.before.before.write-double2.ensures
 
 pub write-record-spec : {M : Type 1} → statement M

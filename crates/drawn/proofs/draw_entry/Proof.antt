@@ -21,7 +21,7 @@ shared-slice-read-draw-station-2 : tie.Need-shared-slice-read-draw-station-2
 shared-slice-read-draw-station-2 c = search rules
 
 draw-station-requires : tie.Need-draw-station-requires
-draw-station-requires c κs = (omega (arith, c.before.before.before.before.before.before.requires.0.records-room), (c.before.before.before.before.before.before.requires.0.loads-low _ c.before.before.before.before.before.before.requires.1, c.before.before.before.before.before.before.requires.0.pairs-low _ c.before.before.before.before.before.before.requires.1))
+draw-station-requires c κs = (omega (arith, c.before.before.before.before.before.before.requires.0.records_room), (c.before.before.before.before.before.before.requires.0.loads_low _ c.before.before.before.before.before.before.requires.1, c.before.before.before.before.before.before.requires.0.pairs_low _ c.before.before.before.before.before.before.requires.1))
 
 same_length : tie.Need-same-length
 same_length c = search rules

@@ -17,7 +17,7 @@ loop-holds : tie.Need-loop-init invariant-loop decreases-loop
 loop-holds c = written_none _ _ _ _
 
 draw-entry-requires : tie.Need-draw-entry-requires invariant-loop decreases-loop
-draw-entry-requires c κs = (record { pairs-room = c.before.before.before.before.before.before.requires.pairs-room; loads-room = c.before.before.before.before.before.before.requires.loads-room; records-room = omega (arith, c.before.before.before.before.before.before.requires.records-room, c.before.before.loop.invariant.same_length); pairs-low = c.before.before.before.before.before.before.requires.pairs-low; loads-low = c.before.before.before.before.before.before.requires.loads-low }, omega arith)
+draw-entry-requires c κs = (record { pairs_room = c.before.before.before.before.before.before.requires.pairs_room; loads_room = c.before.before.before.before.before.before.requires.loads_room; records_room = omega (arith, c.before.before.before.before.before.before.requires.records_room, c.before.before.loop.invariant.same_length); pairs_low = c.before.before.before.before.before.before.requires.pairs_low; loads_low = c.before.before.before.before.before.before.requires.loads_low }, omega arith)
 
 add-v : tie.Need-overflow-add-v invariant-loop decreases-loop
 add-v c = omega arith
@@ -32,7 +32,7 @@ same_length : tie.Need-same-length invariant-loop decreases-loop
 same_length c = c.before.loop.invariant.same_length
 
 returns : tie.Need-returns invariant-loop decreases-loop
-returns c = written_all _ _ _ _ _ _ c.before.before.before.before.before.requires.records-room (omega arith) c.before.loop.invariant
+returns c = written_all _ _ _ _ _ _ c.before.before.before.before.before.requires.records_room (omega arith) c.before.loop.invariant
 
 pub draw-records-spec : {M : Type 1} → statement M
 draw-records-spec =

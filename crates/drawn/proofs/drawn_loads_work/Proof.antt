@@ -1,6 +1,6 @@
 -- `drawn::drawn_loads_work` meets its contract: where loads refuses, the records are cleared; else they are written from the tables.
 -- Assumes nothing.
-use Rattle.drawn.proofs.DrawnLaws.{drawn-drawable, drawn-loaded, drawn-refused}
+use Rattle.drawn.proofs.DrawnLaws.{drawn_drawable, drawn_loaded_law, drawn_refused}
 use borrow.Author.Rules.{rules}
 use Rattle.drawn.proofs.drawn_loads_work.Statement.{statement}
 use Rattle.drawn.proofs.drawn_loads_work.Tie as tie
@@ -15,7 +15,7 @@ enum_told : tie.Need-enum-told
 enum_told c = search rules
 
 draw-records-requires : tie.Need-draw-records-requires
-draw-records-requires c κs = drawn-drawable _ _ _ _ _ _ _ _ c.before.before.before.before.before.before.before.before.before.before.before.before.before.before.before.before.before.before.before.before.requires _ _ _ _ c.before.before.before.before.before.before.before.before.before.before.before.partial-loads-work.ensures c.before.before.before.enum_told.given.1
+draw-records-requires c κs = drawn_drawable _ _ _ _ _ _ _ _ c.before.before.before.before.before.before.before.before.before.before.before.before.before.before.before.before.before.before.before.before.requires _ _ _ _ c.before.before.before.before.before.before.before.before.before.before.before.partial-loads-work.ensures c.before.before.before.enum_told.given.1
 
 same_length : tie.Need-same-length
 same_length c = search rules
@@ -30,7 +30,7 @@ same-length-4 : tie.Need-same-length-4
 same-length-4 c = search rules
 
 returns : tie.Need-returns
-returns c = drawn-loaded _ _ _ _ _ _ _ _ c.before.before.before.before.before.before.before.before.before.before.before.before.before.before.before.before.before.before.before.before.before.before.before.requires _ _ _ _ c.before.before.before.before.before.before.before.before.before.before.before.before.before.before.partial-loads-work.ensures c.before.before.before.before.before.before.enum_told.given.1 _ c.before.before.draw-records.ensures
+returns c = drawn_loaded_law _ _ _ _ _ _ _ _ c.before.before.before.before.before.before.before.before.before.before.before.before.before.before.before.before.before.before.before.before.before.before.before.requires _ _ _ _ c.before.before.before.before.before.before.before.before.before.before.before.before.before.before.partial-loads-work.ensures c.before.before.before.before.before.before.enum_told.given.1 _ c.before.before.draw-records.ensures
 
 mul-fill8 : tie.Need-overflow-mul-fill8
 mul-fill8 c = search rules
@@ -51,7 +51,7 @@ same-length-8 : tie.Need-same-length-8
 same-length-8 c = search rules
 
 returns-2 : tie.Need-returns-2
-returns-2 c = drawn-refused _ _ _ _ _ _ _ _ c.before.before.before.before.before.before.before.before.before.before.before.before.before.before.before.before.before.before.before.before.before.before.requires _ _ _ _ c.before.before.before.before.before.before.before.before.before.before.before.before.before.partial-loads-work.ensures _ c.before.before.before.before.before.fault.given.1 _ c.before.before.fill8.ensures
+returns-2 c = drawn_refused _ _ _ _ _ _ _ _ c.before.before.before.before.before.before.before.before.before.before.before.before.before.before.before.before.before.before.before.before.before.before.requires _ _ _ _ c.before.before.before.before.before.before.before.before.before.before.before.before.before.partial-loads-work.ensures _ c.before.before.before.before.before.fault.given.1 _ c.before.before.fill8.ensures
 
 pub drawn-loads-work-spec : {M : Type 1} → statement M
 drawn-loads-work-spec =

@@ -2,10 +2,10 @@
 -- Assumes nothing.
 use native.Mathlib.Omega.{arith}
 use mathlib.Core.Path.{refl}
-use Rattle.lists.proofs.ListLaws.{not-both}
-use Rattle.pass.specs.Column.{columnOf, splitOf}
-use Rattle.forward.proofs.UseLaws.{columns-whole}
-use Rattle.foremost.proofs.WorkLaws.{appearances-pass, appearances-met}
+use Rattle.lists.proofs.ListLaws.{not_both}
+use Rattle.pass.specs.Column.{column_of, split_of}
+use Rattle.forward.proofs.UseLaws.{columns_whole}
+use Rattle.foremost.proofs.WorkLaws.{appearances_pass, appearances_met}
 use borrow.Author.Rules.{rules}
 use Rattle.foremost.proofs.appearance_too_many.Statement.{statement}
 use Rattle.foremost.proofs.appearance_too_many.Tie as tie
@@ -20,8 +20,8 @@ part-pass-columns-end : tie.Need-slice-bounds-pass-columns-end
 part-pass-columns-end c = search rules
 
 pass-columns-requires : tie.Need-pass-columns-requires
-unfolding splitOf
-pass-columns-requires c κs = (appearances-pass _ _ _ _ _ _ c.before.before.before.before.requires, omega arith, λ e. absurd (not-both e refl))
+unfolding split_of
+pass-columns-requires c κs = (appearances_pass _ _ _ _ _ _ c.before.before.before.before.requires, omega arith, λ e. absurd (not_both e refl))
 
 met-appearance-requires : tie.Need-met-appearance-requires
 met-appearance-requires c κs = search rules
@@ -30,10 +30,10 @@ same_length : tie.Need-same-length
 same_length c = search rules
 
 returns : tie.Need-returns
-unfolding columnOf splitOf
+unfolding column_of split_of
 returns c =
-    appearances-met _ _ _ _ _ _ c.before.before.before.before.before.before.before.before.requires _ _ _
-    (columns-whole _ _ _ _ _ _ _ _ _ _ _ _ c.before.before.before.pass-columns.ensures) c.met-appearance.ensures
+    appearances_met _ _ _ _ _ _ c.before.before.before.before.before.before.before.before.requires _ _ _
+    (columns_whole _ _ _ _ _ _ _ _ _ _ _ _ c.before.before.before.pass-columns.ensures) c.met-appearance.ensures
 
 pub appearance-too-many-spec : {M : Type 1} → statement M
 appearance-too-many-spec =

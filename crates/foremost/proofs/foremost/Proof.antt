@@ -1,7 +1,7 @@
 -- `foremost::foremost` meets its contract: a refusal of the plan is passed on, an accepted plan goes on to the call.
 -- Assumes nothing.
-use Rattle.foremost.proofs.WorkLaws.{foremost-plan}
-use Rattle.plan.specs.Fault.{checkNumber}
+use Rattle.foremost.proofs.WorkLaws.{foremost_plan}
+use Rattle.plan.specs.Fault.{check_number}
 use mathlib.Core.Path.{sym, ap, ◌∙◌}
 use borrow.Author.Rules.{rules}
 use Rattle.foremost.proofs.foremost.Statement.{statement}
@@ -17,7 +17,7 @@ enum_told : tie.Need-enum-told
 enum_told c = search rules
 
 foremost-accepted-requires : tie.Need-foremost-accepted-requires
-foremost-accepted-requires c κs = sym c.before.before.before.before.check.ensures ∙ ap checkNumber c.before.before.enum_told.given.1
+foremost-accepted-requires c κs = sym c.before.before.before.before.check.ensures ∙ ap check_number c.before.before.enum_told.given.1
 
 same_length : tie.Need-same-length
 same_length c = search rules
@@ -29,7 +29,7 @@ returns : tie.Need-returns
 returns c = search rules
 
 returns-2 : tie.Need-returns-2
-returns-2 c = foremost-plan _ _ _ _ _ _ _ _ _ _ c.before.before.before.check.ensures c.before.fault.given.1
+returns-2 c = foremost_plan _ _ _ _ _ _ _ _ _ _ c.before.before.before.check.ensures c.before.fault.given.1
 
 pub foremost-spec : {M : Type 1} → statement M
 foremost-spec =

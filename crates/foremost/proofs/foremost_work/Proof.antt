@@ -1,7 +1,7 @@
 -- `foremost::foremost_work` meets its contract: too many clears both buffers; else the counts stand in the table and in the work
 -- area, which is then cleared.
 -- Assumes nothing.
-use Rattle.foremost.proofs.WorkLaws.{foremost-refused, foremost-counted}
+use Rattle.foremost.proofs.WorkLaws.{foremost_refused, foremost_counted}
 use Rattle.walks.proofs.Accepted.{accepted}
 use mathlib.Core.Path.{refl}
 use native.Mathlib.Omega.{arith}
@@ -35,7 +35,7 @@ same-length-2 c = search rules
 
 returns : tie.Need-returns
 returns c =
-    foremost-refused _ _ _ _ _ _ _ _ c.before.before.before.before.before.before.before.before.before.before.before.before.before.before.before.before.before.before.before.requires _ _ _ c.before.before.before.before.before.before.before.before.before.before.before.before.before.foremost-throughs.ensures (omega arith) _ _ c.before.before.before.before.before.before.clear.ensures
+    foremost_refused _ _ _ _ _ _ _ _ c.before.before.before.before.before.before.before.before.before.before.before.before.before.before.before.before.before.before.before.requires _ _ _ c.before.before.before.before.before.before.before.before.before.before.before.before.before.foremost-throughs.ensures (omega arith) _ _ c.before.before.before.before.before.before.clear.ensures
     c.before.before.clear2.ensures
 
 mul-hops : tie.Need-overflow-mul-hops
@@ -76,7 +76,7 @@ same-length-4 c = search rules
 
 returns-2 : tie.Need-returns-2
 returns-2 c =
-    foremost-counted _ _ _ _ _ _ _ _ c.before.before.before.before.before.before.before.before.before.before.before.before.before.before.before.before.before.before.requires _ _ _ c.before.before.before.before.before.before.before.before.before.before.before.before.foremost-throughs.ensures (λ q. omega arith) _ _ _ _
+    foremost_counted _ _ _ _ _ _ _ _ c.before.before.before.before.before.before.before.before.before.before.before.before.before.before.before.before.before.before.requires _ _ _ c.before.before.before.before.before.before.before.before.before.before.before.before.foremost-throughs.ensures (λ q. omega arith) _ _ _ _
     c.slot-value.ensures refl refl c.before.before.before.clear3.ensures
 
 pub foremost-work-spec : {M : Type 1} → statement M

@@ -1,7 +1,7 @@
 -- `forward::kept_columns` meets its contract.
 -- Assumes nothing.
 use native.Mathlib.Omega.{arith}
-use Rattle.forward.specs.Passed.{keptColumns}
+use Rattle.forward.specs.Passed.{kept_columns}
 use Rattle.stale.proofs.SizeLaws.{parts_within}
 use borrow.Author.Rules.{rules}
 use Rattle.forward.proofs.kept_columns.Statement.{statement}
@@ -20,7 +20,7 @@ smaller-requires : tie.Need-smaller-requires
 smaller-requires c κs = search rules
 
 returns : tie.Need-returns
-unfolding keptColumns
+unfolding kept_columns
 returns c = c.smaller.ensures
 
 pub kept-columns-spec : {M : Type 1} → statement M

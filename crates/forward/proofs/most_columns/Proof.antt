@@ -1,7 +1,7 @@
 -- `forward::most_columns` meets its contract: the number of columns of the pass that it is.
 -- Assumes nothing.
 use native.Mathlib.Omega.{arith}
-use Rattle.forward.proofs.SizeLaws.{most-kept, most-window}
+use Rattle.forward.proofs.SizeLaws.{most_kept, most_window}
 use borrow.Author.Rules.{rules}
 use Rattle.forward.proofs.most_columns.Statement.{statement}
 use Rattle.forward.proofs.most_columns.Tie as tie
@@ -16,13 +16,13 @@ kept-columns-requires : tie.Need-kept-columns-requires
 kept-columns-requires c κs = search rules
 
 returns : tie.Need-returns
-returns c = most-kept _ _ _ _ _ _ _ (omega arith) c.before.smaller.ensures c.kept-columns.ensures
+returns c = most_kept _ _ _ _ _ _ _ (omega arith) c.before.smaller.ensures c.kept-columns.ensures
 
 window-columns-requires : tie.Need-window-columns-requires
 window-columns-requires c κs = search rules
 
 returns-2 : tie.Need-returns-2
-returns-2 c = most-window _ _ _ _ _ _ (omega arith) c.window-columns.ensures
+returns-2 c = most_window _ _ _ _ _ _ (omega arith) c.window-columns.ensures
 
 pub most-columns-spec : {M : Type 1} → statement M
 most-columns-spec =

@@ -1,7 +1,7 @@
 -- `forward::pass_packed` meets its contract: the pass with the columns of the block.
 -- Assumes nothing.
-use Rattle.pass.specs.Column.{columnOf, splitOf}
-use Rattle.forward.proofs.UseLaws.{few-spared, packed-ready, packed-passed}
+use Rattle.pass.specs.Column.{column_of, split_of}
+use Rattle.forward.proofs.UseLaws.{few_spared, packed_ready, packed_passed}
 use borrow.Author.Rules.{rules}
 use Rattle.forward.proofs.pass_packed.Statement.{statement}
 use Rattle.forward.proofs.pass_packed.Tie as tie
@@ -16,11 +16,11 @@ part-pass-slots-end : tie.Need-slice-bounds-pass-slots-end
 part-pass-slots-end c = search rules
 
 pass-slots-requires : tie.Need-pass-slots-requires
-unfolding columnOf splitOf
+unfolding column_of split_of
 pass-slots-requires c κs =
     let start = c.before.before.before.before in
-    let (ready, few) = packed-ready _ _ _ _ _ _ _ _ _ start.requires.0 in
-    (ready, few, few-spared _ _ _ _ _ _ start.requires.1)
+    let (ready, few) = packed_ready _ _ _ _ _ _ _ _ _ start.requires.0 in
+    (ready, few, few_spared _ _ _ _ _ _ start.requires.1)
 
 packed-of-requires : tie.Need-packed-of-requires
 packed-of-requires c κs = search rules
@@ -29,9 +29,9 @@ same_length : tie.Need-same-length
 same_length c = search rules
 
 returns : tie.Need-returns
-unfolding columnOf splitOf
+unfolding column_of split_of
 returns c =
-    packed-passed _ _ _ _ _ _ _ _ _ _ _ c.before.before.before.before.before.before.before.before.requires.0 _ _
+    packed_passed _ _ _ _ _ _ _ _ _ _ _ c.before.before.before.before.before.before.before.before.requires.0 _ _
     c.before.before.before.pass-slots.ensures c.packed-of.ensures
 
 pub pass-packed-spec : {M : Type 1} → statement M

@@ -1,7 +1,7 @@
 -- `forward::pass_slots` meets its contract: the pass that fits the units' terms and the number of slots.
 -- Assumes nothing.
 use native.Mathlib.Omega.{arith}
-use Rattle.forward.proofs.UseLaws.{kept-ready, kept-passed, window-ready, window-passed}
+use Rattle.forward.proofs.UseLaws.{kept_ready, kept_passed, window_ready, window_passed}
 use borrow.Author.Rules.{rules}
 use Rattle.forward.proofs.pass_slots.Statement.{statement}
 use Rattle.forward.proofs.pass_slots.Tie as tie
@@ -10,24 +10,24 @@ add-if1 : tie.Need-overflow-add-if1
 add-if1 c = search rules
 
 pass-columns-requires : tie.Need-pass-columns-requires
-pass-columns-requires c κs = (kept-ready _ _ _ _ _ _ _ _ _ c.before.before.before.before.before.requires.0 (omega arith), c.before.before.before.before.before.requires.1, c.before.before.before.before.before.requires.2)
+pass-columns-requires c κs = (kept_ready _ _ _ _ _ _ _ _ _ c.before.before.before.before.before.requires.0 (omega arith), c.before.before.before.before.before.requires.1, c.before.before.before.before.before.requires.2)
 
 same_length : tie.Need-same-length
 same_length c = search rules
 
 returns : tie.Need-returns
-returns c = kept-passed _ _ _ _ _ _ _ _ _ c.before.before.before.before.before.before.before.before.requires.0 (omega arith) _ _ _ _ c.before.before.pass-columns.ensures
+returns c = kept_passed _ _ _ _ _ _ _ _ _ c.before.before.before.before.before.before.before.before.requires.0 (omega arith) _ _ _ _ c.before.before.pass-columns.ensures
 
 pass-window-requires : tie.Need-pass-window-requires
 pass-window-requires c κs =
-    (window-ready _ _ _ _ _ _ _ _ _ c.before.before.before.before.before.requires.0 (omega arith), c.before.before.before.before.before.requires.1)
+    (window_ready _ _ _ _ _ _ _ _ _ c.before.before.before.before.before.requires.0 (omega arith), c.before.before.before.before.before.requires.1)
 
 same-length-2 : tie.Need-same-length-2
 same-length-2 c = search rules
 
 returns-2 : tie.Need-returns-2
 returns-2 c =
-    window-passed _ _ _ _ _ _ _ _ _ c.before.before.before.before.before.before.before.before.requires.0 (omega arith) _ _ _ _
+    window_passed _ _ _ _ _ _ _ _ _ c.before.before.before.before.before.before.before.before.requires.0 (omega arith) _ _ _ _
     c.before.before.pass-window.ensures
 
 pub pass-slots-spec : {M : Type 1} → statement M

@@ -2,9 +2,9 @@
 -- Assumes nothing.
 use native.Mathlib.Omega.{arith}
 use mathlib.Core.Path.{refl}
-use Rattle.lists.proofs.ListLaws.{not-both}
-use Rattle.pass.specs.Column.{columnOf, splitOf}
-use Rattle.forward.proofs.UseLaws.{block-passed, block-ready, columns-one}
+use Rattle.lists.proofs.ListLaws.{not_both}
+use Rattle.pass.specs.Column.{column_of, split_of}
+use Rattle.forward.proofs.UseLaws.{block_passed, block_ready, columns_one}
 use borrow.Author.Rules.{rules}
 use Rattle.forward.proofs.pass_without.Statement.{statement}
 use Rattle.forward.proofs.pass_without.Tie as tie
@@ -19,9 +19,9 @@ part-pass-slots-end : tie.Need-slice-bounds-pass-slots-end
 part-pass-slots-end c = search rules
 
 pass-slots-requires : tie.Need-pass-slots-requires
-unfolding splitOf
+unfolding split_of
 pass-slots-requires c κs =
-    (block-ready _ _ _ _ _ _ _ _ _ c.before.before.before.before.requires, omega arith, λ e. absurd (not-both e refl))
+    (block_ready _ _ _ _ _ _ _ _ _ c.before.before.before.before.requires, omega arith, λ e. absurd (not_both e refl))
 
 over-requires : tie.Need-over-requires
 over-requires c κs = search rules
@@ -30,10 +30,10 @@ same_length : tie.Need-same-length
 same_length c = search rules
 
 returns : tie.Need-returns
-unfolding columnOf splitOf
+unfolding column_of split_of
 returns c =
-    block-passed _ _ _ _ _ _ _ _ _ _ _ _ c.before.before.before.before.before.before.before.before.requires
-    (columns-one _ _ _ _ _ _ _ _ _ _ _ _ c.before.before.before.pass-slots.ensures) c.over.ensures
+    block_passed _ _ _ _ _ _ _ _ _ _ _ _ c.before.before.before.before.before.before.before.before.requires
+    (columns_one _ _ _ _ _ _ _ _ _ _ _ _ c.before.before.before.pass-slots.ensures) c.over.ensures
 
 pub pass-without-spec : {M : Type 1} → statement M
 pass-without-spec =

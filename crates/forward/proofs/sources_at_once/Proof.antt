@@ -1,7 +1,7 @@
 -- `forward::sources_at_once` meets its contract.
 -- Assumes nothing.
 use native.Mathlib.Omega.{arith}
-use Rattle.forward.proofs.WidthLaws.{group-kept, group-stale}
+use Rattle.forward.proofs.WidthLaws.{group_kept, group_stale}
 use borrow.Author.Rules.{rules}
 use Rattle.forward.proofs.sources_at_once.Statement.{statement}
 use Rattle.forward.proofs.sources_at_once.Tie as tie
@@ -29,11 +29,11 @@ returns c =
     let size = c.before in
     let parts = size.before in
     let few = parts.before.before in
-    group-kept _ _ _ _ _ _ few.before.pre _ _ _ _ (omega arith) few.smaller.ensures parts.smaller2.ensures
+    group_kept _ _ _ _ _ _ few.before.pre _ _ _ _ (omega arith) few.smaller.ensures parts.smaller2.ensures
     size.source-size.ensures c.smaller3.ensures
 
 returns-2 : tie.Need-returns-2
-returns-2 c = group-stale _ _ _ _ _ _ c.before.before.pre _ (omega arith) c.before.smaller.ensures
+returns-2 c = group_stale _ _ _ _ _ _ c.before.before.pre _ (omega arith) c.before.smaller.ensures
 
 pub sources-at-once-spec : {M : Type 1} → statement M
 sources-at-once-spec =

@@ -6,19 +6,19 @@ use lib.ListN.{length}
 use mir.Facts.{to_z-of_z}
 use borrow.Author.Rules.{rules}
 use Rattle.io.specs.Counts.{clamp_len}
-use Rattle.input.proofs.PartLaws.{interrupted-part, failed-part, got-part}
+use Rattle.input.proofs.PartLaws.{interrupted_part, failed_part, got_part}
 use Rattle.input.proofs.part_of.Statement.{statement}
 use Rattle.input.proofs.part_of.Tie as tie
 
 returns : tie.Need-returns
 returns c =
     let same = to_z-of_z c.before.before.before.ranges.got in
-    interrupted-part _ _ _ (rw same at c.before.if1.true) c.if2.true
+    interrupted_part _ _ _ (rw same at c.before.if1.true) c.if2.true
 
 returns-2 : tie.Need-returns-2
 returns-2 c =
     let same = to_z-of_z c.before.before.before.ranges.got in
-    failed-part _ _ _ (rw same at c.before.if1.true) c.if2.false
+    failed_part _ _ _ (rw same at c.before.if1.true) c.if2.false
 
 count-requires : tie.Need-count-requires
 count-requires c κs = search rules
@@ -27,7 +27,7 @@ returns-3 : tie.Need-returns-3
 returns-3 c =
     let same = to_z-of_z c.before.before.before.ranges.got in
     let size = length c.before.before.before.args.buf.now in
-    got-part _ _ _ _ (rw same at c.before.if1.false) (c.count.ensures.1 ∙ ap (λ (z : ℤ). clamp_len z size) same)
+    got_part _ _ _ _ (rw same at c.before.if1.false) (c.count.ensures.1 ∙ ap (λ (z : ℤ). clamp_len z size) same)
 
 pub part-of-spec : {M : Type 1} → statement M
 part-of-spec = tie.close (tie.spec returns returns-2 count-requires returns-3)

@@ -1,6 +1,6 @@
 -- `input::read_part` meets its contract: a number of bytes lies within the buffer. Assumes nothing.
 use borrow.Author.Rules.{rules}
-use Rattle.input.proofs.PartLaws.{part-within}
+use Rattle.input.proofs.PartLaws.{part_within}
 use Rattle.input.proofs.read_part.Statement.{statement}
 use Rattle.input.proofs.read_part.Tie as tie
 
@@ -18,7 +18,7 @@ same_length c = search rules
 
 returns : tie.Need-returns
 returns c =
-    rw c.part_of.ensures (part-within _ _ _ _ c.before.before.before.before.before.read.auto.1.0)
+    rw c.part_of.ensures (part_within _ _ _ _ c.before.before.before.before.before.read.auto.1.0)
 
 pub read-part-spec : {M : Type 1} → statement M
 read-part-spec =

@@ -1,7 +1,7 @@
 -- `joftaki_c::joftaki_check` meets its contract: the number of check's answer fits 32 bits.
 -- Assumes nothing.
 use native.Mathlib.Omega.{arith}
-use Rattle.joftaki_c.proofs.CodeLaws.{check-small}
+use Rattle.joftaki_c.proofs.CodeLaws.{check_small}
 use borrow.Author.Rules.{rules}
 use Rattle.joftaki_c.proofs.joftaki_check.Statement.{statement}
 use Rattle.joftaki_c.proofs.joftaki_check.Tie as tie
@@ -13,7 +13,7 @@ check-number-requires : tie.Need-check-number-requires
 check-number-requires c κs = search rules
 
 cast-result : tie.Need-overflow-cast-result
-cast-result c = omega (arith, check-small c.before.check.result _ c.check-number.ensures)
+cast-result c = omega (arith, check_small c.before.check.result _ c.check-number.ensures)
 
 returns : tie.Need-returns
 returns c = search rules

@@ -5,7 +5,7 @@ use Prim.Native.Nat.{◌-◌, ◌≤◌}
 use mathlib.Core.Path.{◌≡◌, refl, sym, ◌∙◌}
 use native.Mathlib.Omega.{arith}
 use lib.ListN.{take}
-use Rattle.judging.proofs.LegLaws.{alike-more, alike-ends, alike_all}
+use Rattle.judging.proofs.LegLaws.{alike_more, alike_ends, alike_all}
 use Rattle.judging.proofs.alike.Statement.{statement}
 use Rattle.judging.proofs.alike.Tie as tie
 
@@ -28,10 +28,10 @@ loop-less : tie.Need-loop-smaller invariant-loop decreases-loop
 loop-less c = omega arith
 
 loop-again : tie.Need-loop-preserved invariant-loop decreases-loop
-loop-again c = (omega arith, alike-more _ _ c.before.before.before.loop.k (omega arith) (omega arith) c.before.before.before.loop.invariant.1 (sym c.before.same-entry.ensures ∙ c.if1.true))
+loop-again c = (omega arith, alike_more _ _ c.before.before.before.loop.k (omega arith) (omega arith) c.before.before.before.loop.invariant.1 (sym c.before.same-entry.ensures ∙ c.if1.true))
 
 returns : tie.Need-returns invariant-loop decreases-loop
-returns c = alike-ends _ _ _ c.before.before.before.loop.k (omega arith) c.before.before.before.loop.invariant.1 (sym c.before.same-entry.ensures ∙ c.if1.false)
+returns c = alike_ends _ _ _ c.before.before.before.loop.k (omega arith) c.before.before.before.loop.invariant.1 (sym c.before.same-entry.ensures ∙ c.if1.false)
 
 returns-2 : tie.Need-returns-2 invariant-loop decreases-loop
 returns-2 c = alike_all _ _ _ c.before.loop.k (omega arith) (omega arith) c.before.loop.invariant.1

@@ -1,7 +1,7 @@
 -- `judging::first_leg` meets its contract: the first position behind the leg before is the first of all.
 -- Assumes nothing.
 use mathlib.Core.Path.{ap}
-use Rattle.judging.proofs.LegLaws.{first-of-all}
+use Rattle.judging.proofs.LegLaws.{first_of_all}
 use borrow.Author.Rules.{rules}
 use Rattle.judging.proofs.first_leg.Statement.{statement}
 use Rattle.judging.proofs.first_leg.Tie as tie
@@ -23,7 +23,7 @@ is-found-requires c κs = search rules
 
 returns : tie.Need-returns
 returns c =
-    rw c.before.wide.ensures.0 at (first-of-all _ _ _ _ _ c.before.before.before.before.before.before.before.requires _ _ _ c.before.before.before.search-from.ensures c.is_found.ensures)
+    rw c.before.wide.ensures.0 at (first_of_all _ _ _ _ _ c.before.before.before.before.before.before.before.requires _ _ _ c.before.before.before.search-from.ensures c.is_found.ensures)
 
 pub first-leg-spec : {M : Type 1} → statement M
 first-leg-spec =

@@ -4,9 +4,9 @@
 use Prim.Native.Nat.{◌-◌, ◌≤◌}
 use mathlib.Core.Path.{refl}
 use native.Mathlib.Omega.{arith}
-use Rattle.lists.proofs.ListLaws.{not-both}
+use Rattle.lists.proofs.ListLaws.{not_both}
 use Rattle.ways.specs.Found.{begins}
-use Rattle.judging.proofs.LegLaws.{FirstsTo, firsts_more, firsts-all, first-missing}
+use Rattle.judging.proofs.LegLaws.{FirstsTo, firsts_more, firsts_all, first_missing}
 use Rattle.judging.proofs.first_legs.Statement.{statement}
 use Rattle.judging.proofs.first_legs.Tie as tie
 
@@ -33,22 +33,22 @@ loop-less c = omega arith
 loop-again : tie.Need-loop-preserved invariant-loop decreases-loop
 loop-again c =
     let inv = c.before.before.before.loop.invariant in
-    (omega arith, firsts_more _ _ _ _ c.before.before.before.before.before.before.before.requires.room _ inv.1 (c.before.first-leg.ensures.yes c.if1.true))
+    (omega arith, firsts_more _ _ _ _ c.before.before.before.before.before.before.before.requires.room _ inv.1 (c.before.first_leg.ensures.yes c.if1.true))
 
 returns : tie.Need-returns invariant-loop decreases-loop
 returns c =
     let inv = c.before.before.before.loop.invariant in
     let pre = c.before.before.before.before.before.before.before.requires in
     record {
-      yes = λ h. absurd (not-both h refl);
-      no = λ h. first-missing _ _ _ _ pre.room _ inv.0 (omega arith) (c.before.first-leg.ensures.no c.if1.false);
+      yes = λ h. absurd (not_both h refl);
+      no = λ h. first_missing _ _ _ _ pre.room _ inv.0 (omega arith) (c.before.first_leg.ensures.no c.if1.false);
     }
 
 returns-2 : tie.Need-returns-2 invariant-loop decreases-loop
 returns-2 c =
     record {
-      yes = λ h. firsts-all _ _ _ _ c.before.before.before.before.before.requires.room _ (omega arith) c.before.loop.invariant.1;
-      no = λ h. absurd (not-both refl h);
+      yes = λ h. firsts_all _ _ _ _ c.before.before.before.before.before.requires.room _ (omega arith) c.before.loop.invariant.1;
+      no = λ h. absurd (not_both refl h);
     }
 
 pub first-legs-spec : {M : Type 1} → statement M

@@ -2,7 +2,7 @@
 -- Assumes nothing.
 use Prim.Native.Nat.{◌+◌, ◌-◌}
 use native.Mathlib.Omega.{arith}
-use Rattle.judging.proofs.JudgeLaws.{parts, part-long}
+use Rattle.judging.proofs.JudgeLaws.{parts, part_long}
 use borrow.Author.Rules.{rules}
 use Rattle.judging.proofs.follows_at.Statement.{statement}
 use Rattle.judging.proofs.follows_at.Tie as tie
@@ -41,8 +41,8 @@ follows-requires : tie.Need-follows-requires
 follows-requires c κs =
     let pre = c.before.before.before.before.before.before.before.requires in
     let a = c.before.before.before.before.before.before.before.args in (
-      record { pair = pre.0; room = part-long a.q.hops (a.at - (a.at - a.q.hops)) (a.at - a.q.hops) a.list.now (omega arith) (omega arith) },
-      part-long a.q.hops (a.at + a.q.hops - a.at) a.at a.list.now (omega arith) (omega arith),
+      record { pair = pre.0; room = part_long a.q.hops (a.at - (a.at - a.q.hops)) (a.at - a.q.hops) a.list.now (omega arith) (omega arith) },
+      part_long a.q.hops (a.at + a.q.hops - a.at) a.at a.list.now (omega arith) (omega arith),
     )
 
 returns : tie.Need-returns

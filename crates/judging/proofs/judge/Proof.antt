@@ -2,25 +2,25 @@
 -- Assumes nothing.
 use native.Mathlib.Omega.{arith}
 use mathlib.Core.Path.{◌∙◌}
-use Rattle.judging.specs.Judge.{verdictOf}
-use Rattle.judging.proofs.JudgeLaws.{is-empty, not-whole, is-wrong, whole-ways}
+use Rattle.judging.specs.Judge.{verdict_of}
+use Rattle.judging.proofs.JudgeLaws.{is_empty, not_whole, is_wrong, whole_ways}
 use borrow.Author.Rules.{rules}
 use Rattle.judging.proofs.judge.Statement.{statement}
 use Rattle.judging.proofs.judge.Tie as tie
 
 returns : tie.Need-returns
-unfolding verdictOf
-returns c = is-empty _ _ _ c.before.before.before.before.requires _ (omega arith)
+unfolding verdict_of
+returns c = is_empty _ _ _ c.before.before.before.before.requires _ (omega arith)
 
 rem-if2 : tie.Need-nonzero-rem-if2
 rem-if2 c = search rules
 
 returns-2 : tie.Need-returns-2
-unfolding verdictOf
-returns-2 c = is-wrong _ _ _ c.before.before.before.before.before.before.requires _ (not-whole _ _ _ c.before.before.before.before.before.before.requires _ (λ e. omega arith))
+unfolding verdict_of
+returns-2 c = is_wrong _ _ _ c.before.before.before.before.before.before.requires _ (not_whole _ _ _ c.before.before.before.before.before.before.requires _ (λ e. omega arith))
 
 judge-ways-requires : tie.Need-judge-ways-requires
-judge-ways-requires c κs = whole-ways _ _ _ c.before.before.before.before.before.before.requires _ (omega arith) (omega arith)
+judge-ways-requires c κs = whole_ways _ _ _ c.before.before.before.before.before.before.requires _ (omega arith) (omega arith)
 
 returns-3 : tie.Need-returns-3
 returns-3 c = search rules

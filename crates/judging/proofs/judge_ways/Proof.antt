@@ -2,8 +2,8 @@
 -- Assumes nothing.
 use native.Mathlib.Omega.{arith}
 use mathlib.Core.Path.{◌∙◌}
-use Rattle.judging.specs.Judge.{verdictOf}
-use Rattle.judging.proofs.JudgeLaws.{one_way, no-first, all-out, some_left, is-wrong}
+use Rattle.judging.specs.Judge.{verdict_of}
+use Rattle.judging.proofs.JudgeLaws.{one_way, no_first, all_out, some_left, is_wrong}
 use borrow.Author.Rules.{rules}
 use Rattle.judging.proofs.judge_ways.Statement.{statement}
 use Rattle.judging.proofs.judge_ways.Tie as tie
@@ -18,26 +18,26 @@ last-way-requires : tie.Need-last-way-requires
 last-way-requires c κs = search rules
 
 returns : tie.Need-returns
-unfolding verdictOf
+unfolding verdict_of
 returns c =
     let pre = c.before.before.before.before.before.before.before.before.before.requires in
-    all-out _ _ _ pre.pair _ (c.before.before.before.ways-follow.ensures.yes c.before.before.if2.true) (c.before.last-way.ensures.yes c.if3.true)
+    all_out _ _ _ pre.pair _ (c.before.before.before.ways-follow.ensures.yes c.before.before.if2.true) (c.before.last-way.ensures.yes c.if3.true)
 
 returns-2 : tie.Need-returns-2
-unfolding verdictOf
+unfolding verdict_of
 returns-2 c =
     let pre = c.before.before.before.before.before.before.before.before.before.requires in
     some_left _ _ _ pre.pair _ (c.before.before.before.ways-follow.ensures.yes c.before.before.if2.true) (c.before.last-way.ensures.no c.if3.false)
 
 returns-3 : tie.Need-returns-3
-unfolding verdictOf
-returns-3 c = is-wrong _ _ _ c.before.before.before.before.before.before.before.requires.pair _ (c.before.ways-follow.ensures.no c.if2.false)
+unfolding verdict_of
+returns-3 c = is_wrong _ _ _ c.before.before.before.before.before.before.before.requires.pair _ (c.before.ways-follow.ensures.no c.if2.false)
 
 returns-4 : tie.Need-returns-4
-unfolding verdictOf
+unfolding verdict_of
 returns-4 c =
     let pre = c.before.before.before.before.before.requires in
-    is-wrong _ _ _ pre.pair _ (no-first _ _ _ pre.pair _ (one_way _ _ _ _ pre) (c.before.first-legs.ensures.no c.if1.false))
+    is_wrong _ _ _ pre.pair _ (no_first _ _ _ pre.pair _ (one_way _ _ _ _ pre) (c.before.first-legs.ensures.no c.if1.false))
 
 pub judge-ways-spec : {M : Type 1} → statement M
 judge-ways-spec =

@@ -4,9 +4,9 @@
 use Prim.Native.Nat.{◌-◌, ◌≤◌}
 use mathlib.Core.Path.{refl}
 use native.Mathlib.Omega.{arith}
-use Rattle.lists.proofs.ListLaws.{not-both}
+use Rattle.lists.proofs.ListLaws.{not_both}
 use Rattle.ways.specs.Found.{begins}
-use Rattle.judging.proofs.LegLaws.{LastsTo, lasts-more, lasts-all, last-missing}
+use Rattle.judging.proofs.LegLaws.{LastsTo, lasts_more, lasts_all, last_missing}
 use Rattle.judging.proofs.last_legs.Statement.{statement}
 use Rattle.judging.proofs.last_legs.Tie as tie
 
@@ -33,22 +33,22 @@ loop-less c = omega arith
 loop-again : tie.Need-loop-preserved invariant-loop decreases-loop
 loop-again c =
     let inv = c.before.before.before.loop.invariant in
-    (omega arith, lasts-more _ _ _ _ c.before.before.before.before.before.before.before.requires.room _ inv.1 (c.before.last-leg.ensures.yes c.if1.true))
+    (omega arith, lasts_more _ _ _ _ c.before.before.before.before.before.before.before.requires.room _ inv.1 (c.before.last_leg.ensures.yes c.if1.true))
 
 returns : tie.Need-returns invariant-loop decreases-loop
 returns c =
     let inv = c.before.before.before.loop.invariant in
     let pre = c.before.before.before.before.before.before.before.requires in
     record {
-      yes = λ h. absurd (not-both h refl);
-      no = λ h. last-missing _ _ _ _ pre.room _ inv.0 (omega arith) (c.before.last-leg.ensures.no c.if1.false);
+      yes = λ h. absurd (not_both h refl);
+      no = λ h. last_missing _ _ _ _ pre.room _ inv.0 (omega arith) (c.before.last_leg.ensures.no c.if1.false);
     }
 
 returns-2 : tie.Need-returns-2 invariant-loop decreases-loop
 returns-2 c =
     record {
-      yes = λ h. lasts-all _ _ _ _ c.before.before.before.before.before.requires.room _ (omega arith) c.before.loop.invariant.1;
-      no = λ h. absurd (not-both refl h);
+      yes = λ h. lasts_all _ _ _ _ c.before.before.before.before.before.requires.room _ (omega arith) c.before.loop.invariant.1;
+      no = λ h. absurd (not_both refl h);
     }
 
 pub last-legs-spec : {M : Type 1} → statement M

@@ -1,7 +1,7 @@
 -- `judging::last_way` meets its contract: the part that it lends is the last way.
 -- Assumes nothing.
 use native.Mathlib.Omega.{arith}
-use Rattle.judging.proofs.JudgeLaws.{last-part}
+use Rattle.judging.proofs.JudgeLaws.{last_part}
 use borrow.Author.Rules.{rules}
 use Rattle.judging.proofs.last_way.Statement.{statement}
 use Rattle.judging.proofs.last_way.Tie as tie
@@ -25,7 +25,7 @@ last-legs-requires : tie.Need-last-legs-requires
 last-legs-requires c κs = search rules
 
 returns : tie.Need-returns
-returns c = last-part _ _ c.before.before.before.before.before.before.args.list.now _ c.last-legs.ensures
+returns c = last_part _ _ c.before.before.before.before.before.before.args.list.now _ c.last_legs.ensures
 
 pub last-way-spec : {M : Type 1} → statement M
 last-way-spec =

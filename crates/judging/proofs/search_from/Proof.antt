@@ -1,13 +1,13 @@
 -- `judging::search_from` meets its contract: behind the leg before, if there is one.
 -- Assumes nothing.
-use Rattle.judging.proofs.LegLaws.{search-first, search-behind}
+use Rattle.judging.proofs.LegLaws.{search_first, search_behind}
 use native.Mathlib.Omega.{arith}
 use borrow.Author.Rules.{rules}
 use Rattle.judging.proofs.search_from.Statement.{statement}
 use Rattle.judging.proofs.search_from.Tie as tie
 
 returns : tie.Need-returns
-returns c = search-first _ _ (omega arith)
+returns c = search_first _ _ (omega arith)
 
 sub-last : tie.Need-overflow-sub-last
 sub-last c = search rules
@@ -25,7 +25,7 @@ add-result : tie.Need-overflow-add-result
 add-result c = search rules
 
 returns-2 : tie.Need-returns-2
-returns-2 c = search-behind _ _ _ (omega arith) c.wide.ensures.0
+returns-2 c = search_behind _ _ _ (omega arith) c.wide.ensures.0
 
 pub search-from-spec : {M : Type 1} → statement M
 search-from-spec =

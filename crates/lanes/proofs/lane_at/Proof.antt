@@ -1,7 +1,7 @@
 -- `lanes::lane_at` meets its contract: the two shifts leave the lane.
 -- Assumes nothing.
 use borrow.Author.Rules.{rules}
-use Rattle.lanes.proofs.ShiftLaws.{lane-shifts}
+use Rattle.lanes.proofs.ShiftLaws.{lane_shifts}
 use Rattle.lanes.proofs.lane_at.Statement.{statement}
 use Rattle.lanes.proofs.lane_at.Tie as tie
 
@@ -24,7 +24,7 @@ shr-result : tie.Need-overflow-shr-result
 shr-result c = search rules
 
 returns : tie.Need-returns
-returns c = lane-shifts _ _ _ c.requires.1
+returns c = lane_shifts _ _ _ c.requires.1
 
 pub lane-at-spec : {M : Type 1} → statement M
 lane-at-spec =

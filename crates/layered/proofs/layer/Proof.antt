@@ -4,8 +4,8 @@
 use Prim.Native.Nat.{◌-◌}
 use native.Mathlib.Omega.{arith}
 use Rattle.temporal.specs.Bytes.{records}
-use Rattle.layered.proofs.SlotLaws.{layerable-kept}
-use Rattle.layered.proofs.LayeringLaws.{Layering, layering-none, layering-bounds, layering-more, layering-all}
+use Rattle.layered.proofs.SlotLaws.{layerable_kept}
+use Rattle.layered.proofs.LayeringLaws.{Layering, layering_none, layering_bounds, layering_more, layering_all}
 use Rattle.layered.proofs.layer.Statement.{statement}
 use Rattle.layered.proofs.layer.Tie as tie
 
@@ -16,7 +16,7 @@ abbrev decreases-loop : tie.decreases-loop
 decreases-loop plan n v out₀ m lo₀ out lo = records plan - lo
 
 loop-holds : tie.Need-loop-init invariant-loop decreases-loop
-loop-holds c = layering-none _ _ _ _ c.before.before.requires
+loop-holds c = layering_none _ _ _ _ c.before.before.requires
 
 slot-end-of-requires : tie.Need-slot-end-of-requires invariant-loop decreases-loop
 unfolding records
@@ -29,8 +29,8 @@ write-slot-requires c κs =
     let head = found.before.before in
     let pre = head.before.before.before.requires in
     let inv = head.loop.invariant in (
-      layerable-kept _ _ _ _ inv.written.same_length pre,
-      layering-bounds _ _ _ _ pre _ _ inv (omega arith) _ found.slot-end-of.ensures,
+      layerable_kept _ _ _ _ inv.written.same_length pre,
+      layering_bounds _ _ _ _ pre _ _ inv (omega arith) _ found.slot-end-of.ensures,
     )
 
 loop-less : tie.Need-loop-smaller invariant-loop decreases-loop
@@ -39,7 +39,7 @@ loop-less c =
     let found = c.before.before.before.before in
     let head = found.before.before in
     let pre = head.before.before.before.requires in
-    omega (arith, (layering-bounds _ _ _ _ pre _ _ head.loop.invariant (omega arith) _ found.slot-end-of.ensures).rises)
+    omega (arith, (layering_bounds _ _ _ _ pre _ _ head.loop.invariant (omega arith) _ found.slot-end-of.ensures).rises)
 
 loop-again : tie.Need-loop-preserved invariant-loop decreases-loop
 unfolding records
@@ -49,14 +49,14 @@ loop-again c =
     let head = found.before.before in
     let pre = head.before.before.before.requires in
     rw wrote.write-slot.ensures
-    (layering-more _ _ _ _ pre _ _ head.loop.invariant (omega arith) _ found.slot-end-of.ensures)
+    (layering_more _ _ _ _ pre _ _ head.loop.invariant (omega arith) _ found.slot-end-of.ensures)
 
 same_length : tie.Need-same-length invariant-loop decreases-loop
 same_length c = c.before.loop.invariant.written.same_length
 
 returns : tie.Need-returns invariant-loop decreases-loop
 unfolding records
-returns c = layering-all _ _ _ _ c.before.before.before.before.requires _ _ (omega arith) c.before.loop.invariant
+returns c = layering_all _ _ _ _ c.before.before.before.before.requires _ _ (omega arith) c.before.loop.invariant
 
 pub layer-spec : {M : Type 1} → statement M
 layer-spec =

@@ -2,8 +2,8 @@
 -- Assumes nothing.
 use native.Mathlib.Omega.{arith}
 use lib.ListN.{length-set}
-use Rattle.plan.specs.Record.{contactOf}
-use Rattle.layered.proofs.WritingLaws.{six-stores}
+use Rattle.plan.specs.Record.{contact_of}
+use Rattle.layered.proofs.WritingLaws.{six_stores}
 use borrow.Author.Rules.{rules}
 use Rattle.layered.proofs.write_record.Statement.{statement}
 use Rattle.layered.proofs.write_record.Tie as tie
@@ -54,7 +54,7 @@ same_length : tie.Need-same-length
 same_length c = search rules
 
 returns : tie.Need-returns
-returns c = six-stores c.args.out.now c.args.at (contactOf c.args.c)
+returns c = six_stores c.args.out.now c.args.at (contact_of c.args.c)
 
 pub write-record-spec : {M : Type 1} → statement M
 write-record-spec =

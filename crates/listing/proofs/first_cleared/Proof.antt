@@ -1,8 +1,8 @@
--- `listing::first_cleared` meets its contract: the work, cleared after it, leaves what wayWork names.
+-- `listing::first_cleared` meets its contract: the work, cleared after it, leaves what way_work names.
 -- Assumes nothing.
 use native.Mathlib.Omega.{arith}
 use Rattle.walks.proofs.Accepted.{accepted}
-use Rattle.listing.proofs.WorkLaws.{work-cleared}
+use Rattle.listing.proofs.WorkLaws.{work_cleared}
 use borrow.Author.Rules.{rules}
 use Rattle.listing.proofs.first_cleared.Statement.{statement}
 use Rattle.listing.proofs.first_cleared.Tie as tie
@@ -20,7 +20,7 @@ same-length-2 : tie.Need-same-length-2
 same-length-2 c = search rules
 
 returns : tie.Need-returns
-returns c = work-cleared _ _ _ _ _ _ _ _ c.before.before.before.before.before.before.before.before.first-work.ensures c.before.before.clear-area.ensures
+returns c = work_cleared _ _ _ _ _ _ _ _ c.before.before.before.before.before.before.before.before.first-work.ensures c.before.before.clear-area.ensures
 
 pub first-cleared-spec : {M : Type 1} → statement M
 first-cleared-spec =

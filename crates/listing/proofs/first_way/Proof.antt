@@ -1,6 +1,6 @@
 -- `listing::first_way` meets its contract: a refusal of the plan is passed on, an accepted plan goes on to the call.
 -- Assumes nothing.
-use Rattle.listing.proofs.CallLaws.{accepted-plan, way-plan}
+use Rattle.listing.proofs.CallLaws.{accepted_plan, way_plan}
 use borrow.Author.Rules.{rules}
 use Rattle.listing.proofs.first_way.Statement.{statement}
 use Rattle.listing.proofs.first_way.Tie as tie
@@ -15,7 +15,7 @@ enum_told : tie.Need-enum-told
 enum_told c = search rules
 
 first-accepted-requires : tie.Need-first-accepted-requires
-first-accepted-requires c κs = accepted-plan _ _ _ _ c.before.before.before.before.check.ensures c.before.before.enum_told.given.1
+first-accepted-requires c κs = accepted_plan _ _ _ _ c.before.before.before.before.check.ensures c.before.before.enum_told.given.1
 
 same_length : tie.Need-same-length
 same_length c = search rules
@@ -27,7 +27,7 @@ returns : tie.Need-returns
 returns c = search rules
 
 returns-2 : tie.Need-returns-2
-returns-2 c = way-plan _ _ _ _ _ _ c.before.before.before.check.ensures c.before.fault.given.1
+returns-2 c = way_plan _ _ _ _ _ _ c.before.before.before.check.ensures c.before.fault.given.1
 
 pub first-way-spec : {M : Type 1} → statement M
 first-way-spec =

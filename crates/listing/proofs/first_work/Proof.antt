@@ -3,19 +3,19 @@
 use Rattle.listing.specs.Answer.{question}
 use native.Mathlib.Omega.{arith}
 use mathlib.Core.Path.{refl}
-use Rattle.listing.proofs.WorkLaws.{pass-ready, worked-too-many, worked-no-path, ready-startable, worked-first}
+use Rattle.listing.proofs.WorkLaws.{pass_ready, worked_too_many, worked_no_path, ready_startable, worked_first}
 use borrow.Author.Rules.{rules}
 use Rattle.listing.proofs.first_work.Statement.{statement}
 use Rattle.listing.proofs.first_work.Tie as tie
 
 pass-requires : tie.Need-pass-requires
-pass-requires c κs = pass-ready (question _ _ _ _ _ _ _) _ _ c.before.before.before.before.requires
+pass-requires c κs = pass_ready (question _ _ _ _ _ _ _) _ _ c.before.before.before.before.requires
 
 same_length : tie.Need-same-length
 same_length c = search rules
 
 returns : tie.Need-returns
-returns c = worked-too-many _ _ _ c.before.before.before.before.before.before.before.before.requires _ _ c.before.before.before.pass.ensures _ c.if1.true
+returns c = worked_too_many _ _ _ c.before.before.before.before.before.before.before.before.requires _ _ c.before.before.before.pass.ensures _ c.if1.true
 
 mul-hops : tie.Need-overflow-mul-hops
 mul-hops c = search rules
@@ -27,14 +27,14 @@ same-length-2 : tie.Need-same-length-2
 same-length-2 c = search rules
 
 returns-2 : tie.Need-returns-2
-returns-2 c = worked-no-path _ _ _ c.before.before.before.before.before.before.before.before.before.before.requires _ _ c.before.before.before.before.before.pass.ensures c.before.before.if1.false _ refl (omega arith)
+returns-2 c = worked_no_path _ _ _ c.before.before.before.before.before.before.before.before.before.before.requires _ _ c.before.before.before.before.before.pass.ensures c.before.before.if1.false _ refl (omega arith)
 
 complete-requires : tie.Need-complete-requires
 complete-requires c κs = search rules
 
 first-path-requires : tie.Need-first-path-requires
 first-path-requires c κs =
-    ready-startable (question _ _ _ _ _ _ _) _ _ c.before.before.before.before.before.before.before.before.before.before.before.before.before.before.before.before.requires _ _ c.before.before.before.before.before.before.before.before.before.before.before.pass.ensures c.before.before.before.before.before.before.before.before.if1.false _ refl
+    ready_startable (question _ _ _ _ _ _ _) _ _ c.before.before.before.before.before.before.before.before.before.before.before.before.before.before.before.before.requires _ _ c.before.before.before.before.before.before.before.before.before.before.before.pass.ensures c.before.before.before.before.before.before.before.before.if1.false _ refl
     (λ e. c.before.before.before.before.before.before.if2.false e) _ c.before.before.before.before.complete.ensures
 
 same-length-3 : tie.Need-same-length-3
@@ -45,7 +45,7 @@ same-length-4 c = search rules
 
 returns-3 : tie.Need-returns-3
 returns-3 c =
-    worked-first _ _ _ c.before.before.before.before.before.before.before.before.before.before.before.before.before.before.before.before.before.before.before.requires _ _ c.before.before.before.before.before.before.before.before.before.before.before.before.before.before.pass.ensures c.before.before.before.before.before.before.before.before.before.before.before.if1.false _ refl (λ e. c.before.before.before.before.before.before.before.before.before.if2.false e) _
+    worked_first _ _ _ c.before.before.before.before.before.before.before.before.before.before.before.before.before.before.before.before.before.before.before.requires _ _ c.before.before.before.before.before.before.before.before.before.before.before.before.before.before.pass.ensures c.before.before.before.before.before.before.before.before.before.before.before.if1.false _ refl (λ e. c.before.before.before.before.before.before.before.before.before.if2.false e) _
     c.before.before.before.before.before.before.before.complete.ensures _ c.before.before.first-path.ensures
 
 pub first-work-spec : {M : Type 1} → statement M

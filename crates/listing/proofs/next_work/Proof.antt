@@ -3,19 +3,19 @@
 use Rattle.listing.specs.Answer.{question}
 use native.Mathlib.Omega.{arith}
 use mathlib.Core.Path.{refl, sym, ◌∙◌}
-use Rattle.listing.proofs.WorkLaws.{pass-ready, worked-too-many, worked-no-offer, ready-listable, ready-continuable, worked-next, worked-last, worked-not-offered}
+use Rattle.listing.proofs.WorkLaws.{pass_ready, worked_too_many, worked_no_offer, ready_listable, ready_continuable, worked_next, worked_last, worked_not_offered}
 use borrow.Author.Rules.{rules}
 use Rattle.listing.proofs.next_work.Statement.{statement}
 use Rattle.listing.proofs.next_work.Tie as tie
 
 pass-requires : tie.Need-pass-requires
-pass-requires c κs = pass-ready (question _ _ _ _ _ _ _) _ _ c.before.before.before.before.requires
+pass-requires c κs = pass_ready (question _ _ _ _ _ _ _) _ _ c.before.before.before.before.requires
 
 same_length : tie.Need-same-length
 same_length c = search rules
 
 returns : tie.Need-returns
-returns c = worked-too-many _ _ _ c.before.before.before.before.before.before.before.before.requires _ _ c.before.before.before.pass.ensures _ c.if1.true
+returns c = worked_too_many _ _ _ c.before.before.before.before.before.before.before.before.requires _ _ c.before.before.before.pass.ensures _ c.if1.true
 
 mul-hops : tie.Need-overflow-mul-hops
 mul-hops c = search rules
@@ -27,11 +27,11 @@ same-length-2 : tie.Need-same-length-2
 same-length-2 c = search rules
 
 returns-2 : tie.Need-returns-2
-returns-2 c = worked-no-offer _ _ _ c.before.before.before.before.before.before.before.before.before.before.requires _ _ c.before.before.before.before.before.pass.ensures c.before.before.if1.false _ refl (omega arith)
+returns-2 c = worked_no_offer _ _ _ c.before.before.before.before.before.before.before.before.before.before.requires _ _ c.before.before.before.before.before.pass.ensures c.before.before.if1.false _ refl (omega arith)
 
 offered-requires : tie.Need-offered-requires
 offered-requires c κs =
-    ready-listable (question _ _ _ _ _ _ _) _ _ c.before.before.before.before.before.before.before.before.before.before.before.requires _ _ c.before.before.before.before.before.before.pass.ensures c.before.before.before.if1.false _ refl
+    ready_listable (question _ _ _ _ _ _ _) _ _ c.before.before.before.before.before.before.before.before.before.before.before.requires _ _ c.before.before.before.before.before.before.pass.ensures c.before.before.before.if1.false _ refl
     (λ e. c.before.if2.false e)
 
 complete-requires : tie.Need-complete-requires
@@ -39,7 +39,7 @@ complete-requires c κs = search rules
 
 next-path-requires : tie.Need-next-path-requires
 next-path-requires c κs =
-    ready-continuable (question _ _ _ _ _ _ _) _ _ c.before.before.before.before.before.before.before.before.before.before.before.before.before.before.before.before.before.before.before.requires _ _ c.before.before.before.before.before.before.before.before.before.before.before.before.before.before.pass.ensures c.before.before.before.before.before.before.before.before.before.before.before.if1.false _ refl
+    ready_continuable (question _ _ _ _ _ _ _) _ _ c.before.before.before.before.before.before.before.before.before.before.before.before.before.before.before.before.before.before.before.requires _ _ c.before.before.before.before.before.before.before.before.before.before.before.before.before.before.pass.ensures c.before.before.before.before.before.before.before.before.before.before.before.if1.false _ refl
     (λ e. c.before.before.before.before.before.before.before.before.before.if2.false e) _ c.before.before.before.before.complete.ensures (sym c.before.before.before.before.before.before.before.offered.ensures ∙ c.before.before.before.before.before.before.if3.true)
 
 same-length-3 : tie.Need-same-length-3
@@ -50,7 +50,7 @@ same-length-4 c = search rules
 
 returns-3 : tie.Need-returns-3
 returns-3 c =
-    worked-next _ _ _ c.before.before.before.before.before.before.before.before.before.before.before.before.before.before.before.before.before.before.before.before.before.before.before.requires _ _ c.before.before.before.before.before.before.before.before.before.before.before.before.before.before.before.before.before.before.pass.ensures c.before.before.before.before.before.before.before.before.before.before.before.before.before.before.before.if1.false _ refl (λ e. c.before.before.before.before.before.before.before.before.before.before.before.before.before.if2.false e) _
+    worked_next _ _ _ c.before.before.before.before.before.before.before.before.before.before.before.before.before.before.before.before.before.before.before.before.before.before.before.requires _ _ c.before.before.before.before.before.before.before.before.before.before.before.before.before.before.before.before.before.before.pass.ensures c.before.before.before.before.before.before.before.before.before.before.before.before.before.before.before.if1.false _ refl (λ e. c.before.before.before.before.before.before.before.before.before.before.before.before.before.if2.false e) _
     c.before.before.before.before.before.before.before.before.complete.ensures (sym c.before.before.before.before.before.before.before.before.before.before.before.offered.ensures ∙ c.before.before.before.before.before.before.before.before.before.before.if3.true) _ _ c.before.before.before.next-path.ensures c.if4.true
 
 same-length-5 : tie.Need-same-length-5
@@ -61,7 +61,7 @@ same-length-6 c = search rules
 
 returns-4 : tie.Need-returns-4
 returns-4 c =
-    worked-last _ _ _ c.before.before.before.before.before.before.before.before.before.before.before.before.before.before.before.before.before.before.before.before.before.before.before.requires _ _ c.before.before.before.before.before.before.before.before.before.before.before.before.before.before.before.before.before.before.pass.ensures c.before.before.before.before.before.before.before.before.before.before.before.before.before.before.before.if1.false _ refl (λ e. c.before.before.before.before.before.before.before.before.before.before.before.before.before.if2.false e) _
+    worked_last _ _ _ c.before.before.before.before.before.before.before.before.before.before.before.before.before.before.before.before.before.before.before.before.before.before.before.requires _ _ c.before.before.before.before.before.before.before.before.before.before.before.before.before.before.before.before.before.before.pass.ensures c.before.before.before.before.before.before.before.before.before.before.before.before.before.before.before.if1.false _ refl (λ e. c.before.before.before.before.before.before.before.before.before.before.before.before.before.if2.false e) _
     c.before.before.before.before.before.before.before.before.complete.ensures (sym c.before.before.before.before.before.before.before.before.before.before.before.offered.ensures ∙ c.before.before.before.before.before.before.before.before.before.before.if3.true) _ _ c.before.before.before.next-path.ensures c.if4.false
 
 same-length-7 : tie.Need-same-length-7
@@ -72,7 +72,7 @@ same-length-8 c = search rules
 
 returns-5 : tie.Need-returns-5
 returns-5 c =
-    worked-not-offered _ _ _ c.before.before.before.before.before.before.before.before.before.before.before.before.before.requires _ _ c.before.before.before.before.before.before.before.before.pass.ensures c.before.before.before.before.before.if1.false _ refl (λ e. c.before.before.before.if2.false e)
+    worked_not_offered _ _ _ c.before.before.before.before.before.before.before.before.before.before.before.before.before.requires _ _ c.before.before.before.before.before.before.before.before.pass.ensures c.before.before.before.before.before.if1.false _ refl (λ e. c.before.before.before.if2.false e)
     (sym c.before.offered.ensures ∙ c.if3.false)
 
 pub next-work-spec : {M : Type 1} → statement M

@@ -4,7 +4,7 @@ use mathlib.Core.Path.{sym}
 use lib.Seq.{length-take-le}
 use borrow.Author.Rules.{rules}
 use Rattle.io.specs.Counts.{IsPrefixLen}
-use Rattle.report.proofs.ReportLaws.{texted-within}
+use Rattle.report.proofs.ReportLaws.{texted_within}
 use Rattle.load_one_slot.proofs.main.Statement.{statement}
 use Rattle.load_one_slot.proofs.main.Tie as tie
 
@@ -27,16 +27,16 @@ returns : tie.Need-returns
 returns c = search rules
 
 -- what was read lies within the input buffer
-read-within :
+read_within :
     (c : tie.After-known-told) →
     IsPrefixLen c.before.got.given.0.0 c.before.before.before.before.read-records.new.1.0
-read-within c = rw c.before.got.given.1 at c.before.before.before.before.read-records.ensures
+read_within c = rw c.before.got.given.1 at c.before.before.before.before.read-records.ensures
 
 array-share-prefix-bytes : tie.Need-array-share-prefix-bytes
-array-share-prefix-bytes c = (read-within c).0
+array-share-prefix-bytes c = (read_within c).0
 
 slice-aggregate-text-of : tie.Need-slice-aggregate-text-of
-slice-aggregate-text-of c = (read-within c.before).1
+slice-aggregate-text-of c = (read_within c.before).1
 
 text-of-requires : tie.Need-text-of-requires
 text-of-requires c κs = search rules
@@ -45,10 +45,10 @@ slice-aggregate-write-text : tie.Need-slice-aggregate-write-text
 slice-aggregate-write-text c = search rules
 
 array-share-prefix-out : tie.Need-array-share-prefix-out
-array-share-prefix-out c = texted-within c.before.text_of.ensures
+array-share-prefix-out c = texted_within c.before.text_of.ensures
 
 slice-aggregate-write-text-2 : tie.Need-slice-aggregate-write-text-2
-slice-aggregate-write-text-2 c = sym (length-take-le _ _ (texted-within c.before.before.text_of.ensures))
+slice-aggregate-write-text-2 c = sym (length-take-le _ _ (texted_within c.before.before.text_of.ensures))
 
 write-text-requires : tie.Need-write-text-requires
 write-text-requires c κs = search rules

@@ -2,7 +2,7 @@
 -- Assumes nothing.
 use native.Mathlib.Omega.{arith}
 use mathlib.Core.Path.{sym}
-use Rattle.loads.proofs.LargestLaws.{better-new, better-kept}
+use Rattle.loads.proofs.LargestLaws.{better_new, better_kept}
 use borrow.Author.Rules.{rules}
 use Rattle.loads.proofs.better.Statement.{statement}
 use Rattle.loads.proofs.better.Tie as tie
@@ -26,10 +26,10 @@ shared-slice-read-if1-2 : tie.Need-shared-slice-read-if1-2
 shared-slice-read-if1-2 c = search rules
 
 returns : tie.Need-returns
-returns c = sym (better-new _ _ 0 _ _ (omega arith))
+returns c = sym (better_new _ _ 0 _ _ (omega arith))
 
 returns-2 : tie.Need-returns-2
-returns-2 c = sym (better-kept _ _ 0 _ _ (omega arith))
+returns-2 c = sym (better_kept _ _ 0 _ _ (omega arith))
 
 pub better-spec : {M : Type 1} → statement M
 better-spec =

@@ -1,8 +1,8 @@
 -- `loads::busiest` meets its contract: a refusal of the plan is passed on, an accepted plan goes on to the call.
 -- Assumes nothing.
 use mathlib.Core.Path.{sym, ap, ◌∙◌}
-use Rattle.plan.specs.Fault.{checkNumber}
-use Rattle.loads.proofs.LoadLaws.{busiest-plan}
+use Rattle.plan.specs.Fault.{check_number}
+use Rattle.loads.proofs.LoadLaws.{busiest_plan}
 use borrow.Author.Rules.{rules}
 use Rattle.loads.proofs.busiest.Statement.{statement}
 use Rattle.loads.proofs.busiest.Tie as tie
@@ -17,7 +17,7 @@ enum_told : tie.Need-enum-told
 enum_told c = search rules
 
 busiest-accepted-requires : tie.Need-busiest-accepted-requires
-busiest-accepted-requires c κs = sym c.before.before.before.check.ensures ∙ ap checkNumber c.before.enum_told.given.1
+busiest-accepted-requires c κs = sym c.before.before.before.check.ensures ∙ ap check_number c.before.enum_told.given.1
 
 same_length : tie.Need-same-length
 same_length c = search rules
@@ -26,7 +26,7 @@ returns : tie.Need-returns
 returns c = search rules
 
 returns-2 : tie.Need-returns-2
-returns-2 c = busiest-plan _ _ _ _ _ _ _ c.before.before.before.check.ensures c.before.fault.given.1
+returns-2 c = busiest_plan _ _ _ _ _ _ _ c.before.before.before.check.ensures c.before.fault.given.1
 
 pub busiest-spec : {M : Type 1} → statement M
 busiest-spec =

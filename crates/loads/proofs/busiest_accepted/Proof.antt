@@ -1,7 +1,7 @@
 -- `loads::busiest_accepted` meets its contract: a refusal for 12 or 14 is passed on, else the rest decides.
 -- Assumes nothing.
-use Rattle.calls.proofs.CallLaws.{terms-free-by}
-use Rattle.loads.proofs.LoadLaws.{busiest-terms}
+use Rattle.calls.proofs.CallLaws.{terms_free_by}
+use Rattle.loads.proofs.LoadLaws.{busiest_terms}
 use borrow.Author.Rules.{rules}
 use Rattle.loads.proofs.busiest_accepted.Statement.{statement}
 use Rattle.loads.proofs.busiest_accepted.Tie as tie
@@ -16,7 +16,7 @@ enum_told : tie.Need-enum-told
 enum_told c = search rules
 
 busiest-asked-requires : tie.Need-busiest-asked-requires
-busiest-asked-requires c κs = (c.before.before.before.before.before.before.requires, terms-free-by _ _ c.before.before.before.terms-call.ensures c.before.enum_told.given.1)
+busiest-asked-requires c κs = (c.before.before.before.before.before.before.requires, terms_free_by _ _ c.before.before.before.terms-call.ensures c.before.enum_told.given.1)
 
 same_length : tie.Need-same-length
 same_length c = search rules
@@ -25,7 +25,7 @@ returns : tie.Need-returns
 returns c = search rules
 
 returns-2 : tie.Need-returns-2
-returns-2 c = busiest-terms _ _ _ _ _ c.before.before.before.before.before.before.requires _ c.before.before.before.terms-call.ensures _ c.before.fault.given.1
+returns-2 c = busiest_terms _ _ _ _ _ c.before.before.before.before.before.before.requires _ c.before.before.before.terms-call.ensures _ c.before.fault.given.1
 
 pub busiest-accepted-spec : {M : Type 1} → statement M
 busiest-accepted-spec =

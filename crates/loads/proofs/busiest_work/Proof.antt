@@ -3,7 +3,7 @@
 -- Assumes nothing.
 use native.Mathlib.Omega.{arith}
 use Rattle.walks.proofs.Accepted.{accepted}
-use Rattle.loads.proofs.LoadLaws.{tally-room, compared-refused, compared-found}
+use Rattle.loads.proofs.LoadLaws.{tally_room, compared_refused, compared_found}
 use borrow.Author.Rules.{rules}
 use Rattle.loads.proofs.busiest_work.Statement.{statement}
 use Rattle.loads.proofs.busiest_work.Tie as tie
@@ -28,7 +28,7 @@ same_length c = search rules
 
 returns : tie.Need-returns
 returns c =
-    compared-refused _ _ _ _ _ _ _ c.before.before.before.before.before.before.before.tally.ensures _ c.before.before.clear.ensures
+    compared_refused _ _ _ _ _ _ _ c.before.before.before.before.before.before.before.tally.ensures _ c.before.before.clear.ensures
     c.before.before.before.before.if1.true
 
 base-of-requires : tie.Need-base-of-requires
@@ -38,14 +38,14 @@ base-of-requires c κs =
 add-largest : tie.Need-overflow-add-largest
 add-largest c =
     omega
-    (arith, tally-room _ _ _ _ c.before.base-of.ensures c.before.before.before.before.before.before.before.before.before.requires.area, c.before.before.before.before.before.before.before.before.before.well-formed.0.0)
+    (arith, tally_room _ _ _ _ c.before.base-of.ensures c.before.before.before.before.before.before.before.before.before.requires.area, c.before.before.before.before.before.before.before.before.before.well-formed.0.0)
 
 largest-requires : tie.Need-largest-requires
 largest-requires c κs = (
-  (accepted _ _ _ c.before.before.before.before.before.before.before.before.before.requires.accepted).some-station,
+  (accepted _ _ _ c.before.before.before.before.before.before.before.before.before.requires.accepted).some_station,
   omega (
     arith,
-    tally-room _ _ _ _ c.before.base-of.ensures c.before.before.before.before.before.before.before.before.before.requires.area,
+    tally_room _ _ _ _ c.before.base-of.ensures c.before.before.before.before.before.before.before.before.before.requires.area,
     c.before.before.before.before.before.tally.ensures.same_length,
   ),
 )
@@ -67,7 +67,7 @@ same-length-2 c = search rules
 
 returns-2 : tie.Need-returns-2
 returns-2 c =
-    compared-found _ _ _ _ _ _ _ c.before.before.before.before.before.before.before.before.before.before.tally.ensures _ c.before.before.clear2.ensures
+    compared_found _ _ _ _ _ _ _ c.before.before.before.before.before.before.before.before.before.before.tally.ensures _ c.before.before.clear2.ensures
     c.before.before.before.before.before.before.before.if1.false _ _ c.before.before.before.before.before.before.base-of.ensures
     c.before.before.before.before.largest.ensures
 

@@ -3,7 +3,7 @@
 -- Assumes nothing.
 use Prim.Native.Nat.{◌-◌}
 use native.Mathlib.Omega.{arith}
-use Rattle.loads.proofs.LargestLaws.{Best, best-first, best-next, best-all}
+use Rattle.loads.proofs.LargestLaws.{Best, best_first, best_next, best_all}
 use Rattle.loads.proofs.largest.Statement.{statement}
 use Rattle.loads.proofs.largest.Tie as tie
 
@@ -14,7 +14,7 @@ abbrev decreases-loop : tie.decreases-loop
 decreases-loop list from k best₀ u₀ best u = k - u
 
 loop-holds : tie.Need-loop-init invariant-loop decreases-loop
-loop-holds c = best-first _ _ _ (omega arith)
+loop-holds c = best_first _ _ _ (omega arith)
 
 better-requires : tie.Need-better-requires invariant-loop decreases-loop
 better-requires c κs = (omega arith, omega arith)
@@ -26,10 +26,10 @@ loop-less : tie.Need-loop-smaller invariant-loop decreases-loop
 loop-less c = omega arith
 
 loop-again : tie.Need-loop-preserved invariant-loop decreases-loop
-loop-again c = best-next _ _ _ _ _ _ c.before.loop-test.true c.better.ensures c.before.before.loop.invariant
+loop-again c = best_next _ _ _ _ _ _ c.before.loop-test.true c.better.ensures c.before.before.loop.invariant
 
 returns : tie.Need-returns invariant-loop decreases-loop
-returns c = best-all _ _ _ _ _ (omega arith) c.before.loop.invariant
+returns c = best_all _ _ _ _ _ (omega arith) c.before.loop.invariant
 
 pub largest-spec : {M : Type 1} → statement M
 largest-spec =

@@ -1,7 +1,7 @@
 -- `loads::partial_loads_accepted` meets its contract: a refusal for 12 or 14 is passed on, else the rest decides.
 -- Assumes nothing.
-use Rattle.calls.proofs.CallLaws.{terms-free-by}
-use Rattle.loads.proofs.LoadLaws.{loads-terms}
+use Rattle.calls.proofs.CallLaws.{terms_free_by}
+use Rattle.loads.proofs.LoadLaws.{loads_terms}
 use borrow.Author.Rules.{rules}
 use Rattle.loads.proofs.partial_loads_accepted.Statement.{statement}
 use Rattle.loads.proofs.partial_loads_accepted.Tie as tie
@@ -16,7 +16,7 @@ enum_told : tie.Need-enum-told
 enum_told c = search rules
 
 partial-loads-asked-requires : tie.Need-partial-loads-asked-requires
-partial-loads-asked-requires c κs = (c.before.before.before.before.before.before.before.before.before.before.requires, terms-free-by _ _ c.before.before.before.before.before.terms-call.ensures c.before.before.before.enum_told.given.1)
+partial-loads-asked-requires c κs = (c.before.before.before.before.before.before.before.before.before.before.requires, terms_free_by _ _ c.before.before.before.before.before.terms-call.ensures c.before.before.before.enum_told.given.1)
 
 same_length : tie.Need-same-length
 same_length c = search rules
@@ -31,7 +31,7 @@ returns : tie.Need-returns
 returns c = search rules
 
 returns-2 : tie.Need-returns-2
-returns-2 c = loads-terms _ _ _ _ _ _ _ _ c.before.before.before.before.before.before.before.before.requires _ c.before.before.before.terms-call.ensures _ c.before.fault.given.1
+returns-2 c = loads_terms _ _ _ _ _ _ _ _ c.before.before.before.before.before.before.before.before.requires _ c.before.before.before.terms-call.ensures _ c.before.fault.given.1
 
 pub partial-loads-accepted-spec : {M : Type 1} → statement M
 partial-loads-accepted-spec =

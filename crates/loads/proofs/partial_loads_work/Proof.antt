@@ -3,7 +3,7 @@
 -- Assumes nothing.
 use native.Mathlib.Omega.{arith}
 use Rattle.walks.proofs.Accepted.{accepted}
-use Rattle.loads.proofs.LoadLaws.{tally-room, loaded-refused, loaded-filled}
+use Rattle.loads.proofs.LoadLaws.{tally_room, loaded_refused, loaded_filled}
 use borrow.Author.Rules.{rules}
 use Rattle.loads.proofs.partial_loads_work.Statement.{statement}
 use Rattle.loads.proofs.partial_loads_work.Tie as tie
@@ -40,7 +40,7 @@ same-length-3 c = search rules
 
 returns : tie.Need-returns
 returns c =
-    loaded-refused _ _ _ _ _ _ _ _ c.before.before.before.before.before.before.before.before.before.before.before.before.before.before.before.before.before.before.before.before.before.requires _ _ c.before.before.before.before.before.before.before.before.before.before.before.before.before.before.before.tally.ensures c.before.before.before.before.before.before.before.before.before.before.before.before.if1.true _ _ _ c.before.before.before.before.before.before.before.before.before.before.clear.ensures
+    loaded_refused _ _ _ _ _ _ _ _ c.before.before.before.before.before.before.before.before.before.before.before.before.before.before.before.before.before.before.before.before.before.requires _ _ c.before.before.before.before.before.before.before.before.before.before.before.before.before.before.before.tally.ensures c.before.before.before.before.before.before.before.before.before.before.before.before.if1.true _ _ _ c.before.before.before.before.before.before.before.before.before.before.clear.ensures
     c.before.before.before.before.before.before.clear2.ensures c.before.before.clear3.ensures
 
 base-of-requires : tie.Need-base-of-requires
@@ -49,20 +49,20 @@ base-of-requires c κs =
 
 copy-requires : tie.Need-copy-requires
 copy-requires c κs =
-    let room = tally-room _ _ _ _ c.before.before.base-of.ensures c.before.before.before.before.before.before.before.before.before.before.before.before.requires.area in
+    let room = tally_room _ _ _ _ c.before.before.base-of.ensures c.before.before.before.before.before.before.before.before.before.before.before.before.requires.area in
     let size = c.before.before.before.before.before.before.tally.ensures.same_length in
-    record { source-room = omega arith; table-room = c.before.before.before.before.before.before.before.before.before.before.before.before.requires.pairs-room }
+    record { source_room = omega arith; table_room = c.before.before.before.before.before.before.before.before.before.before.before.before.requires.pairs_room }
 
 add-copy : tie.Need-overflow-add-copy
 add-copy c =
     omega
-    (arith, tally-room _ _ _ _ c.before.before.before.before.before.before.before.base-of.ensures c.before.before.before.before.before.before.before.before.before.before.before.before.before.before.before.before.before.requires.area, c.before.before.before.before.before.before.before.before.before.before.before.before.before.before.before.before.before.well-formed.1.1.0.0)
+    (arith, tally_room _ _ _ _ c.before.before.before.before.before.before.before.base-of.ensures c.before.before.before.before.before.before.before.before.before.before.before.before.before.before.before.before.before.requires.area, c.before.before.before.before.before.before.before.before.before.before.before.before.before.before.before.before.before.well-formed.1.1.0.0)
 
 copy-requires-2 : tie.Need-copy-requires-2
 copy-requires-2 c κs =
-    let room = tally-room _ _ _ _ c.before.before.before.before.before.before.before.base-of.ensures c.before.before.before.before.before.before.before.before.before.before.before.before.before.before.before.before.before.requires.area in
+    let room = tally_room _ _ _ _ c.before.before.before.before.before.before.before.base-of.ensures c.before.before.before.before.before.before.before.before.before.before.before.before.before.before.before.before.before.requires.area in
     let size = c.before.before.before.before.before.before.before.before.before.before.before.tally.ensures.same_length in
-    record { source-room = omega arith; table-room = c.before.before.before.before.before.before.before.before.before.before.before.before.before.before.before.before.before.requires.loads-room }
+    record { source_room = omega arith; table_room = c.before.before.before.before.before.before.before.before.before.before.before.before.before.before.before.before.before.requires.loads_room }
 
 add-clear-2 : tie.Need-overflow-add-clear-2
 add-clear-2 c = omega (arith, (accepted _ _ _ c.before.before.before.before.before.before.before.before.before.before.before.before.before.before.before.before.before.before.before.before.before.requires.accepted).slots)
@@ -87,7 +87,7 @@ same-length-6 c = search rules
 
 returns-2 : tie.Need-returns-2
 returns-2 c =
-    loaded-filled _ _ _ _ _ _ _ _ c.before.before.before.before.before.before.before.before.before.before.before.before.before.before.before.before.before.before.before.before.before.before.before.before.requires _ _ c.before.before.before.before.before.before.before.before.before.before.before.before.before.before.before.before.before.before.tally.ensures c.before.before.before.before.before.before.before.before.before.before.before.before.before.before.before.if1.false _ _ _ _ c.before.before.before.before.before.before.before.before.before.before.before.before.before.before.base-of.ensures
+    loaded_filled _ _ _ _ _ _ _ _ c.before.before.before.before.before.before.before.before.before.before.before.before.before.before.before.before.before.before.before.before.before.before.before.before.requires _ _ c.before.before.before.before.before.before.before.before.before.before.before.before.before.before.before.before.before.before.tally.ensures c.before.before.before.before.before.before.before.before.before.before.before.before.before.before.before.if1.false _ _ _ _ c.before.before.before.before.before.before.before.before.before.before.before.before.before.before.base-of.ensures
     c.before.before.before.before.before.before.before.before.before.before.before.copy.ensures c.before.before.before.before.before.before.copy2.ensures c.before.before.clear4.ensures
 
 pub partial-loads-work-spec : {M : Type 1} → statement M

@@ -2,7 +2,7 @@
 -- Assumes nothing.
 use Prim.Native.Nat.{◌-◌}
 use native.Mathlib.Omega.{arith}
-use Rattle.memory.proofs.CopyLaws.{Copying, copying-none, copying-more, copying-all}
+use Rattle.memory.proofs.CopyLaws.{Copying, copying_none, copying_more, copying_all}
 use Rattle.memory.proofs.copy.Statement.{statement}
 use Rattle.memory.proofs.copy.Tie as tie
 
@@ -13,7 +13,7 @@ abbrev decreases-loop : tie.decreases-loop
 decreases-loop table₀ list from k i₀ table i = k - i
 
 loop-holds : tie.Need-loop-init invariant-loop decreases-loop
-loop-holds c = copying-none _ _ _ _
+loop-holds c = copying_none _ _ _ _
 
 add_at : tie.Need-overflow-add-at invariant-loop decreases-loop
 add_at c = omega arith
@@ -37,13 +37,13 @@ loop-less : tie.Need-loop-smaller invariant-loop decreases-loop
 loop-less c = omega arith
 
 loop-again : tie.Need-loop-preserved invariant-loop decreases-loop
-loop-again c = copying-more _ _ _ _ _ _ c.before.loop-test.true c.before.before.before.requires.table-room c.before.before.loop.invariant
+loop-again c = copying_more _ _ _ _ _ _ c.before.loop-test.true c.before.before.before.requires.table_room c.before.before.loop.invariant
 
 same_length : tie.Need-same-length invariant-loop decreases-loop
 same_length c = c.before.loop.invariant.same_length
 
 returns : tie.Need-returns invariant-loop decreases-loop
-returns c = copying-all _ _ _ _ _ _ (omega arith) c.before.loop.invariant
+returns c = copying_all _ _ _ _ _ _ (omega arith) c.before.loop.invariant
 
 pub copy_spec : {M : Type 1} → statement M
 copy_spec =

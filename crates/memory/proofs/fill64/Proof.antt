@@ -3,7 +3,7 @@
 use borrow.Author.Rules.{rules}
 use native.Mathlib.Omega.{arith}
 use mathlib.Core.Path.{◌∙◌}
-use Rattle.memory.proofs.FillLaws.{filled-start}
+use Rattle.memory.proofs.FillLaws.{filled_start}
 use Rattle.memory.proofs.fill64.Statement.{statement}
 use Rattle.memory.proofs.fill64.Tie as tie
 
@@ -14,7 +14,7 @@ same_length : tie.Need-same-length
 same_length c = search rules
 
 returns : tie.Need-returns
-returns c = c.before.before.fill-part.ensures ∙ filled-start _ _ _ (omega arith)
+returns c = c.before.before.fill-part.ensures ∙ filled_start _ _ _ (omega arith)
 
 pub fill64-spec : {M : Type 1} → statement M
 fill64-spec = tie.close (tie.spec fill-part-requires same_length returns)

@@ -4,7 +4,7 @@
 use Prim.Native.Nat.{◌-◌}
 use native.Mathlib.Omega.{arith}
 use mathlib.Core.Path.{◌∙◌}
-use Rattle.memory.proofs.FillLaws.{Filling, filling-none, filling-next, filling-all, filled-start}
+use Rattle.memory.proofs.FillLaws.{Filling, filling_none, filling_next, filling_all, filled_start}
 use Rattle.memory.proofs.fill8.Statement.{statement}
 use Rattle.memory.proofs.fill8.Tie as tie
 
@@ -15,7 +15,7 @@ abbrev decreases-loop : tie.decreases-loop
 decreases-loop table₀ k x i₀ table i = k - i
 
 loop-holds : tie.Need-loop-init invariant-loop decreases-loop
-loop-holds c = filling-none _ _ _ _
+loop-holds c = filling_none _ _ _ _
 
 slice-write-table : tie.Need-slice-write-table invariant-loop decreases-loop
 slice-write-table c = omega arith
@@ -27,13 +27,13 @@ loop-less : tie.Need-loop-smaller invariant-loop decreases-loop
 loop-less c = omega arith
 
 loop-again : tie.Need-loop-preserved invariant-loop decreases-loop
-loop-again c = filling-next _ _ _ _ _ (omega arith) c.before.loop.invariant
+loop-again c = filling_next _ _ _ _ _ (omega arith) c.before.loop.invariant
 
 same_length : tie.Need-same-length invariant-loop decreases-loop
 same_length c = c.before.loop.invariant.same
 
 returns : tie.Need-returns invariant-loop decreases-loop
-returns c = filling-all _ _ _ _ _ _ (omega arith) c.before.loop.invariant ∙ filled-start _ _ _ (omega arith)
+returns c = filling_all _ _ _ _ _ _ (omega arith) c.before.loop.invariant ∙ filled_start _ _ _ (omega arith)
 
 pub fill8-spec : {M : Type 1} → statement M
 fill8-spec =

@@ -3,7 +3,7 @@
 -- Assumes nothing.
 use Prim.Native.Nat.{◌-◌}
 use native.Mathlib.Omega.{arith}
-use Rattle.memory.proofs.FillLaws.{Filling, filling-none, filling-more, filling-all}
+use Rattle.memory.proofs.FillLaws.{Filling, filling_none, filling_more, filling_all}
 use Rattle.memory.proofs.fill_part.Statement.{statement}
 use Rattle.memory.proofs.fill_part.Tie as tie
 
@@ -14,7 +14,7 @@ abbrev decreases-loop : tie.decreases-loop
 decreases-loop table₀ to size x i₀ table i = size - i
 
 loop-holds : tie.Need-loop-init invariant-loop decreases-loop
-loop-holds c = filling-none _ _ _ _
+loop-holds c = filling_none _ _ _ _
 
 add-table : tie.Need-overflow-add-table invariant-loop decreases-loop
 add-table c = omega arith
@@ -32,13 +32,13 @@ loop-less : tie.Need-loop-smaller invariant-loop decreases-loop
 loop-less c = omega arith
 
 loop-again : tie.Need-loop-preserved invariant-loop decreases-loop
-loop-again c = filling-more _ _ _ _ _ _ (omega arith) c.before.loop.invariant
+loop-again c = filling_more _ _ _ _ _ _ (omega arith) c.before.loop.invariant
 
 same_length : tie.Need-same-length invariant-loop decreases-loop
 same_length c = c.before.loop.invariant.same
 
 returns : tie.Need-returns invariant-loop decreases-loop
-returns c = filling-all _ _ _ _ _ _ (omega arith) c.before.loop.invariant
+returns c = filling_all _ _ _ _ _ _ (omega arith) c.before.loop.invariant
 
 pub fill-part-spec : {M : Type 1} → statement M
 fill-part-spec =

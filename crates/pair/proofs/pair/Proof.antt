@@ -1,8 +1,8 @@
 -- `pair::pair` meets its contract: a refusal of the plan is passed on, an accepted plan goes on to the call.
 -- Assumes nothing.
 use mathlib.Core.Path.{sym, ap, ◌∙◌}
-use Rattle.plan.specs.Fault.{checkNumber}
-use Rattle.pair.proofs.PairLaws.{pair-plan}
+use Rattle.plan.specs.Fault.{check_number}
+use Rattle.pair.proofs.PairLaws.{pair_plan}
 use borrow.Author.Rules.{rules}
 use Rattle.pair.proofs.pair.Statement.{statement}
 use Rattle.pair.proofs.pair.Tie as tie
@@ -17,7 +17,7 @@ enum_told : tie.Need-enum-told
 enum_told c = search rules
 
 pair-accepted-requires : tie.Need-pair-accepted-requires
-pair-accepted-requires c κs = sym c.before.before.before.before.check.ensures ∙ ap checkNumber c.before.before.enum_told.given.1
+pair-accepted-requires c κs = sym c.before.before.before.before.check.ensures ∙ ap check_number c.before.before.enum_told.given.1
 
 same_length : tie.Need-same-length
 same_length c = search rules
@@ -29,7 +29,7 @@ returns : tie.Need-returns
 returns c = search rules
 
 returns-2 : tie.Need-returns-2
-returns-2 c = pair-plan _ _ _ _ _ _ _ _ _ _ c.before.before.before.check.ensures c.before.fault.given.1
+returns-2 c = pair_plan _ _ _ _ _ _ _ _ _ _ c.before.before.before.check.ensures c.before.fault.given.1
 
 pub pair_spec : {M : Type 1} → statement M
 pair_spec =

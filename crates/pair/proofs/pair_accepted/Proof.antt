@@ -2,8 +2,8 @@
 -- Assumes nothing.
 use mathlib.Core.Path.{sym, ◌∙◌}
 use Rattle.walks.proofs.Accepted.{accepted}
-use Rattle.pair.proofs.BeginLaws.{call-free}
-use Rattle.pair.proofs.PairLaws.{pair-call, pair-works}
+use Rattle.pair.proofs.BeginLaws.{call_free}
+use Rattle.pair.proofs.PairLaws.{pair_call, pair_works}
 use borrow.Author.Rules.{rules}
 use Rattle.pair.proofs.pair_accepted.Statement.{statement}
 use Rattle.pair.proofs.pair_accepted.Tie as tie
@@ -18,7 +18,7 @@ enum_told : tie.Need-enum-told
 enum_told c = search rules
 
 pair-work-requires : tie.Need-pair-work-requires
-pair-work-requires c κs = call-free _ _ _ _ _ _ _ _ c.before.before.before.before.before.before.before.before.requires _ c.before.before.before.before.pair-call.ensures c.before.before.enum_told.given.1
+pair-work-requires c κs = call_free _ _ _ _ _ _ _ _ c.before.before.before.before.before.before.before.before.requires _ c.before.before.before.before.pair_call.ensures c.before.before.enum_told.given.1
 
 same_length : tie.Need-same-length
 same_length c = search rules
@@ -28,11 +28,11 @@ same-length-2 c = search rules
 
 returns : tie.Need-returns
 returns c =
-    c.before.before.before.before.pair-work.ensures ∙
-    sym (pair-works _ _ _ _ _ _ _ _ c.before.before.before.before.before.before.before.before.before.before.before.before.before.requires _ c.before.before.before.before.before.before.before.before.before.pair-call.ensures c.before.before.before.before.before.before.before.enum_told.given.1)
+    c.before.before.before.before.pair_work.ensures ∙
+    sym (pair_works _ _ _ _ _ _ _ _ c.before.before.before.before.before.before.before.before.before.before.before.before.before.requires _ c.before.before.before.before.before.before.before.before.before.pair_call.ensures c.before.before.before.before.before.before.before.enum_told.given.1)
 
 returns-2 : tie.Need-returns-2
-returns-2 c = pair-call _ _ _ _ _ _ _ _ c.before.before.before.before.before.before.before.requires _ c.before.before.before.pair-call.ensures _ c.before.fault.given.1
+returns-2 c = pair_call _ _ _ _ _ _ _ _ c.before.before.before.before.before.before.before.requires _ c.before.before.before.pair_call.ensures _ c.before.fault.given.1
 
 pub pair-accepted-spec : {M : Type 1} → statement M
 pair-accepted-spec =

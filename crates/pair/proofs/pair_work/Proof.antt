@@ -4,7 +4,7 @@
 use native.Mathlib.Omega.{arith}
 use mathlib.Core.Path.{refl}
 use Rattle.walks.proofs.Accepted.{accepted}
-use Rattle.pair.proofs.PairLaws.{paired-refused, paired-counted}
+use Rattle.pair.proofs.PairLaws.{paired_refused, paired_counted}
 use mathlib.Core.Logic.{inl, inr}
 use borrow.Author.Rules.{rules}
 use Rattle.pair.proofs.pair_work.Statement.{statement}
@@ -36,7 +36,7 @@ same-length-2 c = search rules
 
 returns : tie.Need-returns
 returns c =
-    paired-refused _ _ _ _ _ _ _ _ c.before.before.before.before.before.before.before.before.before.before.before.before.before.before.before.before.before.before.before.requires _ _ _ c.before.before.before.before.before.before.before.before.before.before.before.before.before.throughs.ensures c.before.before.before.before.before.before.before.before.if1.true _ _ c.before.before.before.before.before.before.clear.ensures
+    paired_refused _ _ _ _ _ _ _ _ c.before.before.before.before.before.before.before.before.before.before.before.before.before.before.before.before.before.before.before.requires _ _ _ c.before.before.before.before.before.before.before.before.before.before.before.before.before.throughs.ensures c.before.before.before.before.before.before.before.before.if1.true _ _ c.before.before.before.before.before.before.clear.ensures
     c.before.before.clear2.ensures
 
 mul-hops : tie.Need-overflow-mul-hops
@@ -74,7 +74,7 @@ same-length-4 c = search rules
 
 returns-2 : tie.Need-returns-2
 returns-2 c =
-    paired-counted _ _ _ _ _ _ _ _ c.before.before.before.before.before.before.before.before.before.before.before.before.before.before.before.before.before.requires _ _ _ c.before.before.before.before.before.before.before.before.before.before.before.throughs.ensures c.before.before.before.before.before.before.if1.false _ _ _ refl refl
+    paired_counted _ _ _ _ _ _ _ _ c.before.before.before.before.before.before.before.before.before.before.before.before.before.before.before.before.before.requires _ _ _ c.before.before.before.before.before.before.before.before.before.before.before.throughs.ensures c.before.before.before.before.before.before.if1.false _ _ _ refl refl
     c.before.before.clear3.ensures
 
 pub pair-work-spec : {M : Type 1} → statement M

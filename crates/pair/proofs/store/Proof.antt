@@ -4,7 +4,7 @@
 use Prim.Native.Nat.{◌-◌, ◌≤◌}
 use native.Mathlib.Omega.{arith}
 use Rattle.pair.specs.Throughs.{StoredBlock}
-use Rattle.pair.proofs.ThroughLaws.{stored-none, stored_more, stored-all}
+use Rattle.pair.proofs.ThroughLaws.{stored_none, stored_more, stored_all}
 use Rattle.pair.proofs.store.Statement.{statement}
 use Rattle.pair.proofs.store.Tie as tie
 
@@ -15,7 +15,7 @@ abbrev decreases-loop : tie.decreases-loop
 decreases-loop through₀ work n z low block j₀ through j = block - j
 
 loop-holds : tie.Need-loop-init invariant-loop decreases-loop
-loop-holds c = (omega arith, stored-none _ _ _ _ _ _)
+loop-holds c = (omega arith, stored_none _ _ _ _ _ _)
 
 add-v : tie.Need-overflow-add-v invariant-loop decreases-loop
 add-v c = omega arith
@@ -54,7 +54,7 @@ same_length : tie.Need-same-length invariant-loop decreases-loop
 same_length c = c.before.loop.invariant.1.same_length
 
 returns : tie.Need-returns invariant-loop decreases-loop
-returns c = stored-all _ _ _ _ _ _ _ _ c.before.loop.invariant.0 (omega arith) c.before.loop.invariant.1
+returns c = stored_all _ _ _ _ _ _ _ _ c.before.loop.invariant.0 (omega arith) c.before.loop.invariant.1
 
 pub store_spec : {M : Type 1} → statement M
 store_spec =

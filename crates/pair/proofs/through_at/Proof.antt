@@ -3,7 +3,7 @@
 use native.Mathlib.Omega.{arith}
 use mathlib.Core.Path.{sym}
 use Rattle.pair.proofs.PlaceLaws.{row_inside}
-use Rattle.pair.proofs.ThroughLaws.{entry-itself, entry-no-path, entry-rest}
+use Rattle.pair.proofs.ThroughLaws.{entry_itself, entry_no_path, entry_rest}
 use borrow.Author.Rules.{rules}
 use Rattle.pair.proofs.through_at.Statement.{statement}
 use Rattle.pair.proofs.through_at.Tie as tie
@@ -12,7 +12,7 @@ add-if1 : tie.Need-overflow-add-if1
 add-if1 c = omega arith
 
 returns : tie.Need-returns
-returns c = sym (entry-itself _ _ _ _ _ _ (omega arith))
+returns c = sym (entry_itself _ _ _ _ _ _ (omega arith))
 
 mul-if2 : tie.Need-overflow-mul-if2
 mul-if2 c = search rules
@@ -21,7 +21,7 @@ shared-slice-read-if2 : tie.Need-shared-slice-read-if2
 shared-slice-read-if2 c = search rules
 
 returns-2 : tie.Need-returns-2
-returns-2 c = sym (entry-no-path _ _ _ _ _ _ (omega arith) (omega arith))
+returns-2 c = sym (entry_no_path _ _ _ _ _ _ (omega arith) (omega arith))
 
 mul_at : tie.Need-overflow-mul-at
 mul_at c = search rules
@@ -54,7 +54,7 @@ sub-result : tie.Need-overflow-sub-result
 sub-result c = c.before.before.before.before.before.requires.at_most c.before.before.before.before.if1.false c.before.before.if2.false
 
 returns-3 : tie.Need-returns-3
-returns-3 c = sym (entry-rest _ _ _ _ _ _ c.before.before.before.before.if1.false c.before.before.if2.false)
+returns-3 c = sym (entry_rest _ _ _ _ _ _ c.before.before.before.before.if1.false c.before.before.if2.false)
 
 pub through-at-spec : {M : Type 1} → statement M
 through-at-spec =

@@ -2,13 +2,13 @@
 -- Assumes nothing.
 use native.Mathlib.Omega.{arith}
 use Rattle.walks.proofs.Accepted.{accepted}
-use Rattle.pair.proofs.BlockLaws.{depth-ready, columns-lent, blocks-ready, throughs-entry}
+use Rattle.pair.proofs.BlockLaws.{depth_ready, columns_lent, blocks_ready, throughs_entry}
 use borrow.Author.Rules.{rules}
 use Rattle.pair.proofs.throughs.Statement.{statement}
 use Rattle.pair.proofs.throughs.Tie as tie
 
 depth-requires : tie.Need-depth-requires
-depth-requires c κs = depth-ready _ _ _ _ _ _ _ _ _ _ c.before.before.before.before.requires
+depth-requires c κs = depth_ready _ _ _ _ _ _ _ _ _ _ c.before.before.before.before.requires
 
 add-most-columns : tie.Need-overflow-add-most-columns
 add-most-columns c = omega (arith, (accepted _ _ _ c.before.before.before.before.before.before.before.requires.ready.accepted).slots)
@@ -17,10 +17,10 @@ mul-most-columns : tie.Need-overflow-mul-most-columns
 mul-most-columns c = omega (arith, (accepted _ _ _ c.before.before.before.before.before.before.before.requires.ready.accepted).slots)
 
 most-columns-requires : tie.Need-most-columns-requires
-most-columns-requires c κs = columns-lent _ _ _ _ _ _ _ _ _ _ c.before.before.before.before.before.before.before.requires _ _ c.before.before.depth.ensures
+most-columns-requires c κs = columns_lent _ _ _ _ _ _ _ _ _ _ c.before.before.before.before.before.before.before.requires _ _ c.before.before.depth.ensures
 
 through-blocks-requires : tie.Need-through-blocks-requires
-through-blocks-requires c κs = blocks-ready _ _ _ _ _ _ _ _ _ _ c.before.before.before.before.before.before.before.before.before.before.requires _ _ c.before.before.before.before.before.depth.ensures _ c.before.before.most-columns.ensures
+through-blocks-requires c κs = blocks_ready _ _ _ _ _ _ _ _ _ _ c.before.before.before.before.before.before.before.before.before.before.requires _ _ c.before.before.before.before.before.depth.ensures _ c.before.before.most-columns.ensures
 
 same_length : tie.Need-same-length
 same_length c = search rules
@@ -29,7 +29,7 @@ same-length-2 : tie.Need-same-length-2
 same-length-2 c = search rules
 
 returns : tie.Need-returns
-returns c = throughs-entry _ _ _ _ _ _ _ _ _ _ c.before.before.before.before.before.before.before.before.before.before.before.before.before.before.before.requires _ _ c.before.before.before.before.before.before.before.before.before.before.depth.ensures _ _ _ c.before.before.before.before.through-blocks.ensures
+returns c = throughs_entry _ _ _ _ _ _ _ _ _ _ c.before.before.before.before.before.before.before.before.before.before.before.before.before.before.before.requires _ _ c.before.before.before.before.before.before.before.before.before.before.depth.ensures _ _ _ c.before.before.before.before.through-blocks.ensures
 
 pub throughs-spec : {M : Type 1} → statement M
 throughs-spec =

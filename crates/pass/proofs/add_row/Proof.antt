@@ -3,7 +3,7 @@
 -- Assumes nothing.
 use Rattle.std.proofs.Common.{◌-◌, arith, rules}
 use Rattle.pass.specs.Row.{wrapped}
-use Rattle.pass.proofs.RowLaws.{Combining, combining-none, combining-more, combining-all}
+use Rattle.pass.proofs.RowLaws.{Combining, combining_none, combining_more, combining_all}
 use Rattle.pass.proofs.add_row.Statement.{statement}
 use Rattle.pass.proofs.add_row.Tie as tie
 
@@ -14,7 +14,7 @@ abbrev decreases-loop : tie.decreases-loop
 decreases-loop work₀ to from size j₀ work j = size - j
 
 loop-holds : tie.Need-loop-init invariant-loop decreases-loop
-loop-holds c = combining-none _ _ _ _ _
+loop-holds c = combining_none _ _ _ _ _
 
 add-wrapping-add-u64 : tie.Need-overflow-add-wrapping-add-u64 invariant-loop decreases-loop
 add-wrapping-add-u64 c = omega arith
@@ -54,13 +54,13 @@ loop-less c = omega arith
 
 loop-again : tie.Need-loop-preserved invariant-loop decreases-loop
 unfolding wrapped
-loop-again c = rw c.wrapping-add-u64.ensures (combining-more wrapped _ _ _ _ _ _ (omega arith) c.before.before.before.before.loop.invariant)
+loop-again c = rw c.wrapping-add-u64.ensures (combining_more wrapped _ _ _ _ _ _ (omega arith) c.before.before.before.before.loop.invariant)
 
 same_length : tie.Need-same-length invariant-loop decreases-loop
 same_length c = c.before.loop.invariant.same
 
 returns : tie.Need-returns invariant-loop decreases-loop
-returns c = combining-all _ _ _ _ _ _ _ (omega arith) c.before.loop.invariant
+returns c = combining_all _ _ _ _ _ _ _ (omega arith) c.before.loop.invariant
 
 pub add-row-spec : {M : Type 1} → statement M
 add-row-spec =

@@ -3,19 +3,19 @@
 -- Assumes nothing.
 use Rattle.std.proofs.Common.{◌≡◌, ◌-◌, ◌≤◌, sym, ◌∙◌, arith, rules}
 use Rattle.temporal.specs.Lists.{any, from, below}
-use Rattle.entries.proofs.SearchLaws.{any-start, any_found, any-pass, any-end}
-use Rattle.pass.specs.Entry.{areaOverflows}
+use Rattle.entries.proofs.SearchLaws.{any_start, any_found, any_pass, any_end}
+use Rattle.pass.specs.Entry.{area_overflows}
 use Rattle.pass.proofs.any_overflows.Statement.{statement}
 use Rattle.pass.proofs.any_overflows.Tie as tie
 
 abbrev invariant-loop : tie.invariant-loop
-invariant-loop work n v₀ v = (v ≤ n) × (any (areaOverflows n work) (below n) ≡ any (areaOverflows n work) (from v (n - v)))
+invariant-loop work n v₀ v = (v ≤ n) × (any (area_overflows n work) (below n) ≡ any (area_overflows n work) (from v (n - v)))
 
 abbrev decreases-loop : tie.decreases-loop
 decreases-loop work n v₀ v = n - v
 
 loop-holds : tie.Need-loop-init invariant-loop decreases-loop
-loop-holds c = (omega arith, any-start _ _)
+loop-holds c = (omega arith, any_start _ _)
 
 mul-too-many : tie.Need-overflow-mul-too-many invariant-loop decreases-loop
 mul-too-many c = omega arith
@@ -50,11 +50,11 @@ loop-again : tie.Need-loop-preserved invariant-loop decreases-loop
 loop-again c = (
   omega arith,
   c.before.before.before.before.before.loop.invariant.1 ∙
-      any-pass _ _ _ (omega arith) (sym c.before.too_many.ensures ∙ c.if1.false),
+      any_pass _ _ _ (omega arith) (sym c.before.too_many.ensures ∙ c.if1.false),
 )
 
 returns-2 : tie.Need-returns-2 invariant-loop decreases-loop
-returns-2 c = sym (c.before.loop.invariant.1 ∙ any-end _ _ _ (omega arith))
+returns-2 c = sym (c.before.loop.invariant.1 ∙ any_end _ _ _ (omega arith))
 
 pub any-overflows-spec : {M : Type 1} → statement M
 any-overflows-spec =

@@ -1,7 +1,7 @@
 -- `pass::begin` meets its contract: parts are emptied, then two stores and a fill.
 -- Assumes nothing.
 use Rattle.std.proofs.Common.{◌+◌, ◌∙◌, arith, lt-length-set, rules}
-use Rattle.pass.proofs.PlaceLaws.{parts-few, first_part, row_inside, begun-by, set-twice-length}
+use Rattle.pass.proofs.PlaceLaws.{parts_few, first_part, row_inside, begun_by, set_twice_length}
 use Rattle.pass.proofs.begin.Statement.{statement}
 use Rattle.pass.proofs.begin.Tie as tie
 
@@ -15,7 +15,7 @@ add-empty-parts : tie.Need-overflow-add-empty-parts
 add-empty-parts c = search rules
 
 add-empty-parts-2 : tie.Need-overflow-add-empty-parts-2
-add-empty-parts-2 c = omega (arith, parts-few c.before.before.requires.0, c.before.before.well-formed.0.0)
+add-empty-parts-2 c = omega (arith, parts_few c.before.before.requires.0, c.before.before.well-formed.0.0)
 
 empty-parts-requires : tie.Need-empty-parts-requires
 empty-parts-requires c κs = search rules
@@ -39,13 +39,13 @@ row-at-requires : tie.Need-row-at-requires
 row-at-requires c κs = omega (arith, row_inside _ c.before.before.before.before.before.args.block _ c.before.before.before.before.before.requires.1, first_part c.before.before.before.before.before.requires.0, c.before.before.before.before.before.well-formed.0.0)
 
 fill-part-requires : tie.Need-fill-part-requires
-fill-part-requires c κs = omega (arith, row_inside _ c.before.before.before.before.before.before.before.args.block _ c.before.before.before.before.before.before.before.requires.1, first_part c.before.before.before.before.before.before.before.requires.0, c.before.row_at.ensures, set-twice-length c.before.before.before.before.empty-parts.new.0 c.before.before.before.before.before.before.before.args.source (c.before.before.before.before.before.before.before.args.source + c.before.before.before.before.before.before.before.args.n) 0 1, c.before.before.before.before.empty-parts.auto.0)
+fill-part-requires c κs = omega (arith, row_inside _ c.before.before.before.before.before.before.before.args.block _ c.before.before.before.before.before.before.before.requires.1, first_part c.before.before.before.before.before.before.before.requires.0, c.before.row_at.ensures, set_twice_length c.before.before.before.before.empty-parts.new.0 c.before.before.before.before.before.before.before.args.source (c.before.before.before.before.before.before.before.args.source + c.before.before.before.before.before.before.before.args.n) 0 1, c.before.before.before.before.empty-parts.auto.0)
 
 same_length : tie.Need-same-length
-same_length c = c.before.before.fill-part.auto.0 ∙ set-twice-length c.before.before.before.before.before.before.before.empty-parts.new.0 _ _ _ _ ∙ c.before.before.before.before.before.before.before.empty-parts.auto.0
+same_length c = c.before.before.fill-part.auto.0 ∙ set_twice_length c.before.before.before.before.before.before.before.empty-parts.new.0 _ _ _ _ ∙ c.before.before.before.before.before.before.before.empty-parts.auto.0
 
 returns : tie.Need-returns
-returns c = begun-by _ _ _ _ _ _ _ _ _ c.before.before.before.before.before.before.before.empty-parts.ensures c.before.before.before.before.row_at.ensures c.before.before.fill-part.ensures
+returns c = begun_by _ _ _ _ _ _ _ _ _ c.before.before.before.before.before.before.before.empty-parts.ensures c.before.before.before.before.row_at.ensures c.before.before.fill-part.ensures
 
 pub begin-spec : {M : Type 1} → statement M
 begin-spec =

@@ -1,7 +1,7 @@
 -- `pass::clear_column` meets its contract: the lane is cleared in its entry.
 -- Assumes nothing.
 use Rattle.std.proofs.Common.{refl, rules}
-use Rattle.pass.proofs.WidthLaws.{column-asked, cleared_by}
+use Rattle.pass.proofs.WidthLaws.{column_asked, cleared_by}
 use Rattle.pass.proofs.clear_column.Statement.{statement}
 use Rattle.pass.proofs.clear_column.Tie as tie
 
@@ -24,7 +24,7 @@ slice-read-without-lane : tie.Need-slice-read-without-lane
 slice-read-without-lane c = search rules
 
 without-lane-requires : tie.Need-without-lane-requires
-without-lane-requires c κs = column-asked _ _ _ _ c.before.before.before.before.before.requires.0 c.before.before.width_of_lem.ensures c.before.lane_of.ensures
+without-lane-requires c κs = column_asked _ _ _ _ c.before.before.before.before.before.requires.0 c.before.before.width_of_lem.ensures c.before.lane_of.ensures
 
 mul-work : tie.Need-overflow-mul-work
 mul-work c = search rules

@@ -3,7 +3,7 @@
 -- Assumes nothing.
 use Rattle.std.proofs.Common.{◌-◌, arith}
 use Rattle.pass.specs.Row.{second}
-use Rattle.pass.proofs.RowLaws.{Combining, combining-none, combining-more, combining-all}
+use Rattle.pass.proofs.RowLaws.{Combining, combining_none, combining_more, combining_all}
 use Rattle.pass.proofs.copy_row.Statement.{statement}
 use Rattle.pass.proofs.copy_row.Tie as tie
 
@@ -14,7 +14,7 @@ abbrev decreases-loop : tie.decreases-loop
 decreases-loop work₀ to from size j₀ work j = size - j
 
 loop-holds : tie.Need-loop-init invariant-loop decreases-loop
-loop-holds c = combining-none _ _ _ _ _
+loop-holds c = combining_none _ _ _ _ _
 
 add-work : tie.Need-overflow-add-work invariant-loop decreases-loop
 add-work c = omega arith
@@ -42,13 +42,13 @@ loop-less c = omega arith
 
 loop-again : tie.Need-loop-preserved invariant-loop decreases-loop
 unfolding second
-loop-again c = combining-more second _ _ _ _ _ _ (omega arith) c.before.before.loop.invariant
+loop-again c = combining_more second _ _ _ _ _ _ (omega arith) c.before.before.loop.invariant
 
 same_length : tie.Need-same-length invariant-loop decreases-loop
 same_length c = c.before.loop.invariant.same
 
 returns : tie.Need-returns invariant-loop decreases-loop
-returns c = combining-all _ _ _ _ _ _ _ (omega arith) c.before.loop.invariant
+returns c = combining_all _ _ _ _ _ _ _ (omega arith) c.before.loop.invariant
 
 pub copy-row-spec : {M : Type 1} → statement M
 copy-row-spec =

@@ -1,6 +1,6 @@
 -- `pass::empty_part` meets its contract: two fills in turn.
 -- Assumes nothing.
-use Rattle.pass.proofs.PlaceLaws.{emptied-by}
+use Rattle.pass.proofs.PlaceLaws.{emptied_by}
 use Rattle.std.proofs.Common.{rules}
 use Rattle.pass.proofs.empty_part.Statement.{statement}
 use Rattle.pass.proofs.empty_part.Tie as tie
@@ -18,7 +18,7 @@ same_length : tie.Need-same-length
 same_length c = search rules
 
 returns : tie.Need-returns
-returns c = emptied-by _ _ _ _ _ c.before.before.before.before.before.before.fill-part.ensures c.before.before.fill-part2.ensures
+returns c = emptied_by _ _ _ _ _ c.before.before.before.before.before.before.fill-part.ensures c.before.before.fill-part2.ensures
 
 pub empty-part-spec : {M : Type 1} → statement M
 empty-part-spec =

@@ -1,7 +1,7 @@
 -- `pass::merge` meets its contract: fewer hops replace the entry, as many add, more leave it.
 -- Assumes nothing.
 use Rattle.std.proofs.Common.{sym, arith, rules}
-use Rattle.pass.proofs.EntryLaws.{merge-fewer, merge_equal, merge-more}
+use Rattle.pass.proofs.EntryLaws.{merge_fewer, merge_equal, merge_more}
 use Rattle.pass.proofs.merge.Statement.{statement}
 use Rattle.pass.proofs.merge.Tie as tie
 
@@ -30,7 +30,7 @@ same_length : tie.Need-same-length
 same_length c = search rules
 
 returns : tie.Need-returns
-returns c = sym (merge-fewer _ _ _ _ _ (omega arith))
+returns c = sym (merge_fewer _ _ _ _ _ (omega arith))
 
 mul-add-counts : tie.Need-overflow-mul-add-counts
 mul-add-counts c = search rules
@@ -54,7 +54,7 @@ returns-2 : tie.Need-returns-2
 returns-2 c = rw c.add-counts.ensures (sym (merge_equal _ _ _ _ _ (omega arith)))
 
 returns-3 : tie.Need-returns-3
-returns-3 c = sym (merge-more _ _ _ _ _ (omega arith))
+returns-3 c = sym (merge_more _ _ _ _ _ (omega arith))
 
 pub merge-spec : {M : Type 1} → statement M
 merge-spec =

@@ -1,7 +1,7 @@
 -- `pass::reached` meets its contract.
 -- Assumes nothing.
 use Rattle.std.proofs.Common.{arith, rules}
-use Rattle.pass.proofs.ReachLaws.{reached-inside, reached-outside}
+use Rattle.pass.proofs.ReachLaws.{reached_inside, reached_outside}
 use Rattle.pass.proofs.reached.Statement.{statement}
 use Rattle.pass.proofs.reached.Tie as tie
 
@@ -12,10 +12,10 @@ shared-slice-read-result : tie.Need-shared-slice-read-result
 shared-slice-read-result c = search rules
 
 returns : tie.Need-returns
-returns c = reached-inside _ _ _ (omega arith)
+returns c = reached_inside _ _ _ (omega arith)
 
 returns-2 : tie.Need-returns-2
-returns-2 c = reached-outside _ _ _ (omega arith)
+returns-2 c = reached_outside _ _ _ (omega arith)
 
 pub reached-spec : {M : Type 1} → statement M
 reached-spec = tie.close (tie.spec mul-result shared-slice-read-result returns returns-2)

@@ -1,7 +1,7 @@
 -- `pass::settle_one` meets its contract: where nothing waits, nothing is changed.
 -- Assumes nothing.
 use Rattle.std.proofs.Common.{arith, rules}
-use Rattle.pass.proofs.PlaceLaws.{settled-none}
+use Rattle.pass.proofs.PlaceLaws.{settled_none}
 use Rattle.pass.proofs.settle_one.Statement.{statement}
 use Rattle.pass.proofs.settle_one.Tie as tie
 
@@ -24,7 +24,7 @@ returns : tie.Need-returns
 returns c = search rules
 
 returns-2 : tie.Need-returns-2
-returns-2 c = settled-none _ _ _ _ _ _ _ _ _ (omega arith)
+returns-2 c = settled_none _ _ _ _ _ _ _ _ _ (omega arith)
 
 pub settle-one-spec : {M : Type 1} → statement M
 settle-one-spec =

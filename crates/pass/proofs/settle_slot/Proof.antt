@@ -2,19 +2,19 @@
 -- The measure is the number of stations left.
 -- Assumes nothing.
 use Rattle.std.proofs.Common.{◌≡◌, ◌-◌, ◌*◌, ◌^◌, min, ltb, refl, ◌∙◌, arith, rules}
-use Rattle.temporal.specs.Struck.{lackingRecord}
-use Rattle.pass.specs.Sweep.{stationAt}
-use Rattle.pass.specs.Column.{columnOf, lanesBy, splitOf}
-use Rattle.pass.proofs.PlaceLaws.{part-kept, SettlingArea, settling-none, settling-more, settling-stops, settling-all}
-use Rattle.pass.proofs.PlaceLaws.{station-record, station-inside, slot-settled}
+use Rattle.temporal.specs.Struck.{lacking_record}
+use Rattle.pass.specs.Sweep.{station_at}
+use Rattle.pass.specs.Column.{column_of, lanes_by, split_of}
+use Rattle.pass.proofs.PlaceLaws.{part_kept, SettlingArea, settling_none, settling_more, settling_stops, settling_all}
+use Rattle.pass.proofs.PlaceLaws.{station_record, station_inside, slot_settled}
 use Rattle.pass.proofs.settle_slot.Statement.{statement}
 use Rattle.pass.proofs.settle_slot.Tie as tie
 
 abbrev invariant-loop : tie.invariant-loop
 invariant-loop work₀ plan out known n block base source columns set j end all many i₀ work i =
     (all ≡ ltb n (end - j)) × (many ≡ min n (end - j)) ×
-    SettlingArea (stationAt (lackingRecord plan out) all j) known (lanesBy (splitOf columns)) n block base source
-    (columnOf columns set (block * 2 ^ splitOf columns)) work₀ 0 many i work
+    SettlingArea (station_at (lacking_record plan out) all j) known (lanes_by (split_of columns)) n block base source
+    (column_of columns set (block * 2 ^ split_of columns)) work₀ 0 many i work
 
 abbrev decreases-loop : tie.decreases-loop
 decreases-loop work₀ plan out known n block base source columns set j end all many i₀ work i = many - i
@@ -29,7 +29,7 @@ smaller-requires : tie.Need-smaller-requires invariant-loop decreases-loop
 smaller-requires c κs = search rules
 
 loop-holds : tie.Need-loop-init invariant-loop decreases-loop
-loop-holds c = (refl, c.smaller.ensures, settling-none _ _ _ _ _ _ _ _ _ _ _)
+loop-holds c = (refl, c.smaller.ensures, settling_none _ _ _ _ _ _ _ _ _ _ _)
 
 station-at-requires : tie.Need-station-at-requires invariant-loop decreases-loop
 station-at-requires c κs =
@@ -37,7 +37,7 @@ station-at-requires c κs =
     let start = loop.before.before.before.before.before in
     let (is, most, settling) = loop.loop.invariant in
     let last = start.requires.3 in (
-      station-record _ _ _ _ start.requires.1 start.requires.3 _ is _ (omega (arith, c.loop-test.true, most)),
+      station_record _ _ _ _ start.requires.1 start.requires.3 _ is _ (omega (arith, c.loop-test.true, most)),
       omega (arith, c.loop-test.true, most, start.requires.3),
     )
 
@@ -47,9 +47,9 @@ settle-one-requires c κs =
     let loop = found.before.before in
     let start = loop.before.before.before.before.before in
     let (is, most, settling) = loop.loop.invariant in (
-      part-kept start.requires.0 settling.same,
+      part_kept start.requires.0 settling.same,
       rw found.station-at.ensures
-          (station-inside _ _ _ _ start.requires.1 start.requires.3 _ is _ (omega (arith, found.before.loop-test.true, most))),
+          (station_inside _ _ _ _ start.requires.1 start.requires.3 _ is _ (omega (arith, found.before.loop-test.true, most))),
       start.requires.2,
     )
 
@@ -69,8 +69,8 @@ returns c =
     let loop = found.before.before in
     let start = loop.before.before.before.before.before in
     let (is, most, settling) = loop.loop.invariant in
-    slot-settled _ _ _ _ start.requires.1 start.requires.3 _ _ _ _ _ _ _ _ _ _ is
-    (rw most at (settling-stops _ _ _ _ _ _ _ _ _ _ _ _ _ settling _ _ found.before.loop-test.true (rw found.station-at.ensures at settled.settle-one.ensures)
+    slot_settled _ _ _ _ start.requires.1 start.requires.3 _ _ _ _ _ _ _ _ _ _ is
+    (rw most at (settling_stops _ _ _ _ _ _ _ _ _ _ _ _ _ settling _ _ found.before.loop-test.true (rw found.station-at.ensures at settled.settle-one.ensures)
     c.if1.true))
 
 add-i : tie.Need-overflow-add-i invariant-loop decreases-loop
@@ -86,7 +86,7 @@ loop-again c =
     let loop = found.before.before in
     let start = loop.before.before.before.before.before in
     let (is, most, settling) = loop.loop.invariant in
-    (is, most, settling-more _ _ _ _ _ _ _ _ _ _ _ _ _ settling _ _ found.before.loop-test.true (rw found.station-at.ensures at settled.settle-one.ensures) c.if1.false settled.settle-one.auto.0)
+    (is, most, settling_more _ _ _ _ _ _ _ _ _ _ _ _ _ settling _ _ found.before.loop-test.true (rw found.station-at.ensures at settled.settle-one.ensures) c.if1.false settled.settle-one.auto.0)
 
 same-length-2 : tie.Need-same-length-2 invariant-loop decreases-loop
 same-length-2 c = c.before.loop.invariant.2.same
@@ -96,8 +96,8 @@ returns-2 c =
     let loop = c.before in
     let start = loop.before.before.before.before.before in
     let (is, most, settling) = loop.loop.invariant in
-    slot-settled _ _ _ _ start.requires.1 start.requires.3 _ _ _ _ _ _ _ _ _ _ is
-    (rw most at (settling-all _ _ _ _ _ _ _ _ _ _ _ _ _ settling (omega arith)))
+    slot_settled _ _ _ _ start.requires.1 start.requires.3 _ _ _ _ _ _ _ _ _ _ is
+    (rw most at (settling_all _ _ _ _ _ _ _ _ _ _ _ _ _ settling (omega arith)))
 
 pub settle-slot-spec : {M : Type 1} → statement M
 settle-slot-spec =

@@ -2,7 +2,7 @@
 -- not fit a lane, nothing is changed.
 -- Assumes nothing.
 use Rattle.std.proofs.Common.{sym, ◌∙◌, arith, lt-length-set, rules}
-use Rattle.pass.proofs.PlaceLaws.{settled-over, settled-stop, settled-go}
+use Rattle.pass.proofs.PlaceLaws.{settled_over, settled_stop, settled_go}
 use Rattle.pass.proofs.settle_waiting.Statement.{statement}
 use Rattle.pass.proofs.settle_waiting.Tie as tie
 
@@ -22,7 +22,7 @@ over-requires : tie.Need-over-requires
 over-requires c κs = search rules
 
 returns : tie.Need-returns
-returns c = settled-over _ _ _ _ _ _ _ _ _ c.before.before.before.before.before.requires.3 (sym c.if1.true ∙ c.before.over.ensures)
+returns c = settled_over _ _ _ _ _ _ _ _ _ c.before.before.before.before.before.requires.3 (sym c.if1.true ∙ c.before.over.ensures)
 
 take-in-requires : tie.Need-take-in-requires
 take-in-requires c κs = search rules
@@ -34,7 +34,7 @@ returns-2 : tie.Need-returns-2
 returns-2 c =
     let taken = c.before.before.before in
     let small = taken.before.before in
-    settled-stop _ _ _ _ _ _ _ _ _ _ small.before.before.before.before.before.requires.3 (sym small.if1.false ∙ small.before.over.ensures)
+    settled_stop _ _ _ _ _ _ _ _ _ _ small.before.before.before.before.before.requires.3 (sym small.if1.false ∙ small.before.over.ensures)
     (rw c.if2.true at taken.take_in.ensures)
 
 mul-work : tie.Need-overflow-mul-work
@@ -59,7 +59,7 @@ returns-3 : tie.Need-returns-3
 returns-3 c =
     let taken = c.before.before.before in
     let small = taken.before.before in
-    settled-go _ _ _ _ _ _ _ _ _ _ small.before.before.before.before.before.requires.3 (sym small.if1.false ∙ small.before.over.ensures)
+    settled_go _ _ _ _ _ _ _ _ _ _ small.before.before.before.before.before.requires.3 (sym small.if1.false ∙ small.before.over.ensures)
     (rw c.if2.false at taken.take_in.ensures)
 
 pub settle-waiting-spec : {M : Type 1} → statement M

@@ -1,7 +1,7 @@
 -- `pass::take_in` meets its contract: what waits is absorbed and the own column masked, but where more hops wait or the count does not fit.
 -- Assumes nothing.
 use Rattle.std.proofs.Common.{sym, ◌∙◌, arith, rules}
-use Rattle.pass.proofs.PlaceLaws.{row_settled, row-waiting, absorb-settled, taken_more, taken-wide, taken-within}
+use Rattle.pass.proofs.PlaceLaws.{row_settled, row_waiting, absorb_settled, taken_more, taken_wide, taken_within}
 use Rattle.pass.proofs.take_in.Statement.{statement}
 use Rattle.pass.proofs.take_in.Tie as tie
 
@@ -39,7 +39,7 @@ same_length : tie.Need-same-length
 same_length c = search rules
 
 returns-2 : tie.Need-returns-2
-returns-2 c = taken-wide _ _ _ _ _ _ _ _ (omega arith) (sym c.if2.true ∙ c.before.wide_at.ensures)
+returns-2 c = taken_wide _ _ _ _ _ _ _ _ (omega arith) (sym c.if2.true ∙ c.before.wide_at.ensures)
 
 row-at-requires : tie.Need-row-at-requires
 row-at-requires c κs =
@@ -49,12 +49,12 @@ row-at-requires c κs =
 add-absorb : tie.Need-overflow-add-absorb
 add-absorb c =
     let start = c.before.before.before.before.before.before.before.before.before.before.before in
-    omega (arith, row-waiting start.requires.1 start.requires.0, c.before.row_at.ensures, start.well-formed.0.0)
+    omega (arith, row_waiting start.requires.1 start.requires.0, c.before.row_at.ensures, start.well-formed.0.0)
 
 absorb-requires : tie.Need-absorb-requires
 absorb-requires c κs =
     let start = c.before.before.before.before.before.before.before.before.before.before.before in
-    absorb-settled _ start.requires.1 start.requires.0 c.before.row_at.ensures
+    absorb_settled _ start.requires.1 start.requires.0 c.before.row_at.ensures
 
 mask-requires : tie.Need-mask-requires
 mask-requires c κs =
@@ -70,7 +70,7 @@ returns-3 c =
     let masks = c.before.before in
     let taken = masks.before.before.before.before in
     let wide = taken.before.before.before in
-    taken-within _ _ _ _ _ _ _ _ _ _ _ taken.before.before.row_at.ensures (omega arith) taken.absorb.ensures masks.mask.ensures
+    taken_within _ _ _ _ _ _ _ _ _ _ _ taken.before.before.row_at.ensures (omega arith) taken.absorb.ensures masks.mask.ensures
     (sym wide.if2.false ∙ wide.before.wide_at.ensures)
 
 pub take-in-spec : {M : Type 1} → statement M

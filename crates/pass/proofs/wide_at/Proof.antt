@@ -1,7 +1,7 @@
 -- `pass::wide_at` meets its contract: the columns' split is the one asked about.
 -- Assumes nothing.
 use Rattle.std.proofs.Common.{ap, ◌∙◌, rules}
-use Rattle.pass.proofs.WidthLaws.{wide-split}
+use Rattle.pass.proofs.WidthLaws.{wide_split}
 use Rattle.pass.proofs.wide_at.Statement.{statement}
 use Rattle.pass.proofs.wide_at.Tie as tie
 
@@ -27,7 +27,7 @@ too-wide-requires : tie.Need-too-wide-requires
 too-wide-requires c κs = search rules
 
 returns : tie.Need-returns
-returns c = c.too_wide.ensures ∙ wide-split _ _ _ _ _ _ c.before.before.before.split-of.ensures
+returns c = c.too_wide.ensures ∙ wide_split _ _ _ _ _ _ c.before.before.before.split-of.ensures
 
 pub wide-at-spec : {M : Type 1} → statement M
 wide-at-spec =

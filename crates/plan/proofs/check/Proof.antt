@@ -7,18 +7,18 @@ use mathlib.Core.Path.{◌≡◌, sym, ◌∙◌}
 use mathlib.Core.List.{List}
 use lib.ListN.{length}
 use Rattle.temporal.specs.Bytes.{records}
-use Rattle.temporal.specs.Cause.{planFault}
+use Rattle.temporal.specs.Cause.{plan_fault}
 use Rattle.plan.proofs.Answers.{refused-decides, accepted-passes}
 use Rattle.walks.proofs.CheckLaws.{
-  faultFrom,
-  plan-no-station,
-  plan-many-stations,
-  plan-no-slot,
-  plan-many-slots,
-  plan-part-record,
-  plan-many-records,
-  plan-records,
-  records-end,
+  fault_from,
+  plan_no_station,
+  plan_many_stations,
+  plan_no_slot,
+  plan_many_slots,
+  plan_part_record,
+  plan_many_records,
+  plan_records,
+  records_end,
 }
 use Rattle.plan.proofs.check.Statement.{statement}
 use Rattle.plan.proofs.check.Tie as tie
@@ -28,7 +28,7 @@ record Passed (bs : List ℕ) (n t m i : ℕ) : Type 0 where
   within : i ≤ m
   whole : length bs ≡ m * 6
   count : m ≡ records bs
-  rest : planFault bs n t ≡ faultFrom bs n t i
+  rest : plan_fault bs n t ≡ fault_from bs n t i
 
 abbrev invariant-loop : tie.invariant-loop
 invariant-loop plan n t size m i₀ i = Passed plan n t m i
@@ -37,22 +37,22 @@ abbrev decreases-loop : tie.decreases-loop
 decreases-loop plan n t size m i₀ i = m - i
 
 returns : tie.Need-returns invariant-loop decreases-loop
-returns c = sym (plan-no-station _ _ _ (omega arith))
+returns c = sym (plan_no_station _ _ _ (omega arith))
 
 returns-2 : tie.Need-returns-2 invariant-loop decreases-loop
-returns-2 c = sym (plan-many-stations _ _ _ (omega arith))
+returns-2 c = sym (plan_many_stations _ _ _ (omega arith))
 
 returns-3 : tie.Need-returns-3 invariant-loop decreases-loop
-returns-3 c = sym (plan-no-slot _ _ _ (omega arith) (omega arith) (omega arith))
+returns-3 c = sym (plan_no_slot _ _ _ (omega arith) (omega arith) (omega arith))
 
 returns-4 : tie.Need-returns-4 invariant-loop decreases-loop
-returns-4 c = sym (plan-many-slots _ _ _ (omega arith) (omega arith) (omega arith))
+returns-4 c = sym (plan_many_slots _ _ _ (omega arith) (omega arith) (omega arith))
 
 returns-5 : tie.Need-returns-5 invariant-loop decreases-loop
-returns-5 c = sym (plan-part-record _ _ _ (omega arith) (omega arith) (omega arith) (omega arith) (omega arith))
+returns-5 c = sym (plan_part_record _ _ _ (omega arith) (omega arith) (omega arith) (omega arith) (omega arith))
 
 returns-6 : tie.Need-returns-6 invariant-loop decreases-loop
-returns-6 c = sym (plan-many-records _ _ _ (omega arith) (omega arith) (omega arith) (omega arith) (omega arith) (omega arith))
+returns-6 c = sym (plan_many_records _ _ _ (omega arith) (omega arith) (omega arith) (omega arith) (omega arith) (omega arith))
 
 loop-holds : tie.Need-loop-init invariant-loop decreases-loop
 unfolding records
@@ -61,7 +61,7 @@ loop-holds c =
       within = omega arith;
       whole = omega arith;
       count = omega arith;
-      rest = plan-records _ _ _ (omega arith) (omega arith) (omega arith) (omega arith) (omega arith) (omega arith);
+      rest = plan_records _ _ _ (omega arith) (omega arith) (omega arith) (omega arith) (omega arith) (omega arith);
     }
 
 check-record-requires : tie.Need-check-record-requires invariant-loop decreases-loop
@@ -96,7 +96,7 @@ loop-again c =
     }
 
 returns-8 : tie.Need-returns-8 invariant-loop decreases-loop
-returns-8 c = let inv = c.before.loop.invariant in sym (inv.rest ∙ records-end _ _ _ _ (omega arith))
+returns-8 c = let inv = c.before.loop.invariant in sym (inv.rest ∙ records_end _ _ _ _ (omega arith))
 
 pub check-spec : {M : Type 1} → statement M
 check-spec =

@@ -3,14 +3,14 @@
 use native.Mathlib.Omega.{arith}
 use mathlib.Core.Path.{sym, ◌∙◌}
 use Rattle.walks.proofs.CheckLaws.{
-  record-slot-zero,
-  record-slot-high,
-  record-ends-same,
-  record-sender-high,
-  record-hearer-high,
-  record-first,
-  record-above,
-  record-not-above,
+  record_slot_zero,
+  record_slot_high,
+  record_ends_same,
+  record_sender_high,
+  record_hearer_high,
+  record_first,
+  record_above,
+  record_not_above,
 }
 use borrow.Author.Rules.{rules}
 use Rattle.plan.proofs.check_record.Statement.{statement}
@@ -22,32 +22,32 @@ contact-at-requires c κs = search rules
 returns : tie.Need-returns
 returns c =
     let at = c.before.before.contact-at.ensures in
-    sym (record-slot-zero _ _ _ _ _ at (omega arith))
+    sym (record_slot_zero _ _ _ _ _ at (omega arith))
 
 returns-2 : tie.Need-returns-2
 returns-2 c =
     let at = c.before.before.before.before.contact-at.ensures in
-    sym (record-slot-high _ _ _ _ _ at (omega arith))
+    sym (record_slot_high _ _ _ _ _ at (omega arith))
 
 returns-3 : tie.Need-returns-3
 returns-3 c =
     let at = c.before.before.before.before.before.before.contact-at.ensures in
-    sym (record-ends-same _ _ _ _ _ at (omega arith) (omega arith) (omega arith))
+    sym (record_ends_same _ _ _ _ _ at (omega arith) (omega arith) (omega arith))
 
 returns-4 : tie.Need-returns-4
 returns-4 c =
     let at = c.before.before.before.before.before.before.before.before.contact-at.ensures in
-    sym (record-sender-high _ _ _ _ _ at (omega arith) (omega arith) (omega arith) (omega arith))
+    sym (record_sender_high _ _ _ _ _ at (omega arith) (omega arith) (omega arith) (omega arith))
 
 returns-5 : tie.Need-returns-5
 returns-5 c =
     let at = c.before.before.before.before.before.before.before.before.before.before.contact-at.ensures in
-    sym (record-hearer-high _ _ _ _ _ at (omega arith) (omega arith) (omega arith) (omega arith) (omega arith))
+    sym (record_hearer_high _ _ _ _ _ at (omega arith) (omega arith) (omega arith) (omega arith) (omega arith))
 
 returns-6 : tie.Need-returns-6
 returns-6 c =
     let at = c.before.before.before.before.before.before.before.before.before.before.before.contact-at.ensures in
-    sym (record-first _ _ _ _ _ at (omega arith) (omega arith) (omega arith) (omega arith) (omega arith) (omega arith))
+    sym (record_first _ _ _ _ _ at (omega arith) (omega arith) (omega arith) (omega arith) (omega arith) (omega arith))
 
 sub-contact-at : tie.Need-overflow-sub-contact-at
 sub-contact-at c = search rules
@@ -61,12 +61,12 @@ is-above-requires c κs = search rules
 returns-7 : tie.Need-returns-7
 returns-7 c =
     let at = c.before.before.before.before.before.before.before.before.before.before.before.before.before.before.contact-at.ensures in
-    sym (record-above _ _ _ _ _ at (omega arith) (omega arith) (omega arith) (omega arith) (omega arith) _ c.before.before.contact-at2.ensures (sym c.before.is-above.ensures ∙ c.if7.true))
+    sym (record_above _ _ _ _ _ at (omega arith) (omega arith) (omega arith) (omega arith) (omega arith) _ c.before.before.contact-at2.ensures (sym c.before.is-above.ensures ∙ c.if7.true))
 
 returns-8 : tie.Need-returns-8
 returns-8 c =
     let at = c.before.before.before.before.before.before.before.before.before.before.before.before.before.before.contact-at.ensures in
-    sym (record-not-above _ _ _ _ _ at (omega arith) (omega arith) (omega arith) (omega arith) (omega arith) _ c.before.before.contact-at2.ensures (omega arith) (sym c.before.is-above.ensures ∙ c.if7.false))
+    sym (record_not_above _ _ _ _ _ at (omega arith) (omega arith) (omega arith) (omega arith) (omega arith) _ c.before.before.contact-at2.ensures (omega arith) (sym c.before.is-above.ensures ∙ c.if7.false))
 
 pub check-record-spec : {M : Type 1} → statement M
 check-record-spec =

@@ -1,7 +1,7 @@
 -- `plan::contact_at` meets its contract: three numbers, read in turn.
 -- Assumes nothing.
 use borrow.Author.Rules.{rules}
-use Rattle.temporal.specs.Bytes.{contactAt}
+use Rattle.temporal.specs.Bytes.{contact_at}
 use Rattle.plan.proofs.contact_at.Statement.{statement}
 use Rattle.plan.proofs.contact_at.Tie as tie
 
@@ -24,7 +24,7 @@ word-at-requires-3 : tie.Need-word-at-requires-3
 word-at-requires-3 c κs = search rules
 
 returns : tie.Need-returns
-unfolding contactAt
+unfolding contact_at
 returns c = cc
 
 pub contact-at-spec : {M : Type 1} → statement M

@@ -1,6 +1,6 @@
 -- `reach::reach` meets its contract: a refusal of the plan is passed on, an accepted plan goes on to the call.
 -- Assumes nothing.
-use Rattle.reach.proofs.CallLaws.{reach-plan, accepted-plan}
+use Rattle.reach.proofs.CallLaws.{reach_plan, accepted_plan}
 use borrow.Author.Rules.{rules}
 use Rattle.reach.proofs.reach.Statement.{statement}
 use Rattle.reach.proofs.reach.Tie as tie
@@ -15,7 +15,7 @@ enum_told : tie.Need-enum-told
 enum_told c = search rules
 
 reach-accepted-requires : tie.Need-reach-accepted-requires
-reach-accepted-requires c κs = accepted-plan _ _ _ _ c.before.before.before.before.before.before.check.ensures c.before.before.before.before.enum_told.given.1
+reach-accepted-requires c κs = accepted_plan _ _ _ _ c.before.before.before.before.before.before.check.ensures c.before.before.before.before.enum_told.given.1
 
 same_length : tie.Need-same-length
 same_length c = search rules
@@ -33,7 +33,7 @@ returns : tie.Need-returns
 returns c = search rules
 
 returns-2 : tie.Need-returns-2
-returns-2 c = reach-plan _ _ _ _ _ _ _ _ c.before.before.before.check.ensures c.before.fault.given.1
+returns-2 c = reach_plan _ _ _ _ _ _ _ _ c.before.before.before.check.ensures c.before.fault.given.1
 
 pub reach-spec : {M : Type 1} → statement M
 reach-spec =

@@ -1,7 +1,7 @@
 -- `reach::reach_accepted` meets its contract: a refusal of the terms is passed on, allowed terms go on to the station and the tables.
 -- Assumes nothing.
-use Rattle.reach.proofs.CallLaws.{reach-terms}
-use Rattle.calls.proofs.CallLaws.{terms-free-by}
+use Rattle.reach.proofs.CallLaws.{reach_terms}
+use Rattle.calls.proofs.CallLaws.{terms_free_by}
 use borrow.Author.Rules.{rules}
 use Rattle.reach.proofs.reach_accepted.Statement.{statement}
 use Rattle.reach.proofs.reach_accepted.Tie as tie
@@ -16,7 +16,7 @@ enum_told : tie.Need-enum-told
 enum_told c = search rules
 
 reach-allowed-requires : tie.Need-reach-allowed-requires
-reach-allowed-requires c κs = (c.before.before.before.before.before.before.before.before.before.before.before.before.requires, terms-free-by _ _ c.before.before.before.before.before.before.terms-call.ensures c.before.before.before.before.enum_told.given.1)
+reach-allowed-requires c κs = (c.before.before.before.before.before.before.before.before.before.before.before.before.requires, terms_free_by _ _ c.before.before.before.before.before.before.terms-call.ensures c.before.before.before.before.enum_told.given.1)
 
 same_length : tie.Need-same-length
 same_length c = search rules
@@ -34,7 +34,7 @@ returns : tie.Need-returns
 returns c = search rules
 
 returns-2 : tie.Need-returns-2
-returns-2 c = reach-terms _ _ _ _ _ _ c.before.before.before.before.before.before.before.before.before.requires _ _ c.before.before.before.terms-call.ensures c.before.fault.given.1
+returns-2 c = reach_terms _ _ _ _ _ _ c.before.before.before.before.before.before.before.before.before.requires _ _ c.before.before.before.terms-call.ensures c.before.fault.given.1
 
 pub reach-accepted-spec : {M : Type 1} → statement M
 reach-accepted-spec =

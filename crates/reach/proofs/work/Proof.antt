@@ -3,7 +3,7 @@
 use native.Mathlib.Omega.{arith}
 use mathlib.Core.Path.{sym, ◌∙◌}
 use Rattle.walks.proofs.Accepted.{accepted}
-use Rattle.reach.proofs.ReachedLaws.{reached-filled, reached-cleared}
+use Rattle.reach.proofs.ReachedLaws.{reached_filled, reached_cleared}
 use borrow.Author.Rules.{rules}
 use Rattle.reach.proofs.work.Statement.{statement}
 use Rattle.reach.proofs.work.Tie as tie
@@ -37,7 +37,7 @@ same-length-4 c = search rules
 
 returns : tie.Need-returns
 returns c =
-    reached-cleared _ _ _ _ _ c.before.before.before.before.before.before.before.before.before.before.before.before.before.before.before.before.before.before.before.before.before.before.before.before.before.before.before.before.before.before.before.before.before.before.before.before.before.requires.accepted _ _ _ c.before.before.before.before.before.before.before.before.before.before.before.before.before.before.before.before.before.before.before.before.before.before.before.before.before.before.before.fill.ensures
+    reached_cleared _ _ _ _ _ c.before.before.before.before.before.before.before.before.before.before.before.before.before.before.before.before.before.before.before.before.before.before.before.before.before.before.before.before.before.before.before.before.before.before.before.before.before.requires.accepted _ _ _ c.before.before.before.before.before.before.before.before.before.before.before.before.before.before.before.before.before.before.before.before.before.before.before.before.before.before.before.fill.ensures
     (sym c.before.before.before.before.before.before.before.before.before.before.before.before.before.before.overflowed.ensures ∙ c.before.before.before.before.before.before.before.before.before.before.before.before.before.if1.true) c.before.before.before.before.before.before.before.before.clear.ensures
 
 same-length-5 : tie.Need-same-length-5
@@ -54,7 +54,7 @@ same-length-8 c = search rules
 
 returns-2 : tie.Need-returns-2
 returns-2 c =
-    reached-filled _ _ _ _ _ c.before.before.before.before.before.before.before.before.before.before.before.before.before.before.before.before.before.before.before.before.before.before.before.before.requires.accepted _ _ c.before.before.before.before.before.before.before.before.before.before.before.before.before.before.before.before.before.before.before.before.before.before.before.before.requires.fits c.before.before.before.before.before.before.before.before.before.before.before.before.before.before.fill.ensures
+    reached_filled _ _ _ _ _ c.before.before.before.before.before.before.before.before.before.before.before.before.before.before.before.before.before.before.before.before.before.before.before.before.requires.accepted _ _ c.before.before.before.before.before.before.before.before.before.before.before.before.before.before.before.before.before.before.before.before.before.before.before.before.requires.fits c.before.before.before.before.before.before.before.before.before.before.before.before.before.before.fill.ensures
     (sym c.before.overflowed.ensures ∙ c.if1.false)
 
 pub work-spec : {M : Type 1} → statement M

@@ -1,6 +1,6 @@
 -- `reach_entries::clear` meets its contract: four fills.
 -- Assumes nothing.
-use Rattle.reach_entries.proofs.PassLaws.{emptied-by}
+use Rattle.reach_entries.proofs.PassLaws.{emptied_by}
 use borrow.Author.Rules.{rules}
 use Rattle.reach_entries.proofs.clear.Statement.{statement}
 use Rattle.reach_entries.proofs.clear.Tie as tie
@@ -34,7 +34,7 @@ same-length-4 c = search rules
 
 returns : tie.Need-returns
 returns c =
-    emptied-by _ _ _ _ _ _ _ c.before.before.before.before.before.before.before.before.before.before.before.before.before.before.fill16.ensures c.before.before.before.before.before.before.before.before.before.before.fill64.ensures c.before.before.before.before.before.before.fill162.ensures
+    emptied_by _ _ _ _ _ _ _ c.before.before.before.before.before.before.before.before.before.before.before.before.before.before.fill16.ensures c.before.before.before.before.before.before.before.before.before.before.fill64.ensures c.before.before.before.before.before.before.fill162.ensures
     c.before.before.fill642.ensures
 
 pub clear_spec : {M : Type 1} → statement M

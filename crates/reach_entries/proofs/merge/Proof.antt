@@ -2,7 +2,7 @@
 -- Assumes nothing.
 use native.Mathlib.Omega.{arith}
 use mathlib.Core.Path.{sym}
-use Rattle.reach_entries.proofs.MergeLaws.{merge-fewer, merge_equal, merge-more}
+use Rattle.reach_entries.proofs.MergeLaws.{merge_fewer, merge_equal, merge_more}
 use borrow.Author.Rules.{rules}
 use Rattle.reach_entries.proofs.merge.Statement.{statement}
 use Rattle.reach_entries.proofs.merge.Tie as tie
@@ -32,7 +32,7 @@ same-length-2 : tie.Need-same-length-2
 same-length-2 c = search rules
 
 returns : tie.Need-returns
-returns c = sym (merge-fewer _ _ _ _ _ (omega arith))
+returns c = sym (merge_fewer _ _ _ _ _ (omega arith))
 
 mul-add-counts : tie.Need-overflow-mul-add-counts
 mul-add-counts c = search rules
@@ -56,7 +56,7 @@ returns-2 : tie.Need-returns-2
 returns-2 c = rw c.add-counts.ensures (sym (merge_equal _ _ _ _ _ (omega arith)))
 
 returns-3 : tie.Need-returns-3
-returns-3 c = sym (merge-more _ _ _ _ _ (omega arith))
+returns-3 c = sym (merge_more _ _ _ _ _ (omega arith))
 
 pub merge-spec : {M : Type 1} → statement M
 merge-spec =

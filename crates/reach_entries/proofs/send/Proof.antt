@@ -2,7 +2,7 @@
 -- Assumes nothing.
 use native.Mathlib.Omega.{arith}
 use mathlib.Core.Path.{sym, ◌∙◌}
-use Rattle.reach_entries.proofs.MergeLaws.{sent-some, sent-none}
+use Rattle.reach_entries.proofs.MergeLaws.{sent_some, sent_none}
 use borrow.Author.Rules.{rules}
 use Rattle.reach_entries.proofs.send.Statement.{statement}
 use Rattle.reach_entries.proofs.send.Tie as tie
@@ -32,10 +32,10 @@ same-length-2 : tie.Need-same-length-2
 same-length-2 c = search rules
 
 returns : tie.Need-returns
-returns c = c.before.before.before.before.merge.ensures ∙ sym (sent-some _ _ _ _ (omega arith))
+returns c = c.before.before.before.before.merge.ensures ∙ sym (sent_some _ _ _ _ (omega arith))
 
 returns-2 : tie.Need-returns-2
-returns-2 c = sym (sent-none _ _ _ _ (omega arith))
+returns-2 c = sym (sent_none _ _ _ _ (omega arith))
 
 pub send-spec : {M : Type 1} → statement M
 send-spec =

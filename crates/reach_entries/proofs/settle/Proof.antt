@@ -5,7 +5,7 @@ use lib.Arith.{digits_lt}
 use Prim.Native.Nat.{◌-◌}
 use native.Mathlib.Omega.{arith}
 use Rattle.reach_entries.specs.Table.{table_of}
-use Rattle.reach_entries.proofs.MergeLaws.{SettlingTable, settling-none, settling-more, settling-all}
+use Rattle.reach_entries.proofs.MergeLaws.{SettlingTable, settling_none, settling_more, settling_all}
 use Rattle.reach_entries.proofs.settle.Statement.{statement}
 use Rattle.reach_entries.proofs.settle.Tie as tie
 
@@ -16,7 +16,7 @@ abbrev decreases-loop : tie.decreases-loop
 decreases-loop sh₀ sc₀ hops counts n width u v₀ sh sc v = n - v
 
 loop-holds : tie.Need-loop-init invariant-loop decreases-loop
-loop-holds c = settling-none _ _ _ _ _
+loop-holds c = settling_none _ _ _ _ _
 
 mul-settle-one : tie.Need-overflow-mul-settle-one invariant-loop decreases-loop
 mul-settle-one c = omega (arith, digits_lt c.before.before.loop-test.true c.before.before.before.before.before.before.before.before.requires.1)
@@ -27,7 +27,7 @@ add-settle-one c = omega (arith, digits_lt c.before.before.loop-test.true c.befo
 settle-one-requires : tie.Need-settle-one-requires invariant-loop decreases-loop
 settle-one-requires c κs =
     let spot = digits_lt c.before.before.loop-test.true c.before.before.before.before.before.before.before.before.requires.1 in
-    record { to-hops = omega arith; to-counts = omega arith; from-hops = omega arith; from-counts = omega arith }
+    record { to_hops = omega arith; to_counts = omega arith; from_hops = omega arith; from_counts = omega arith }
 
 add-v : tie.Need-overflow-add-v invariant-loop decreases-loop
 add-v c = omega arith
@@ -37,7 +37,7 @@ loop-less c = omega arith
 
 loop-again : tie.Need-loop-preserved invariant-loop decreases-loop
 loop-again c =
-    rw c.before.before.before.before.settle-one.ensures (settling-more _ _ _ _ _ _ _ (omega arith) c.before.before.before.before.before.before.before.before.loop.invariant)
+    rw c.before.before.before.before.settle-one.ensures (settling_more _ _ _ _ _ _ _ (omega arith) c.before.before.before.before.before.before.before.before.loop.invariant)
 
 same_length : tie.Need-same-length invariant-loop decreases-loop
 same_length c = c.before.loop.invariant.hops
@@ -46,7 +46,7 @@ same-length-2 : tie.Need-same-length-2 invariant-loop decreases-loop
 same-length-2 c = c.before.loop.invariant.counts
 
 returns : tie.Need-returns invariant-loop decreases-loop
-returns c = settling-all _ _ _ _ _ _ _ (omega arith) c.before.loop.invariant
+returns c = settling_all _ _ _ _ _ _ _ (omega arith) c.before.loop.invariant
 
 pub settle-spec : {M : Type 1} → statement M
 settle-spec =

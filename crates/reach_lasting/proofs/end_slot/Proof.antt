@@ -2,14 +2,14 @@
 -- Assumes nothing.
 use native.Mathlib.Omega.{arith}
 use Rattle.walks.proofs.Accepted.{accepted}
-use Rattle.reach_lasting.proofs.SlotLaws.{ending-cursor, ending-settleable, ended-short, ended-long}
+use Rattle.reach_lasting.proofs.SlotLaws.{ending_cursor, ending_settleable, ended_short, ended_long}
 use borrow.Author.Rules.{rules}
 use Rattle.reach_lasting.proofs.end_slot.Statement.{statement}
 use Rattle.reach_lasting.proofs.end_slot.Tie as tie
 
 returns : tie.Need-returns
 returns c =
-    ended-short _ _ _ _ _ _ _ c.before.before.before.before.before.before.requires c.if1.true
+    ended_short _ _ _ _ _ _ _ c.before.before.before.before.before.before.requires c.if1.true
 
 add-slot : tie.Need-overflow-add-slot
 add-slot c =
@@ -20,13 +20,13 @@ sub-slot c = search rules
 
 slot-end-requires : tie.Need-slot-end-requires
 slot-end-requires c κs =
-    ending-cursor _ _ _ _ _ _ _ c.before.before.before.before.before.before.requires
+    ending_cursor _ _ _ _ _ _ _ c.before.before.before.before.before.before.requires
 
 settle-slot-requires : tie.Need-settle-slot-requires
 settle-slot-requires c κs =
     let found = c.before.before.before in
     let tested = found.before in
-    ending-settleable _ _ _ _ _ _ _ tested.before.before.before.before.before.before.requires tested.if1.false _
+    ending_settleable _ _ _ _ _ _ _ tested.before.before.before.before.before.before.requires tested.if1.false _
     found.slot-end.ensures
 
 same_length : tie.Need-same-length
@@ -43,7 +43,7 @@ returns-2 c =
     let called = c.before.before.before.before.before.before in
     let found = called.before.before.before.before in
     let tested = found.before in
-    ended-long _ _ _ _ _ _ _ tested.before.before.before.before.before.before.requires tested.if1.false _ _
+    ended_long _ _ _ _ _ _ _ tested.before.before.before.before.before.before.requires tested.if1.false _ _
     found.slot-end.ensures called.settle-slot.ensures
 
 pub end-slot-spec : {M : Type 1} → statement M

@@ -10,14 +10,14 @@ use Rattle.walks.proofs.Accepted.{accepted}
 use Rattle.reach_entries.specs.Pass.{tables_of}
 use Rattle.reach_lasting.proofs.TurnLaws.{
   Running,
-  running-begin,
-  running-foldable,
-  running-fold,
-  running-endable,
-  running-settle,
-  running-record,
-  running-few,
-  running-end,
+  running_begin,
+  running_foldable,
+  running_fold,
+  running_endable,
+  running_settle,
+  running_record,
+  running_few,
+  running_end,
 }
 use borrow.Author.Rules.{rules}
 use Rattle.reach_lasting.proofs.fill_lasting.Statement.{statement}
@@ -49,7 +49,7 @@ loop-holds c =
     let begun = c.before.before.before.before.before.before.before.before in
     let waited = begun.before.before.before.before.before in
     let start = waited.before.before.before.before.before.before in
-    running-begin _ _ _ _ _ _ _ _ _ _ start.requires.0 start.requires.1 refl waited.waiting.ensures refl begun.begin.ensures
+    running_begin _ _ _ _ _ _ _ _ _ _ start.requires.0 start.requires.1 refl waited.waiting.ensures refl begun.begin.ensures
 
 in-slot-requires : tie.Need-in-slot-requires invariant-loop decreases-loop
 in-slot-requires c κs = search rules
@@ -59,13 +59,13 @@ fold-record-requires c κs =
     let tested = c.before.before.before.before in
     let found = tested.before in
     let looped = found.before in
-    running-foldable _ _ _ _ _ _ _ _ _ _ _ _ _ looped.before.loop.invariant looped.loop-test.true
+    running_foldable _ _ _ _ _ _ _ _ _ _ _ _ _ looped.before.loop.invariant looped.loop-test.true
     (sym found.in-slot.ensures ∙ tested.if1.true)
 
 add-j : tie.Need-overflow-add-j invariant-loop decreases-loop
 add-j c =
     let tested = c.before.before.before.before.before.before.before.before.before in
-    omega (arith, running-few _ _ _ _ _ _ _ _ _ _ _ _ _ tested.before.before.before.loop.invariant)
+    omega (arith, running_few _ _ _ _ _ _ _ _ _ _ _ _ _ tested.before.before.before.loop.invariant)
 
 loop-less : tie.Need-loop-smaller invariant-loop decreases-loop
 loop-less c =
@@ -75,7 +75,7 @@ loop-less c =
     omega (
       arith,
       looped.loop-test.true,
-      running-record _ _ _ _ _ _ _ _ _ _ _ _ _ looped.before.loop.invariant looped.loop-test.true
+      running_record _ _ _ _ _ _ _ _ _ _ _ _ _ looped.before.loop.invariant looped.loop-test.true
           (sym found.in-slot.ensures ∙ tested.if1.true),
     )
 
@@ -85,18 +85,18 @@ loop-again c =
     let tested = folded.before.before.before.before.before in
     let found = tested.before in
     let looped = found.before in
-    running-fold _ _ _ _ _ _ _ _ _ _ _ _ _ looped.before.loop.invariant looped.loop-test.true _
+    running_fold _ _ _ _ _ _ _ _ _ _ _ _ _ looped.before.loop.invariant looped.loop-test.true _
     (sym found.in-slot.ensures ∙ tested.if1.true) folded.fold-record.ensures
 
 end-slot-requires : tie.Need-end-slot-requires invariant-loop decreases-loop
 end-slot-requires c κs =
     let looped = c.before.before.before.before.before.before in
-    running-endable _ _ _ _ _ _ _ _ _ _ _ _ _ looped.before.loop.invariant looped.loop-test.true
+    running_endable _ _ _ _ _ _ _ _ _ _ _ _ _ looped.before.loop.invariant looped.loop-test.true
 
 add-u : tie.Need-overflow-add-u invariant-loop decreases-loop
 add-u c =
     let tested = c.before.before.before.before.before.before.before.before.before.before.before in
-    omega (arith, running-few _ _ _ _ _ _ _ _ _ _ _ _ _ tested.before.before.before.loop.invariant)
+    omega (arith, running_few _ _ _ _ _ _ _ _ _ _ _ _ _ tested.before.before.before.loop.invariant)
 
 loop-less-2 : tie.Need-loop-smaller-2 invariant-loop decreases-loop
 loop-less-2 c =
@@ -109,39 +109,39 @@ loop-again-2 c =
     let tested = ended.before.before.before.before.before in
     let found = tested.before in
     let looped = found.before in
-    running-settle _ _ _ _ _ _ _ _ _ _ _ _ _ looped.before.loop.invariant looped.loop-test.true _ _
-    (sym found.in-slot.ensures ∙ tested.if1.false) ended.end-slot.ensures
+    running_settle _ _ _ _ _ _ _ _ _ _ _ _ _ looped.before.loop.invariant looped.loop-test.true _ _
+    (sym found.in-slot.ensures ∙ tested.if1.false) ended.end_slot.ensures
 
 same_length : tie.Need-same-length invariant-loop decreases-loop
 same_length c =
     let loop = c.before in
     let begun = loop.before.before.before.before.before.before.before.before.before in
-    loop.loop.invariant.state.appearances-beyond.hops-length ∙ begun.begin.auto.0
+    loop.loop.invariant.state.appearances_beyond.hops_length ∙ begun.begin.auto.0
 
 same-length-2 : tie.Need-same-length-2 invariant-loop decreases-loop
 same-length-2 c =
     let loop = c.before in
     let begun = loop.before.before.before.before.before.before.before.before.before in
-    loop.loop.invariant.state.appearances-beyond.counts-length ∙ begun.begin.auto.1.0
+    loop.loop.invariant.state.appearances_beyond.counts_length ∙ begun.begin.auto.1.0
 
 same-length-3 : tie.Need-same-length-3 invariant-loop decreases-loop
 same-length-3 c =
     let loop = c.before in
     let begun = loop.before.before.before.before.before.before.before.before.before in
-    loop.loop.invariant.state.stations-beyond.hops-length ∙ begun.begin.auto.1.1.0
+    loop.loop.invariant.state.stations_beyond.hops_length ∙ begun.begin.auto.1.1.0
 
 same-length-4 : tie.Need-same-length-4 invariant-loop decreases-loop
 same-length-4 c =
     let loop = c.before in
     let begun = loop.before.before.before.before.before.before.before.before.before in
-    loop.loop.invariant.state.stations-beyond.counts-length ∙ begun.begin.auto.1.1.1.0
+    loop.loop.invariant.state.stations_beyond.counts_length ∙ begun.begin.auto.1.1.1.0
 
 returns : tie.Need-returns invariant-loop decreases-loop
 returns c =
     let loop = c.before in
     let begun = loop.before.before.before.before.before.before.before.before.before in
     let start = begun.before.before.before.before.before.before.before.before.before.before.before in
-    running-end _ _ _ _ _ _ _ _ _ _ _ _ _ _ (omega (arith, c.loop-test.false)) start.requires.0 begun.begin.ensures loop.loop.invariant
+    running_end _ _ _ _ _ _ _ _ _ _ _ _ _ _ (omega (arith, c.loop-test.false)) start.requires.0 begun.begin.ensures loop.loop.invariant
 
 pub fill-lasting-spec : {M : Type 1} → statement M
 fill-lasting-spec =

@@ -5,7 +5,7 @@ use Prim.Native.Nat.{◌-◌, ◌≤◌}
 use native.Mathlib.Omega.{arith}
 use mathlib.Core.Path.{refl, ◌∙◌}
 use Rattle.reach_entries.specs.Pass.{tables_of}
-use Rattle.reach_lasting.proofs.SweepLaws.{Sweeping, sweeping-none, sweeping-fits, sweeping-more, sweeping-all}
+use Rattle.reach_lasting.proofs.SweepLaws.{Sweeping, sweeping_none, sweeping_fits, sweeping_more, sweeping_all}
 use Rattle.reach_lasting.proofs.settle_records.Statement.{statement}
 use Rattle.reach_lasting.proofs.settle_records.Tie as tie
 
@@ -19,14 +19,14 @@ decreases-loop sh₀ sc₀ hops counts₀ plan n width u i end k₀ sh sc counts
 loop-holds : tie.Need-loop-init invariant-loop decreases-loop
 loop-holds c =
     let start = c.before.before.before.before.before in
-    (sweeping-none _ _ _ _ _ _ _ start.requires, start.requires.up)
+    (sweeping_none _ _ _ _ _ _ _ start.requires, start.requires.up)
 
 settle-record-requires : tie.Need-settle-record-requires invariant-loop decreases-loop
 settle-record-requires c κs =
     let looped = c.before.before.before in
     let loop = looped.before in
     let start = loop.before.before.before.before.before.before in (
-      sweeping-fits _ _ _ _ _ _ _ start.requires _ _ loop.loop.invariant.0,
+      sweeping_fits _ _ _ _ _ _ _ start.requires _ _ loop.loop.invariant.0,
       start.requires.slot,
       start.requires.hearers _ loop.loop.invariant.0.from looped.loop-test.true,
     )
@@ -43,7 +43,7 @@ loop-again c =
     let looped = called.before.before.before.before in
     let loop = looped.before in
     let start = loop.before.before.before.before.before.before in
-    let next = sweeping-more _ _ _ _ _ _ _ start.requires _ _ loop.loop.invariant.0 looped.loop-test.true _
+    let next = sweeping_more _ _ _ _ _ _ _ start.requires _ _ loop.loop.invariant.0 looped.loop-test.true _
     called.settle-record.ensures in
     (next, omega arith)
 
@@ -51,13 +51,13 @@ unmark-requires : tie.Need-unmark-requires invariant-loop decreases-loop
 unmark-requires c κs =
     let loop = c.before.before in
     let start = loop.before.before.before.before.before.before in
-    ((sweeping-fits _ _ _ _ _ _ _ start.requires _ _ loop.loop.invariant.0).counts, omega (arith, start.requires.slot), start.requires.hearers)
+    ((sweeping_fits _ _ _ _ _ _ _ start.requires _ _ loop.loop.invariant.0).counts, omega (arith, start.requires.slot), start.requires.hearers)
 
 same_length : tie.Need-same-length invariant-loop decreases-loop
-same_length c = c.before.before.before.before.before.loop.invariant.0.beyond.hops-length
+same_length c = c.before.before.before.before.before.loop.invariant.0.beyond.hops_length
 
 same-length-2 : tie.Need-same-length-2 invariant-loop decreases-loop
-same-length-2 c = c.before.before.before.before.before.loop.invariant.0.beyond.counts-length
+same-length-2 c = c.before.before.before.before.before.loop.invariant.0.beyond.counts_length
 
 same-length-3 : tie.Need-same-length-3 invariant-loop decreases-loop
 same-length-3 c =
@@ -69,7 +69,7 @@ returns c =
     let called = c.before.before in
     let loop = called.before.before.before in
     let start = loop.before.before.before.before.before.before in
-    sweeping-all _ _ _ _ _ _ _ start.requires _ _ _ _ called.before.before.loop-test.false loop.loop.invariant.1 refl
+    sweeping_all _ _ _ _ _ _ _ start.requires _ _ _ _ called.before.before.loop-test.false loop.loop.invariant.1 refl
     called.unmark.ensures loop.loop.invariant.0
 
 pub settle-records-spec : {M : Type 1} → statement M

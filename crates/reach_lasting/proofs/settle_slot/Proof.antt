@@ -1,6 +1,6 @@
 -- `reach_lasting::settle_slot` meets its contract: either way every hearer of the records has its appearance taken in.
 -- Assumes nothing.
-use Rattle.reach_lasting.proofs.SlotLaws.{slot-stations}
+use Rattle.reach_lasting.proofs.SlotLaws.{slot_stations}
 use borrow.Author.Rules.{rules}
 use Rattle.reach_lasting.proofs.settle_slot.Statement.{statement}
 use Rattle.reach_lasting.proofs.settle_slot.Tie as tie
@@ -24,7 +24,7 @@ returns : tie.Need-returns
 returns c =
     let called = c.before.before.before.before in
     let start = called.before.before.before.before.before.before.before.before.before.before in
-    slot-stations _ _ _ _ _ _ _ start.requires _ called.settle.ensures
+    slot_stations _ _ _ _ _ _ _ start.requires _ called.settle.ensures
 
 settle-records-requires : tie.Need-settle-records-requires
 settle-records-requires c κs = search rules

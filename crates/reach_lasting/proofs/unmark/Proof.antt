@@ -3,7 +3,7 @@
 -- Assumes nothing.
 use Prim.Native.Nat.{◌-◌}
 use native.Mathlib.Omega.{arith}
-use Rattle.reach_lasting.proofs.MarkLaws.{Unmarking, unmarking-none, unmarking-more, unmarking-all}
+use Rattle.reach_lasting.proofs.MarkLaws.{Unmarking, unmarking_none, unmarking_more, unmarking_all}
 use Rattle.reach_lasting.proofs.unmark.Statement.{statement}
 use Rattle.reach_lasting.proofs.unmark.Tie as tie
 
@@ -14,7 +14,7 @@ abbrev decreases-loop : tie.decreases-loop
 decreases-loop counts₀ plan n width i end k₀ counts k = end - k
 
 loop-holds : tie.Need-loop-init invariant-loop decreases-loop
-loop-holds c = unmarking-none _ _ _ _ _
+loop-holds c = unmarking_none _ _ _ _ _
 
 unmark-record-requires : tie.Need-unmark-record-requires invariant-loop decreases-loop
 unmark-record-requires c κs =
@@ -32,13 +32,13 @@ loop-again : tie.Need-loop-preserved invariant-loop decreases-loop
 loop-again c =
     let called = c.before.before in
     let loop = called.before.before.before in
-    unmarking-more _ _ _ _ _ _ _ _ called.before.before.loop-test.true called.unmark-record.ensures loop.loop.invariant
+    unmarking_more _ _ _ _ _ _ _ _ called.before.before.loop-test.true called.unmark-record.ensures loop.loop.invariant
 
 same_length : tie.Need-same-length invariant-loop decreases-loop
 same_length c = c.before.loop.invariant.same
 
 returns : tie.Need-returns invariant-loop decreases-loop
-returns c = unmarking-all _ _ _ _ _ _ _ (omega arith) c.before.loop.invariant
+returns c = unmarking_all _ _ _ _ _ _ _ (omega arith) c.before.loop.invariant
 
 pub unmark-spec : {M : Type 1} → statement M
 unmark-spec =

@@ -1,7 +1,7 @@
 -- `reach_window::empty_entry` meets its contract: two stores.
 -- Assumes nothing.
 use borrow.Author.Rules.{rules}
-use Rattle.reach_window.proofs.WindowLaws.{emptied-stored}
+use Rattle.reach_window.proofs.WindowLaws.{emptied_stored}
 use Rattle.reach_window.proofs.empty_entry.Statement.{statement}
 use Rattle.reach_window.proofs.empty_entry.Tie as tie
 
@@ -24,7 +24,7 @@ same-length-2 : tie.Need-same-length-2
 same-length-2 c = search rules
 
 returns : tie.Need-returns
-returns c = emptied-stored _ _ _
+returns c = emptied_stored _ _ _
 
 pub empty-entry-spec : {M : Type 1} → statement M
 empty-entry-spec =

@@ -7,7 +7,7 @@ use mathlib.Core.Path.{refl}
 use Rattle.temporal.specs.Plan.{units}
 use Rattle.walks.proofs.Accepted.{accepted}
 use Rattle.reach_entries.specs.Pass.{tables_of}
-use Rattle.reach_window.proofs.WindowLaws.{Windowing, windowing-begun, windowing-foldable, windowing-fold, windowing-end}
+use Rattle.reach_window.proofs.WindowLaws.{Windowing, windowing_begun, windowing_foldable, windowing_fold, windowing_end}
 use borrow.Author.Rules.{rules}
 use Rattle.reach_window.proofs.fill_window.Statement.{statement}
 use Rattle.reach_window.proofs.fill_window.Tie as tie
@@ -26,11 +26,11 @@ begin-requires : tie.Need-begin-requires invariant-loop decreases-loop
 begin-requires c κs = search rules
 
 loop-holds : tie.Need-loop-init invariant-loop decreases-loop
-loop-holds c = windowing-begun _ _ _ _ _ _ _ _ c.before.before.before.before.before.before.before.before.before.before.before.before.before.before.before.before.before.before.requires _ refl refl c.before.before.before.before.before.before.before.before.begin.ensures
+loop-holds c = windowing_begun _ _ _ _ _ _ _ _ c.before.before.before.before.before.before.before.before.before.before.before.before.before.before.before.before.before.before.requires _ refl refl c.before.before.before.before.before.before.before.before.begin.ensures
 
 fold-window-requires : tie.Need-fold-window-requires invariant-loop decreases-loop
 fold-window-requires c κs =
-    (windowing-foldable _ _ _ _ _ _ _ _ c.before.before.before.before.before.before.before.before.before.before.before.before.before.before.before.before.before.before.before.before.before.before.before.before.requires _ _ _ c.before.before.before.before.before.loop.invariant c.before.before.before.before.loop-test.true, c.before.before.before.before.before.before.before.before.before.before.before.before.before.before.before.before.before.before.before.before.before.before.before.before.requires.units.turns)
+    (windowing_foldable _ _ _ _ _ _ _ _ c.before.before.before.before.before.before.before.before.before.before.before.before.before.before.before.before.before.before.before.before.before.before.before.before.requires _ _ _ c.before.before.before.before.before.loop.invariant c.before.before.before.before.loop-test.true, c.before.before.before.before.before.before.before.before.before.before.before.before.before.before.before.before.before.before.before.before.before.before.before.before.requires.units.turns)
 
 add-j : tie.Need-overflow-add-j invariant-loop decreases-loop
 add-j c =
@@ -43,7 +43,7 @@ loop-less c = omega arith
 
 loop-again : tie.Need-loop-preserved invariant-loop decreases-loop
 loop-again c =
-    windowing-fold _ _ _ _ _ _ _ _ c.before.before.before.before.before.before.before.before.before.before.before.before.before.before.before.before.before.before.before.before.before.before.before.before.before.before.before.before.before.before.before.before.before.requires _ _ _ c.before.before.before.before.before.before.before.before.before.before.before.before.before.before.loop.invariant _ c.before.before.before.before.before.before.before.before.before.before.before.before.before.loop-test.true c.before.before.before.before.before.before.before.before.fold-window.ensures
+    windowing_fold _ _ _ _ _ _ _ _ c.before.before.before.before.before.before.before.before.before.before.before.before.before.before.before.before.before.before.before.before.before.before.before.before.before.before.before.before.before.before.before.before.before.requires _ _ _ c.before.before.before.before.before.before.before.before.before.before.before.before.before.before.loop.invariant _ c.before.before.before.before.before.before.before.before.before.before.before.before.before.loop-test.true c.before.before.before.before.before.before.before.before.fold-window.ensures
 
 settle-all-requires : tie.Need-settle-all-requires invariant-loop decreases-loop
 settle-all-requires c κs =
@@ -64,7 +64,7 @@ same-length-4 c = search rules
 
 returns : tie.Need-returns invariant-loop decreases-loop
 returns c =
-    windowing-end _ _ _ _ _ _ _ _ c.before.before.before.before.before.before.before.before.before.before.before.before.before.before.before.before.before.before.before.before.before.before.before.before.before.before.before.before.before.requires _ _ _ c.before.before.before.before.before.before.before.before.before.before.loop.invariant _ (omega arith) c.before.before.before.before.before.before.before.before.before.before.before.before.before.before.before.before.before.before.before.begin.ensures c.before.before.before.before.settle-all.ensures
+    windowing_end _ _ _ _ _ _ _ _ c.before.before.before.before.before.before.before.before.before.before.before.before.before.before.before.before.before.before.before.before.before.before.before.before.before.before.before.before.before.requires _ _ _ c.before.before.before.before.before.before.before.before.before.before.loop.invariant _ (omega arith) c.before.before.before.before.before.before.before.before.before.before.before.before.before.before.before.before.before.before.before.begin.ensures c.before.before.before.before.settle-all.ensures
 
 pub fill-window-spec : {M : Type 1} → statement M
 fill-window-spec =

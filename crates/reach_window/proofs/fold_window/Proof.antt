@@ -1,8 +1,8 @@
 -- `reach_window::fold_window` meets its contract: the window is gathered, then the record is folded in.
 -- Assumes nothing.
 use borrow.Author.Rules.{rules}
-use Rattle.reach_entries.proofs.PlaceLaws.{read-within}
-use Rattle.reach_window.proofs.WindowLaws.{window-folded-by}
+use Rattle.reach_entries.proofs.PlaceLaws.{read_within}
+use Rattle.reach_window.proofs.WindowLaws.{window_folded_by}
 use Rattle.reach_window.proofs.fold_window.Statement.{statement}
 use Rattle.reach_window.proofs.fold_window.Tie as tie
 
@@ -11,7 +11,7 @@ contact-at-requires c κs = search rules
 
 gather-window-requires : tie.Need-gather-window-requires
 gather-window-requires c κs =
-    let at = read-within _ _ _ _ _ _ _ c.before.before.before.before.before.before.before.before.before.before.requires.0 c.before.before.before.before.contact-at.ensures in
+    let at = read_within _ _ _ _ _ _ _ c.before.before.before.before.before.before.before.before.before.before.requires.0 c.before.before.before.before.contact-at.ensures in
     (c.before.before.before.before.before.before.before.before.before.before.requires.0.fits, at.sender, at.slot, c.before.before.before.before.before.before.before.before.before.before.requires.1)
 
 fold-record-requires : tie.Need-fold-record-requires
@@ -31,7 +31,7 @@ same-length-4 c = search rules
 
 returns : tie.Need-returns
 returns c =
-    window-folded-by _ _ _ _ _ _ _ _ _ c.before.before.before.before.before.before.before.before.before.before.before.before.before.before.before.before.before.before.contact-at.ensures c.before.before.before.before.before.before.before.before.before.before.before.before.before.gather-window.ensures c.before.before.before.before.fold-record.ensures
+    window_folded_by _ _ _ _ _ _ _ _ _ c.before.before.before.before.before.before.before.before.before.before.before.before.before.before.before.before.before.before.contact-at.ensures c.before.before.before.before.before.before.before.before.before.before.before.before.before.gather-window.ensures c.before.before.before.before.fold-record.ensures
 
 pub fold-window-spec : {M : Type 1} → statement M
 fold-window-spec =

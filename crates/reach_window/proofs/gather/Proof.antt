@@ -4,7 +4,7 @@
 use Prim.Native.Nat.{◌-◌}
 use native.Mathlib.Omega.{arith}
 use Rattle.reach_entries.specs.Table.{table_of}
-use Rattle.reach_window.proofs.WindowLaws.{Gathering, gathering-none, gathering-more, gathering-all, slot-place}
+use Rattle.reach_window.proofs.WindowLaws.{Gathering, gathering_none, gathering_more, gathering_all, slot_place}
 use Rattle.reach_window.proofs.gather.Statement.{statement}
 use Rattle.reach_window.proofs.gather.Tie as tie
 
@@ -16,18 +16,18 @@ abbrev decreases-loop : tie.decreases-loop
 decreases-loop sh₀ sc₀ hops counts n width v from end t₀ sh sc t = end - t
 
 loop-holds : tie.Need-loop-init invariant-loop decreases-loop
-loop-holds c = gathering-none _ _ _ _ _ _
+loop-holds c = gathering_none _ _ _ _ _ _
 
 mul-settle-one : tie.Need-overflow-mul-settle-one invariant-loop decreases-loop
-mul-settle-one c = omega (arith, slot-place c.before.before.before.before.before.before.before.before.requires.1 c.before.before.loop-test.true c.before.before.before.before.before.before.before.before.requires.2)
+mul-settle-one c = omega (arith, slot_place c.before.before.before.before.before.before.before.before.requires.1 c.before.before.loop-test.true c.before.before.before.before.before.before.before.before.requires.2)
 
 add-settle-one : tie.Need-overflow-add-settle-one invariant-loop decreases-loop
-add-settle-one c = omega (arith, slot-place c.before.before.before.before.before.before.before.before.requires.1 c.before.before.loop-test.true c.before.before.before.before.before.before.before.before.requires.2)
+add-settle-one c = omega (arith, slot_place c.before.before.before.before.before.before.before.before.requires.1 c.before.before.loop-test.true c.before.before.before.before.before.before.before.before.requires.2)
 
 settle-one-requires : tie.Need-settle-one-requires invariant-loop decreases-loop
 settle-one-requires c κs =
-    let at = slot-place c.before.before.before.before.before.before.before.before.requires.1 c.before.before.loop-test.true c.before.before.before.before.before.before.before.before.requires.2 in
-    record { to-hops = omega arith; to-counts = omega arith; from-hops = omega arith; from-counts = omega arith }
+    let at = slot_place c.before.before.before.before.before.before.before.before.requires.1 c.before.before.loop-test.true c.before.before.before.before.before.before.before.before.requires.2 in
+    record { to_hops = omega arith; to_counts = omega arith; from_hops = omega arith; from_counts = omega arith }
 
 add-t : tie.Need-overflow-add-t invariant-loop decreases-loop
 add-t c = omega arith
@@ -37,7 +37,7 @@ loop-less c = omega arith
 
 loop-again : tie.Need-loop-preserved invariant-loop decreases-loop
 loop-again c =
-    rw c.before.before.before.before.settle-one.ensures (gathering-more _ _ _ _ _ _ _ _ (omega arith) c.before.before.before.before.before.before.before.before.loop.invariant)
+    rw c.before.before.before.before.settle-one.ensures (gathering_more _ _ _ _ _ _ _ _ (omega arith) c.before.before.before.before.before.before.before.before.loop.invariant)
 
 same_length : tie.Need-same-length invariant-loop decreases-loop
 same_length c = c.before.loop.invariant.hops
@@ -46,7 +46,7 @@ same-length-2 : tie.Need-same-length-2 invariant-loop decreases-loop
 same-length-2 c = c.before.loop.invariant.counts
 
 returns : tie.Need-returns invariant-loop decreases-loop
-returns c = gathering-all _ _ _ _ _ _ _ _ (omega arith) c.before.loop.invariant
+returns c = gathering_all _ _ _ _ _ _ _ _ (omega arith) c.before.loop.invariant
 
 pub gather-spec : {M : Type 1} → statement M
 gather-spec =

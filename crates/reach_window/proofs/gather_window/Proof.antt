@@ -1,7 +1,7 @@
 -- `reach_window::gather_window` meets its contract: the entry is emptied, and takes in the start and the slots of the window.
 -- Assumes nothing.
 use borrow.Author.Rules.{rules}
-use Rattle.reach_window.proofs.WindowLaws.{window-by}
+use Rattle.reach_window.proofs.WindowLaws.{window_by}
 use Rattle.reach_window.proofs.gather_window.Statement.{statement}
 use Rattle.reach_window.proofs.gather_window.Tie as tie
 
@@ -28,7 +28,7 @@ same-length-2 c = search rules
 
 returns : tie.Need-returns
 returns c =
-    window-by _ _ _ _ _ _ _ _ _ _ _ _ c.before.before.before.before.before.before.before.before.before.before.before.before.before.before.before.before.before.before.before.before.empty-entry.ensures c.before.before.before.before.before.before.before.before.before.before.before.before.before.gather.ensures c.before.before.before.before.before.before.before.before.window-first.ensures c.before.before.before.before.before.before.before.window-end.ensures c.before.before.before.before.gather2.ensures
+    window_by _ _ _ _ _ _ _ _ _ _ _ _ c.before.before.before.before.before.before.before.before.before.before.before.before.before.before.before.before.before.before.before.before.empty-entry.ensures c.before.before.before.before.before.before.before.before.before.before.before.before.before.gather.ensures c.before.before.before.before.before.before.before.before.window_first_law.ensures c.before.before.before.before.before.before.before.window-end.ensures c.before.before.before.before.gather2.ensures
 
 pub gather-window-spec : {M : Type 1} → statement M
 gather-window-spec =

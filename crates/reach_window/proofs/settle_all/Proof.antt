@@ -5,7 +5,7 @@ use Prim.Native.Nat.{◌-◌}
 use native.Mathlib.Omega.{arith}
 use borrow.Author.Rules.{rules}
 use Rattle.reach_entries.specs.Table.{table_of}
-use Rattle.reach_window.proofs.WindowLaws.{SettlingAll, settling-all-none, settling-all-more, settling-all-done, settled-emptied}
+use Rattle.reach_window.proofs.WindowLaws.{SettlingAll, settling_all_none, settling_all_more, settling_all_done, settled_emptied}
 use Rattle.reach_window.proofs.settle_all.Statement.{statement}
 use Rattle.reach_window.proofs.settle_all.Tie as tie
 
@@ -22,12 +22,12 @@ fill64-requires : tie.Need-fill64-requires invariant-loop decreases-loop
 fill64-requires c κs = search rules
 
 loop-holds : tie.Need-loop-init invariant-loop decreases-loop
-loop-holds c = settling-all-none _ _ _ _
+loop-holds c = settling_all_none _ _ _ _
 
 settle-requires : tie.Need-settle-requires invariant-loop decreases-loop
 settle-requires c κs =
     let at = c.before.before.before.loop.invariant in
-    (record { hops = omega arith; counts = omega arith; station-hops = omega arith; station-counts = omega arith }, omega arith)
+    (record { hops = omega arith; counts = omega arith; station_hops_law = omega arith; station_counts_law = omega arith }, omega arith)
 
 add-u : tie.Need-overflow-add-u invariant-loop decreases-loop
 add-u c = omega arith
@@ -37,7 +37,7 @@ loop-less c = omega arith
 
 loop-again : tie.Need-loop-preserved invariant-loop decreases-loop
 loop-again c =
-    rw c.before.before.before.before.settle.ensures (settling-all-more _ _ _ _ _ _ (omega arith) c.before.before.before.before.before.before.before.before.loop.invariant)
+    rw c.before.before.before.before.settle.ensures (settling_all_more _ _ _ _ _ _ (omega arith) c.before.before.before.before.before.before.before.before.loop.invariant)
 
 same_length : tie.Need-same-length invariant-loop decreases-loop
 same_length c = omega (arith, c.before.loop.invariant.hops)
@@ -47,7 +47,7 @@ same-length-2 c = omega (arith, c.before.loop.invariant.counts)
 
 returns : tie.Need-returns invariant-loop decreases-loop
 returns c =
-    settled-emptied _ _ _ _ _ _ _ _ (settling-all-done _ _ _ _ _ _ (omega arith) c.before.loop.invariant)
+    settled_emptied _ _ _ _ _ _ _ _ (settling_all_done _ _ _ _ _ _ (omega arith) c.before.loop.invariant)
     c.before.before.before.before.before.before.before.before.fill16.ensures c.before.before.before.before.fill64.ensures
 
 pub settle-all-spec : {M : Type 1} → statement M

@@ -5,8 +5,8 @@ use Prim.Native.Nat.{◌-◌}
 use native.Mathlib.Omega.{arith}
 use lib.ListN.{get_or}
 use Rattle.text.specs.Pieces.{pieces}
-use Rattle.text.proofs.GoingLaws.{Going, going-begin}
-use Rattle.text.proofs.PieceLaws.{piece-room, piece-next, piece-all}
+use Rattle.text.proofs.GoingLaws.{Going, going_begin}
+use Rattle.text.proofs.PieceLaws.{piece_room, piece_next, piece_all}
 use Rattle.report.specs.Report.{line}
 use Rattle.report.specs.Work.{lines_of}
 use borrow.Author.Rules.{rules}
@@ -21,7 +21,7 @@ abbrev decreases-loop : tie.decreases-loop
 decreases-loop out₀ at n pairs sums end₀ v₀ out end v = n - v
 
 loop-holds : tie.Need-loop-init invariant-loop decreases-loop
-loop-holds c = going-begin _ _ _ c.before.before.before.requires.text-room
+loop-holds c = going_begin _ _ _ c.before.before.before.requires.text_room
 
 mul-put-line : tie.Need-overflow-mul-put-line invariant-loop decreases-loop
 mul-put-line c = search rules
@@ -36,7 +36,7 @@ shared-slice-read-put-line-2 : tie.Need-shared-slice-read-put-line-2 invariant-l
 shared-slice-read-put-line-2 c = search rules
 
 put-line-requires : tie.Need-put-line-requires invariant-loop decreases-loop
-put-line-requires c κs = piece-room _ _ _ _ _ _ _ _ c.before.before.before.before.loop.invariant (omega arith)
+put-line-requires c κs = piece_room _ _ _ _ _ _ _ _ c.before.before.before.before.loop.invariant (omega arith)
 
 add-v : tie.Need-overflow-add-v invariant-loop decreases-loop
 add-v c = search rules
@@ -46,14 +46,14 @@ loop-less c = omega arith
 
 loop-again : tie.Need-loop-preserved invariant-loop decreases-loop
 loop-again c =
-    piece-next _ _ _ _ _ _ _ _ c.before.before.before.before.before.before.before.loop.invariant (omega arith) _ _
+    piece_next _ _ _ _ _ _ _ _ c.before.before.before.before.before.before.before.loop.invariant (omega arith) _ _
     c.before.before.put-line.ensures
 
 same_length : tie.Need-same-length invariant-loop decreases-loop
 same_length c = c.before.loop.invariant.same
 
 returns : tie.Need-returns invariant-loop decreases-loop
-returns c = piece-all _ _ _ _ _ _ _ _ c.before.loop.invariant (omega arith)
+returns c = piece_all _ _ _ _ _ _ _ _ c.before.loop.invariant (omega arith)
 
 pub put-lines-spec : {M : Type 1} → statement M
 put-lines-spec =

@@ -1,6 +1,6 @@
 -- `report::put_table` meets its contract: the first line, then the lines of the stations.
 -- Assumes nothing.
-use Rattle.text.proofs.PutLaws.{room-first, room-rest, put_both}
+use Rattle.text.proofs.PutLaws.{room_first, room_rest, put_both}
 use Rattle.report.specs.Report.{heading}
 use Rattle.report.specs.Work.{lines_of, table_of}
 use borrow.Author.Rules.{rules}
@@ -11,7 +11,7 @@ put-heading-requires : tie.Need-put-heading-requires
 unfolding table_of
 put-heading-requires c κs =
     let a = c.before.before.before.before.args in
-    room-first 0 (heading a.n a.t a.m) (lines_of a.pairs.now a.sums.now a.n) a.out.now c.before.before.before.before.requires.text-room
+    room_first 0 (heading a.n a.t a.m) (lines_of a.pairs.now a.sums.now a.n) a.out.now c.before.before.before.before.requires.text_room
 
 put-lines-requires : tie.Need-put-lines-requires
 unfolding table_of
@@ -19,11 +19,11 @@ put-lines-requires c κs =
     let a = c.before.before.before.before.before.before.before.before.args in
     let pre = c.before.before.before.before.before.before.before.before.requires in
     record {
-      pairs-room = pre.pairs-room;
-      loads-room = pre.loads-room;
-      text-room =
-          room-rest 0 (heading a.n a.t a.m) (lines_of a.pairs.now a.sums.now a.n) a.out.now
-          pre.text-room _ _ c.before.before.before.put-heading.ensures;
+      pairs_room = pre.pairs_room;
+      loads_room = pre.loads_room;
+      text_room =
+          room_rest 0 (heading a.n a.t a.m) (lines_of a.pairs.now a.sums.now a.n) a.out.now
+          pre.text_room _ _ c.before.before.before.put-heading.ensures;
     }
 
 same_length : tie.Need-same-length
@@ -34,7 +34,7 @@ unfolding table_of
 returns c =
     let a = c.before.before.before.before.before.before.before.before.before.before.before.args in
     put_both 0 (heading a.n a.t a.m) (lines_of a.pairs.now a.sums.now a.n) a.out.now
-    c.before.before.before.before.before.before.before.before.before.before.before.requires.text-room _ _ c.before.before.before.before.before.before.put-heading.ensures _ _ c.before.before.put-lines.ensures
+    c.before.before.before.before.before.before.before.before.before.before.before.requires.text_room _ _ c.before.before.before.before.before.before.put-heading.ensures _ _ c.before.before.put-lines.ensures
 
 pub put-table-spec : {M : Type 1} → statement M
 put-table-spec = tie.close (tie.spec put-heading-requires put-lines-requires same_length returns)

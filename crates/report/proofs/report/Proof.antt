@@ -2,15 +2,15 @@
 -- Assumes nothing.
 use native.Mathlib.Omega.{arith}
 use mathlib.Core.Path.{sym, ap₂, ◌∙◌}
-use Rattle.report.specs.Sizes.{overLimits}
+use Rattle.report.specs.Sizes.{over_limits}
 use Rattle.report.proofs.ReportLaws.{
-  refusal-room,
-  report-text,
-  printed-input,
-  lent-input,
-  wrong-length,
-  wrong-limits,
-  limit-stations,
+  refusal_room,
+  report_text,
+  printed_input,
+  lent_input,
+  wrong_length_law,
+  wrong_limits,
+  limit_stations,
 }
 use borrow.Author.Rules.{rules}
 use Rattle.report.proofs.report.Statement.{statement}
@@ -20,12 +20,12 @@ wrong-input-requires : tie.Need-wrong-input-requires
 wrong-input-requires c κs = search rules
 
 put-refusal-requires : tie.Need-put-refusal-requires
-put-refusal-requires c κs = refusal-room 2 _ (search rules)
+put-refusal-requires c κs = refusal_room 2 _ (search rules)
 
 returns : tie.Need-returns
 returns c =
-    let e = wrong-length _ (sym c.before.before.before.wrong-input.ensures ∙ c.before.before.if1.true) in
-    report-text _ _ _ _ _ _ _ _ c.put-refusal.ensures (printed-input _ _ 1 e) (lent-input _ _ 1 e _)
+    let e = wrong_length_law _ (sym c.before.before.before.wrong-input.ensures ∙ c.before.before.if1.true) in
+    report_text _ _ _ _ _ _ _ _ c.put-refusal.ensures (printed_input _ _ 1 e) (lent_input _ _ 1 e _)
 
 top-of-requires : tie.Need-top-of-requires
 top-of-requires c κs = search rules
@@ -37,7 +37,7 @@ over-limits-requires : tie.Need-over-limits-requires
 over-limits-requires c κs = search rules
 
 put-refusal-requires-2 : tie.Need-put-refusal-requires-2
-put-refusal-requires-2 c κs = refusal-room 1 _ (search rules)
+put-refusal-requires-2 c κs = refusal_room 1 _ (search rules)
 
 returns-2 : tie.Need-returns-2
 returns-2 c =
@@ -45,25 +45,25 @@ returns-2 c =
     let slots = c.before.before.before.before.slots-of.ensures in
     let over = sym c.before.before.before.over-limits.ensures ∙ c.before.before.if2.true in
     let e =
-    wrong-limits _ (sym c.before.before.before.before.before.before.before.wrong-input.ensures ∙ c.before.before.before.before.before.before.if1.false)
-    (ap₂ overLimits (sym top) (sym slots) ∙ over) in
-    report-text _ _ _ _ _ _ _ _ c.put-refusal2.ensures (printed-input _ _ 0 e) (lent-input _ _ 0 e _)
+    wrong_limits _ (sym c.before.before.before.before.before.before.before.wrong-input.ensures ∙ c.before.before.before.before.before.before.if1.false)
+    (ap₂ over_limits (sym top) (sym slots) ∙ over) in
+    report_text _ _ _ _ _ _ _ _ c.put-refusal2.ensures (printed_input _ _ 0 e) (lent_input _ _ 0 e _)
 
 add-report-within : tie.Need-overflow-add-report-within
 add-report-within c =
-    omega (arith, limit-stations _ _ (sym c.before.over-limits.ensures ∙ c.if2.false))
+    omega (arith, limit_stations _ _ (sym c.before.over-limits.ensures ∙ c.if2.false))
 
 report-within-requires : tie.Need-report-within-requires
 report-within-requires c κs =
     record {
-      right-input = sym c.before.before.before.before.before.before.before.before.before.wrong-input.ensures ∙ c.before.before.before.before.before.before.before.before.if1.false;
+      right_input = sym c.before.before.before.before.before.before.before.before.before.wrong-input.ensures ∙ c.before.before.before.before.before.before.before.before.if1.false;
       stations = c.before.before.before.before.before.before.before.top_of.ensures;
       slots = c.before.before.before.before.before.before.slots-of.ensures;
       limits = sym c.before.before.before.before.before.over-limits.ensures ∙ c.before.before.before.before.if2.false;
-      out-size = search rules;
-      pairs-size = search rules;
-      loads-size = search rules;
-      work-size = search rules;
+      out_size = search rules;
+      pairs_size = search rules;
+      loads_size = search rules;
+      work_size_law = search rules;
     }
 
 returns-3 : tie.Need-returns-3

@@ -1,12 +1,12 @@
 -- `report::report_within` meets its contract: loads are printed from the tables, a refusal by its number.
 -- Assumes nothing.
 use Rattle.report.proofs.ReportLaws.{
-  refusal-room,
-  report-text,
-  lent-within,
-  printed-refused,
-  printed-loads,
-  loads-printable,
+  refusal_room,
+  report_text,
+  lent_within,
+  printed_refused,
+  printed_loads,
+  loads_printable,
 }
 use borrow.Author.Rules.{rules}
 use Rattle.report.proofs.report_within.Statement.{statement}
@@ -23,7 +23,7 @@ enum_told c = search rules
 
 put-table-requires : tie.Need-put-table-requires
 put-table-requires c κs =
-    loads-printable _ _ _ _ _ _ _ _ c.before.before.before.before.before.before.before.before.before.before.before.before.before.before.before.before.before.before.before.before.requires _ _ _ _ c.before.before.before.before.before.before.before.before.before.before.before.loads.ensures c.before.before.before.enum_told.given.1
+    loads_printable _ _ _ _ _ _ _ _ c.before.before.before.before.before.before.before.before.before.before.before.before.before.before.before.before.before.before.before.before.requires _ _ _ _ c.before.before.before.before.before.before.before.before.before.before.before.loads.ensures c.before.before.before.enum_told.given.1
 
 same_length : tie.Need-same-length
 same_length c = search rules
@@ -41,14 +41,14 @@ returns : tie.Need-returns
 returns c =
     let w = c.before.before.before.before.before.before.before.before.before.before.before.before.before.before.before.before.before.before.before.before.before.before.before.requires in
     let e = c.before.before.before.before.before.before.before.before.before.before.before.before.before.before.loads.ensures in
-    report-text _ _ _ _ _ _ _ _ c.before.before.put-table.ensures
-    (printed-loads _ _ _ _ _ _ _ _ w _ _ _ _ e c.before.before.before.before.before.before.enum_told.given.1) (lent-within _ _ _ _ _ _ _ _ w c.before.before.before.before.before.before.before.before.before.before.before.before.before.before.loads.result _ _ _ e)
+    report_text _ _ _ _ _ _ _ _ c.before.before.put-table.ensures
+    (printed_loads _ _ _ _ _ _ _ _ w _ _ _ _ e c.before.before.before.before.before.before.enum_told.given.1) (lent_within _ _ _ _ _ _ _ _ w c.before.before.before.before.before.before.before.before.before.before.before.before.before.before.loads.result _ _ _ e)
 
 fault-number-requires : tie.Need-fault-number-requires
 fault-number-requires c κs = search rules
 
 put-refusal-requires : tie.Need-put-refusal-requires
-put-refusal-requires c κs = refusal-room _ _ c.before.before.before.before.before.before.before.before.before.before.before.before.before.before.before.before.before.before.before.before.requires.out-size
+put-refusal-requires c κs = refusal_room _ _ c.before.before.before.before.before.before.before.before.before.before.before.before.before.before.before.before.before.before.before.before.requires.out_size
 
 same-length-5 : tie.Need-same-length-5
 same-length-5 c = search rules
@@ -66,9 +66,9 @@ returns-2 : tie.Need-returns-2
 returns-2 c =
     let w = c.before.before.before.before.before.before.before.before.before.before.before.before.before.before.before.before.before.before.before.before.before.before.before.requires in
     let e = c.before.before.before.before.before.before.before.before.before.before.before.before.before.before.loads.ensures in
-    report-text _ _ _ _ _ _ _ _ c.before.before.put-refusal.ensures
-    (printed-refused _ _ _ _ _ _ _ _ w _ _ _ _ e _ _ c.before.before.before.before.before.before.fault.given.1 c.before.before.before.fault-number.ensures)
-    (lent-within _ _ _ _ _ _ _ _ w c.before.before.before.before.before.before.before.before.before.before.before.before.before.before.loads.result _ _ _ e)
+    report_text _ _ _ _ _ _ _ _ c.before.before.put-refusal.ensures
+    (printed_refused _ _ _ _ _ _ _ _ w _ _ _ _ e _ _ c.before.before.before.before.before.before.fault.given.1 c.before.before.before.fault-number.ensures)
+    (lent_within _ _ _ _ _ _ _ _ w c.before.before.before.before.before.before.before.before.before.before.before.before.before.before.loads.result _ _ _ e)
 
 pub report-within-spec : {M : Type 1} → statement M
 report-within-spec =

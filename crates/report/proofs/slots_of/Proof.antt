@@ -3,13 +3,13 @@
 use mathlib.Core.Path.{ap}
 use borrow.Author.Tests.{eq-eqb, ne_eqb}
 use Rattle.temporal.specs.Bytes.{records}
-use Rattle.report.specs.Sizes.{inputSlots}
+use Rattle.report.specs.Sizes.{input_slots}
 use borrow.Author.Rules.{rules}
 use Rattle.report.proofs.slots_of.Statement.{statement}
 use Rattle.report.proofs.slots_of.Tie as tie
 
 returns : tie.Need-returns
-unfolding inputSlots records
+unfolding input_slots records
 returns c = rw (eq-eqb _ 0 c.if1.true)
 
 sub-contact-at : tie.Need-overflow-sub-contact-at
@@ -19,7 +19,7 @@ contact-at-requires : tie.Need-contact-at-requires
 contact-at-requires c κs = search rules
 
 returns-2 : tie.Need-returns-2
-unfolding inputSlots records
+unfolding input_slots records
 returns-2 c = rw (ne_eqb _ 0 c.before.if1.false) (ap (λ x. x.slot) c.contact-at.ensures)
 
 pub slots-of-spec : {M : Type 1} → statement M

@@ -5,7 +5,7 @@ use Prim.Native.Nat.{◌+◌, ◌*◌}
 use native.Mathlib.Omega.{arith}
 use mathlib.Core.Path.{sym, ap, ◌∙◌}
 use lib.ListN.{take, drop}
-use Rattle.rows.proofs.RowLaws.{row-refused, row-part, row_within, row-end, between, placed}
+use Rattle.rows.proofs.RowLaws.{row_refused, row_part, row_within, row_end, between, placed}
 use borrow.Author.Rules.{rules}
 use Rattle.rows.proofs.row.Statement.{statement}
 use Rattle.rows.proofs.row.Tie as tie
@@ -26,7 +26,7 @@ returns : tie.Need-returns
 returns c =
     let given = c.before.before.row_number.ensures in
     let taken = c.before.if1.true in
-    record { entries = sym (row-refused _ _ _ _ (omega arith)); place = λ none. absurd (omega arith) }
+    record { entries = sym (row_refused _ _ _ _ (omega arith)); place = λ none. absurd (omega arith) }
 
 add_start : tie.Need-overflow-add-start
 add_start c = let w = row_within _ _ _ _ (sym c.before.row_number.ensures ∙ c.if1.false) in omega (arith, w.1)
@@ -34,7 +34,7 @@ add_start c = let w = row_within _ _ _ _ (sym c.before.row_number.ensures ∙ c.
 mul-start : tie.Need-overflow-mul-start
 mul-start c =
     let w = row_within _ _ _ _ (sym c.before.row_number.ensures ∙ c.if1.false) in
-    omega (arith, row-end _ _ _ _ w.0 w.2, c.before.before.before.well-formed.0.0)
+    omega (arith, row_end _ _ _ _ w.0 w.2, c.before.before.before.well-formed.0.0)
 
 add-end : tie.Need-overflow-add-end
 add-end c = let w = row_within _ _ _ _ (sym c.before.row_number.ensures ∙ c.if1.false) in omega (arith, w.1)
@@ -42,12 +42,12 @@ add-end c = let w = row_within _ _ _ _ (sym c.before.row_number.ensures ∙ c.if
 add-end-2 : tie.Need-overflow-add-end-2
 add-end-2 c =
     let w = row_within _ _ _ _ (sym c.before.row_number.ensures ∙ c.if1.false) in
-    omega (arith, row-end _ _ _ _ w.0 w.2, c.before.before.before.well-formed.0.0)
+    omega (arith, row_end _ _ _ _ w.0 w.2, c.before.before.before.well-formed.0.0)
 
 mul-result : tie.Need-overflow-mul-result
 mul-result c =
     let w = row_within _ _ _ _ (sym c.before.row_number.ensures ∙ c.if1.false) in
-    omega (arith, row-end _ _ _ _ w.0 w.2, c.before.before.before.well-formed.0.1)
+    omega (arith, row_end _ _ _ _ w.0 w.2, c.before.before.before.well-formed.0.1)
 
 sub-result-2 : tie.Need-overflow-sub-result-2
 sub-result-2 c = search rules
@@ -58,14 +58,14 @@ part-result-start-2 c = search rules
 part-result-end-2 : tie.Need-slice-bounds-result-end-2
 part-result-end-2 c =
     let w = row_within _ _ _ _ (sym c.before.row_number.ensures ∙ c.if1.false) in
-    omega (arith, row-end _ _ _ _ w.0 w.2)
+    omega (arith, row_end _ _ _ _ w.0 w.2)
 
 returns-2 : tie.Need-returns-2
 returns-2 c =
     let width = c.before.before.before.before.args.t + 1 in
     let start = c.before.before.before.before.args.station * width in
     record {
-      entries = sym (row-part _ _ _ _ (sym c.before.before.row_number.ensures ∙ c.before.if1.false) ∙
+      entries = sym (row_part _ _ _ _ (sym c.before.before.row_number.ensures ∙ c.before.if1.false) ∙
           ap (λ k. take k (drop start c.before.before.before.before.args.table.now)) (between start width));
       place = λ none. placed _ _ _;
     }

@@ -1,7 +1,7 @@
 -- `sets::set_accepted` meets its contract: a refusal of the call is passed on, a free call goes on.
 -- Assumes nothing.
 use Rattle.walks.proofs.Accepted.{accepted}
-use Rattle.sets.proofs.SetCallLaws.{set-call, set-asked}
+use Rattle.sets.proofs.SetCallLaws.{set_call, set_asked}
 use borrow.Author.Rules.{rules}
 use Rattle.sets.proofs.set_accepted.Statement.{statement}
 use Rattle.sets.proofs.set_accepted.Tie as tie
@@ -17,7 +17,7 @@ enum_told c = search rules
 
 set-free-requires : tie.Need-set-free-requires
 set-free-requires c κs =
-    set-asked _ _ _ _ _ _ _ _ c.before.before.before.before.before.before.before.requires _ c.before.before.before.pair-call.ensures c.before.enum_told.given.1
+    set_asked _ _ _ _ _ _ _ _ c.before.before.before.before.before.before.before.requires _ c.before.before.before.pair_call.ensures c.before.enum_told.given.1
 
 same_length : tie.Need-same-length
 same_length c = search rules
@@ -27,7 +27,7 @@ returns c = search rules
 
 returns-2 : tie.Need-returns-2
 returns-2 c =
-    set-call _ _ _ _ _ _ _ _ c.before.before.before.before.before.before.before.requires _ c.before.before.before.pair-call.ensures _ c.before.fault.given.1
+    set_call _ _ _ _ _ _ _ _ c.before.before.before.before.before.before.before.requires _ c.before.before.before.pair_call.ensures _ c.before.fault.given.1
 
 pub set-accepted-spec : {M : Type 1} → statement M
 set-accepted-spec =

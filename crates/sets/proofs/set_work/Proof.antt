@@ -2,13 +2,13 @@
 -- Assumes nothing.
 use native.Mathlib.Omega.{arith}
 use Rattle.walks.proofs.Accepted.{accepted}
-use Rattle.sets.proofs.SetCallLaws.{pass-ready, readable, counted-refused, counted-found}
+use Rattle.sets.proofs.SetCallLaws.{pass_ready, readable, counted_refused, counted_found}
 use borrow.Author.Rules.{rules}
 use Rattle.sets.proofs.set_work.Statement.{statement}
 use Rattle.sets.proofs.set_work.Tie as tie
 
 set-pass-requires : tie.Need-set-pass-requires
-set-pass-requires c κs = pass-ready _ _ _ _ _ _ _ _ c.before.before.before.before.requires
+set-pass-requires c κs = pass_ready _ _ _ _ _ _ _ _ c.before.before.before.before.requires
 
 add-clear : tie.Need-overflow-add-clear
 add-clear c = omega (arith, (accepted _ _ _ c.before.before.before.before.before.before.before.before.before.requires.accepted).slots)
@@ -27,7 +27,7 @@ same_length c = search rules
 
 returns : tie.Need-returns
 returns c =
-    counted-refused _ _ _ _ _ _ _ _ c.before.before.before.before.before.before.before.before.before.before.before.before.requires _ _ c.before.before.before.before.before.before.before.set-pass.ensures
+    counted_refused _ _ _ _ _ _ _ _ c.before.before.before.before.before.before.before.before.before.before.before.before.requires _ _ c.before.before.before.before.before.before.before.set-pass.ensures
     c.before.before.before.before.if1.true _ c.before.before.clear.ensures
 
 touched-at-requires : tie.Need-touched-at-requires
@@ -51,7 +51,7 @@ same-length-2 c = search rules
 
 returns-2 : tie.Need-returns-2
 returns-2 c =
-    counted-found _ _ _ _ _ _ _ _ c.before.before.before.before.before.before.before.before.before.before.before.before.before.before.requires _ _ c.before.before.before.before.before.before.before.before.before.set-pass.ensures
+    counted_found _ _ _ _ _ _ _ _ c.before.before.before.before.before.before.before.before.before.before.before.before.before.before.requires _ _ c.before.before.before.before.before.before.before.before.before.set-pass.ensures
     c.before.before.before.before.before.before.if1.false _ _ c.before.before.before.before.touched-at.ensures c.before.before.clear2.ensures
 
 pub set-work-spec : {M : Type 1} → statement M

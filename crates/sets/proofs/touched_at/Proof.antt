@@ -2,7 +2,7 @@
 -- Assumes nothing.
 use native.Mathlib.Omega.{arith}
 use mathlib.Core.Path.{sym}
-use Rattle.sets.proofs.SetCallLaws.{entry-none, entry-some}
+use Rattle.sets.proofs.SetCallLaws.{entry_none, entry_some}
 use borrow.Author.Rules.{rules}
 use Rattle.sets.proofs.touched_at.Statement.{statement}
 use Rattle.sets.proofs.touched_at.Tie as tie
@@ -14,7 +14,7 @@ shared-slice-read-if1 : tie.Need-shared-slice-read-if1
 shared-slice-read-if1 c = search rules
 
 returns : tie.Need-returns
-returns c = sym (entry-none _ _ _ c.if1.true)
+returns c = sym (entry_none _ _ _ c.if1.true)
 
 add-result : tie.Need-overflow-add-result
 add-result c = search rules
@@ -41,7 +41,7 @@ sub-result : tie.Need-overflow-sub-result
 sub-result c = c.before.before.before.before.requires.at_most c.before.before.if1.false
 
 returns-2 : tie.Need-returns-2
-returns-2 c = sym (entry-some _ _ _ c.before.before.if1.false)
+returns-2 c = sym (entry_some _ _ _ c.before.before.if1.false)
 
 pub touched-at-spec : {M : Type 1} → statement M
 touched-at-spec =

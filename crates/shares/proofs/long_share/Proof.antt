@@ -5,7 +5,7 @@ use Prim.Native.Nat.{◌-◌, ◌*◌, ◌^◌, ◌≤◌}
 use mathlib.Core.Path.{◌≡◌}
 use native.Mathlib.Omega.{arith}
 use Rattle.shares.specs.Division.{Divided}
-use Rattle.shares.proofs.DivisionLaws.{divided-whole, doubled-none, doubled-more, doubled-below}
+use Rattle.shares.proofs.DivisionLaws.{divided_whole, doubled_none, doubled_more, doubled_below}
 use Rattle.shares.proofs.long_share.Statement.{statement}
 use Rattle.shares.proofs.long_share.Tie as tie
 
@@ -16,12 +16,12 @@ abbrev decreases-loop : tie.decreases-loop
 decreases-loop through count d₀ i₀ d i = 32 - i
 
 loop-holds : tie.Need-loop-init invariant-loop decreases-loop
-loop-holds c = (omega arith, doubled-none c.requires)
+loop-holds c = (omega arith, doubled_none c.requires)
 
 doubled-requires : tie.Need-doubled-requires invariant-loop decreases-loop
 doubled-requires c κs =
     let inv = c.before.loop.invariant in
-    (doubled-below 32 inv.0 c.before.before.requires inv.1, inv.1.small)
+    (doubled_below 32 inv.0 c.before.before.requires inv.1, inv.1.small)
 
 add-i : tie.Need-overflow-add-i invariant-loop decreases-loop
 add-i c = omega arith
@@ -31,12 +31,12 @@ loop-less c = omega arith
 
 loop-again : tie.Need-loop-preserved invariant-loop decreases-loop
 loop-again c =
-    (omega arith, doubled-more _ _ c.before.before.loop.invariant.1 c.doubled.ensures)
+    (omega arith, doubled_more _ _ c.before.before.loop.invariant.1 c.doubled.ensures)
 
 returns : tie.Need-returns invariant-loop decreases-loop
 returns c =
     let last : c.before.loop.i ≡ 32 = omega arith in
-    divided-whole (rw last at c.before.loop.invariant.1)
+    divided_whole (rw last at c.before.loop.invariant.1)
 
 pub long-share-spec : {M : Type 1} → statement M
 long-share-spec =

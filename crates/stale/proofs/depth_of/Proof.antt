@@ -3,7 +3,7 @@
 -- Assumes nothing.
 use Rattle.std.proofs.Common.{◌+◌, ◌-◌, refl, arith, rules}
 use Rattle.walks.proofs.Accepted.{accepted}
-use Rattle.stale.proofs.DepthLaws.{Sliding, at-inside, sliding-none, slide-fits, sliding-more, depth-found}
+use Rattle.stale.proofs.DepthLaws.{Sliding, at_inside, sliding_none, slide_fits, sliding_more, depth_found}
 use Rattle.stale.proofs.depth_of.Statement.{statement}
 use Rattle.stale.proofs.depth_of.Tie as tie
 
@@ -14,16 +14,16 @@ abbrev decreases-loop : tie.decreases-loop
 decreases-loop plan n t h depth₀ load₀ enter₀ leave₀ u₀ depth load enter leave u = t + 1 - u
 
 loop-holds : tie.Need-loop-init invariant-loop decreases-loop
-loop-holds c = sliding-none _ _ _ _ c.before.requires
+loop-holds c = sliding_none _ _ _ _ c.before.requires
 
 slot-end-requires : tie.Need-slot-end-requires invariant-loop decreases-loop
-slot-end-requires c κs = at-inside _ _ _ c.before.loop.invariant.enters
+slot-end-requires c κs = at_inside _ _ _ c.before.loop.invariant.enters
 
 slot-before-requires : tie.Need-slot-before-requires invariant-loop decreases-loop
 slot-before-requires c κs = search rules
 
 slot-end-requires-2 : tie.Need-slot-end-requires-2 invariant-loop decreases-loop
-slot-end-requires-2 c κs = at-inside _ _ _ c.before.before.before.loop.invariant.leaves
+slot-end-requires-2 c κs = at_inside _ _ _ c.before.before.before.loop.invariant.leaves
 
 load-of-requires : tie.Need-load-of-requires invariant-loop decreases-loop
 load-of-requires c κs = c.before.before.slot-end.ensures.from
@@ -40,7 +40,7 @@ add-load c =
     let start = loop.before.before in
     omega (
       arith,
-      (slide-fits _ _ _ _ start.requires _ _ _ _ _ _ _ _ _ _ loop.loop.invariant in_end.slot-end.ensures old.slot-before.ensures
+      (slide_fits _ _ _ _ start.requires _ _ _ _ _ _ _ _ _ _ loop.loop.invariant in_end.slot-end.ensures old.slot_before_law.ensures
           out-end.slot-end2.ensures c.before.load_of.ensures c.load-of2.ensures).1,
     )
 
@@ -53,7 +53,7 @@ sub-load c =
     let start = loop.before.before in
     omega (
       arith,
-      (slide-fits _ _ _ _ start.requires _ _ _ _ _ _ _ _ _ _ loop.loop.invariant in_end.slot-end.ensures old.slot-before.ensures
+      (slide_fits _ _ _ _ start.requires _ _ _ _ _ _ _ _ _ _ loop.loop.invariant in_end.slot-end.ensures old.slot_before_law.ensures
           out-end.slot-end2.ensures c.before.load_of.ensures c.load-of2.ensures).0,
     )
 
@@ -64,10 +64,10 @@ deeper-requires c κs =
     let in_end = old.before in
     let loop = in_end.before.before in
     let start = loop.before.before in
-    let plan-kept = accepted _ _ _ start.requires.accepted in (
-      plan-kept.some-station,
-      plan-kept.stations,
-      (slide-fits _ _ _ _ start.requires _ _ _ _ _ _ _ _ _ _ loop.loop.invariant in_end.slot-end.ensures old.slot-before.ensures
+    let plan_kept = accepted _ _ _ start.requires.accepted in (
+      plan_kept.some_station,
+      plan_kept.stations,
+      (slide_fits _ _ _ _ start.requires _ _ _ _ _ _ _ _ _ _ loop.loop.invariant in_end.slot-end.ensures old.slot_before_law.ensures
           out-end.slot-end2.ensures c.before.load_of.ensures c.load-of2.ensures).2,
     )
 
@@ -86,7 +86,7 @@ loop-again c =
     let in_end = old.before in
     let loop = in_end.before.before in
     let start = loop.before.before in
-    sliding-more _ _ _ _ start.requires _ _ _ _ _ _ _ _ _ _ loop.loop.invariant in_end.slot-end.ensures old.slot-before.ensures
+    sliding_more _ _ _ _ start.requires _ _ _ _ _ _ _ _ _ _ loop.loop.invariant in_end.slot-end.ensures old.slot_before_law.ensures
     out-end.slot-end2.ensures c.before.before.load_of.ensures c.before.load-of2.ensures
     _ _ refl c.deeper.ensures.0 c.deeper.ensures.1
 
@@ -97,7 +97,7 @@ returns : tie.Need-returns invariant-loop decreases-loop
 returns c =
     let loop = c.before.before in
     let start = loop.before.before in
-    depth-found _ _ _ _ start.requires _ _ _ _ _ _ (omega arith) loop.loop.invariant c.smaller.ensures
+    depth_found _ _ _ _ start.requires _ _ _ _ _ _ (omega arith) loop.loop.invariant c.smaller.ensures
 
 pub depth-of-spec : {M : Type 1} → statement M
 depth-of-spec =

@@ -1,7 +1,7 @@
 -- `stale::empty_entry` meets its contract: two stores.
 -- Assumes nothing.
 use Rattle.std.proofs.Common.{arith, lt-length-set, rules}
-use Rattle.stale.proofs.WindowSteps.{emptied-cell-by}
+use Rattle.stale.proofs.WindowSteps.{emptied_cell_by}
 use Rattle.stale.proofs.empty_entry.Statement.{statement}
 use Rattle.stale.proofs.empty_entry.Tie as tie
 
@@ -27,7 +27,7 @@ same_length : tie.Need-same-length
 same_length c = search rules
 
 returns : tie.Need-returns
-returns c = emptied-cell-by _ _ _ _
+returns c = emptied_cell_by _ _ _ _
 
 pub empty-entry-spec : {M : Type 1} → statement M
 empty-entry-spec =

@@ -1,7 +1,7 @@
 -- `stale::follow` meets its contract.
 -- Assumes nothing.
 use Rattle.std.proofs.Common.{arith, rules}
-use Rattle.stale.proofs.WindowSteps.{number-mark-place, follow-early, follow-on}
+use Rattle.stale.proofs.WindowSteps.{number_mark_place, follow_early, follow_on}
 use Rattle.stale.proofs.follow.Statement.{statement}
 use Rattle.stale.proofs.follow.Tie as tie
 
@@ -14,18 +14,18 @@ number-mark-requires c κs = search rules
 mul-mark : tie.Need-overflow-mul-mark
 mul-mark c =
     let start = c.before.before in
-    omega (arith, number-mark-place start.requires.0 _ _ c.number-mark.ensures, start.well-formed.0.0)
+    omega (arith, number_mark_place start.requires.0 _ _ c.number-mark.ensures, start.well-formed.0.0)
 
 slice-read-mark : tie.Need-slice-read-mark
 slice-read-mark c =
     let start = c.before.before.before in
-    omega (arith, number-mark-place start.requires.0 _ _ c.before.number-mark.ensures)
+    omega (arith, number_mark_place start.requires.0 _ _ c.before.number-mark.ensures)
 
 returns : tie.Need-returns
 returns c =
     let mark = c.before.before in
     let start = mark.before.before in
-    follow-early _ _ _ _ _ _ _ _ _ _ start.requires.3 mark.number-mark.ensures (omega arith)
+    follow_early _ _ _ _ _ _ _ _ _ _ start.requires.3 mark.number-mark.ensures (omega arith)
 
 take-kept-requires : tie.Need-take-kept-requires
 take-kept-requires c κs = search rules
@@ -41,7 +41,7 @@ returns-2 c =
     let taken = c.before.before.before in
     let mark = taken.before.before.before.before in
     let start = mark.before.before in
-    follow-on _ _ _ _ _ _ _ _ _ _ start.requires.3 mark.number-mark.ensures _ _ (omega arith) taken.take-kept.ensures
+    follow_on _ _ _ _ _ _ _ _ _ _ start.requires.3 mark.number-mark.ensures _ _ (omega arith) taken.take-kept.ensures
     c.lower-link.ensures.0 c.lower-link.ensures.1
 
 pub follow-spec : {M : Type 1} → statement M

@@ -3,7 +3,7 @@
 -- Assumes nothing.
 use Rattle.std.proofs.Common.{arith}
 use Rattle.stale.proofs.RingPlaces.{area_same}
-use Rattle.stale.proofs.WindowSteps.{GatheringCell, gathering-none, gathering-more, gathering-all}
+use Rattle.stale.proofs.WindowSteps.{GatheringCell, gathering_none, gathering_more, gathering_all}
 use Rattle.stale.proofs.gather.Statement.{statement}
 use Rattle.stale.proofs.gather.Tie as tie
 
@@ -15,7 +15,7 @@ abbrev decreases-loop : tie.decreases-loop
 decreases-loop work₀ n block depth base v oldest first end head at₀ work at = at
 
 loop-holds : tie.Need-loop-init invariant-loop decreases-loop
-loop-holds c = gathering-none _ _ _ _ _ _ _ _ _ _
+loop-holds c = gathering_none _ _ _ _ _ _ _ _ _ _
 
 follow-requires : tie.Need-follow-requires invariant-loop decreases-loop
 follow-requires c κs =
@@ -34,13 +34,13 @@ loop-again : tie.Need-loop-preserved invariant-loop decreases-loop
 loop-again c =
     let one = c.before.before in
     let loop = one.before.before.before in
-    gathering-more _ _ _ _ _ _ _ _ _ _ _ _ _ _ (omega arith) loop.loop.invariant one.follow.auto.0 one.follow.ensures
+    gathering_more _ _ _ _ _ _ _ _ _ _ _ _ _ _ (omega arith) loop.loop.invariant one.follow.auto.0 one.follow.ensures
 
 same_length : tie.Need-same-length invariant-loop decreases-loop
 same_length c = c.before.loop.invariant.same
 
 returns : tie.Need-returns invariant-loop decreases-loop
-returns c = gathering-all _ _ _ _ _ _ _ _ _ _ _ _ (omega arith) c.before.loop.invariant
+returns c = gathering_all _ _ _ _ _ _ _ _ _ _ _ _ (omega arith) c.before.loop.invariant
 
 pub gather-spec : {M : Type 1} → statement M
 gather-spec =

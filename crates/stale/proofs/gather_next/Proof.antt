@@ -1,7 +1,7 @@
 -- `stale::gather_next` meets its contract: the window is that of before, or is gathered.
 -- Assumes nothing.
 use Rattle.std.proofs.Common.{ap, arith, rules}
-use Rattle.stale.proofs.WindowSteps.{next-same, next-stop, next-other}
+use Rattle.stale.proofs.WindowSteps.{next_same, next_stop, next_other}
 use Rattle.stale.proofs.gather_next.Statement.{statement}
 use Rattle.stale.proofs.gather_next.Tie as tie
 
@@ -12,7 +12,7 @@ returns : tie.Need-returns
 returns c =
     let found = c.before in
     let start = found.before.before.before.before in
-    next-same _ _ _ _ _ _ _ _ _ _ _ _ (ap (λ d. d.sender) found.kept-contact.ensures) start.requires.3 (omega arith)
+    next_same _ _ _ _ _ _ _ _ _ _ _ _ (ap (λ d. d.sender) found.kept-contact.ensures) start.requires.3 (omega arith)
 
 gather-window-requires : tie.Need-gather-window-requires
 gather-window-requires c κs =
@@ -33,7 +33,7 @@ returns-2 c =
     let window = c.before.before.before in
     let found = window.before.before.before in
     let start = found.before.before.before.before in
-    next-stop _ _ _ _ _ _ _ _ _ _ _ _ (ap (λ d. d.sender) found.kept-contact.ensures) start.requires.3 _ _ (omega arith)
+    next_stop _ _ _ _ _ _ _ _ _ _ _ _ (ap (λ d. d.sender) found.kept-contact.ensures) start.requires.3 _ _ (omega arith)
     window.gather-window.ensures c.if2.true
 
 same-length-2 : tie.Need-same-length-2
@@ -44,7 +44,7 @@ returns-3 c =
     let window = c.before.before.before in
     let found = window.before.before.before in
     let start = found.before.before.before.before in
-    next-other _ _ _ _ _ _ _ _ _ _ _ _ (ap (λ d. d.sender) found.kept-contact.ensures) start.requires.3 _ _ (omega arith)
+    next_other _ _ _ _ _ _ _ _ _ _ _ _ (ap (λ d. d.sender) found.kept-contact.ensures) start.requires.3 _ _ (omega arith)
     window.gather-window.ensures c.if2.false
 
 pub gather-next-spec : {M : Type 1} → statement M

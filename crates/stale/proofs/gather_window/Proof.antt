@@ -1,8 +1,8 @@
 -- `stale::gather_window` meets its contract: the source's window is opened; any other is emptied, gathered and masked.
 -- Assumes nothing.
 use Rattle.std.proofs.Common.{arith, rules}
-use Rattle.stale.proofs.RingPlaces.{area_same, ring-fits}
-use Rattle.stale.proofs.WindowSteps.{window-source, window-other}
+use Rattle.stale.proofs.RingPlaces.{area_same, ring_fits}
+use Rattle.stale.proofs.WindowSteps.{window_source, window_other}
 use Rattle.stale.proofs.gather_window.Statement.{statement}
 use Rattle.stale.proofs.gather_window.Tie as tie
 
@@ -19,7 +19,7 @@ open-entry-requires : tie.Need-open-entry-requires
 open-entry-requires c κs =
     let ring = c.before.before.before.before in
     let start = ring.before.before.before in
-    (start.requires.1, rw ring.ring-at.ensures (ring-fits start.requires.0 _ (omega arith)))
+    (start.requires.1, rw ring.ring-at.ensures (ring_fits start.requires.0 _ (omega arith)))
 
 same_length : tie.Need-same-length
 same_length c = search rules
@@ -30,7 +30,7 @@ returns c =
     let ones = opened.before.before in
     let split = ones.before in
     let ring = split.before.before in
-    window-source _ _ _ _ _ _ _ _ _ _ _ _ ring.ring-at.ensures _ _ _ (omega arith)
+    window_source _ _ _ _ _ _ _ _ _ _ _ _ ring.ring-at.ensures _ _ _ (omega arith)
     split.split-of.ensures ones.ones-of.ensures opened.open-entry.ensures
 
 head-of-requires : tie.Need-head-of-requires
@@ -43,7 +43,7 @@ empty-entry-requires : tie.Need-empty-entry-requires
 empty-entry-requires c κs =
     let ring = c.before.before.before.before.before.before in
     let start = ring.before.before.before in
-    (start.requires.1, omega (arith, ring-fits start.requires.0 start.args.depth (omega arith), ring.ring-at.ensures))
+    (start.requires.1, omega (arith, ring_fits start.requires.0 start.args.depth (omega arith), ring.ring-at.ensures))
 
 window-first-requires : tie.Need-window-first-requires
 window-first-requires c κs = search rules
@@ -57,7 +57,7 @@ gather-requires c κs =
     let ring = bare.before.before.before.before.before.before.before in
     let start = ring.before.before.before in (
       area_same start.requires.0 bare.empty-entry.auto.0,
-      omega (arith, ring-fits start.requires.0 start.args.depth (omega arith), ring.ring-at.ensures, bare.empty-entry.auto.0),
+      omega (arith, ring_fits start.requires.0 start.args.depth (omega arith), ring.ring-at.ensures, bare.empty-entry.auto.0),
       start.requires.1,
     )
 
@@ -70,7 +70,7 @@ mask-entry-requires c κs =
       start.requires.1,
       omega (
         arith,
-        ring-fits start.requires.0 start.args.depth (omega arith),
+        ring_fits start.requires.0 start.args.depth (omega arith),
         ring.ring-at.ensures,
         full.gather.auto.0,
         bare.empty-entry.auto.0,
@@ -91,8 +91,8 @@ returns-2 c =
     let oldest = bare.before.before in
     let head = oldest.before.before in
     let ring = head.before.before.before in
-    window-other _ _ _ _ _ _ _ _ _ _ _ _ ring.ring-at.ensures _ _ _ _ _ _ _ (omega arith)
-    head.head_of.ensures oldest.oldest-of.ensures bare.empty-entry.ensures first.window-first.ensures
+    window_other _ _ _ _ _ _ _ _ _ _ _ _ ring.ring-at.ensures _ _ _ _ _ _ _ (omega arith)
+    head.head_of.ensures oldest.oldest-of.ensures bare.empty-entry.ensures first.window_first_law.ensures
     end.window-end.ensures full.gather.ensures masked.mask-entry.ensures
 
 pub gather-window-spec : {M : Type 1} → statement M

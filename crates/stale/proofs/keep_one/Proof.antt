@@ -2,7 +2,7 @@
 -- total, kept and gone; or nothing is heard.
 -- Assumes nothing.
 use Rattle.std.proofs.Common.{arith, rules}
-use Rattle.stale.proofs.WindowSteps.{kept-over, kept-wide, kept-within, kept-none}
+use Rattle.stale.proofs.WindowSteps.{kept_over, kept_wide, kept_within, kept_none}
 use Rattle.stale.proofs.keep_one.Statement.{statement}
 use Rattle.stale.proofs.keep_one.Tie as tie
 
@@ -30,7 +30,7 @@ slice-read-d c = search rules
 returns : tie.Need-returns
 returns c =
     let size = c.before.before.before.before in
-    kept-over _ _ _ _ _ _ _ _ _ size.part-size.ensures (omega arith) (omega arith)
+    kept_over _ _ _ _ _ _ _ _ _ size.part-size.ensures (omega arith) (omega arith)
 
 wide-at-requires : tie.Need-wide-at-requires
 wide-at-requires c κs = search rules
@@ -42,7 +42,7 @@ returns-2 : tie.Need-returns-2
 returns-2 c =
     let wide = c.before in
     let size = wide.before.before.before.before.before.before in
-    kept-wide _ _ _ _ _ _ _ _ _ size.part-size.ensures _ (omega arith) (omega arith) wide.wide_at.ensures c.if3.true
+    kept_wide _ _ _ _ _ _ _ _ _ size.part-size.ensures _ (omega arith) (omega arith) wide.wide_at.ensures c.if3.true
 
 take-requires : tie.Need-take-requires
 take-requires c κs = search rules
@@ -64,13 +64,13 @@ returns-3 c =
     let narrow = taken.before.before in
     let wide = narrow.before in
     let size = wide.before.before.before.before.before.before in
-    kept-within _ _ _ _ _ _ _ _ _ size.part-size.ensures _ (omega arith) (omega arith) wide.wide_at.ensures _ _ _
+    kept_within _ _ _ _ _ _ _ _ _ size.part-size.ensures _ (omega arith) (omega arith) wide.wide_at.ensures _ _ _
     narrow.if3.false taken.take.ensures pushed.push.ensures gone.empty-entry.ensures
 
 returns-4 : tie.Need-returns-4
 returns-4 c =
     let size = c.before.before in
-    kept-none _ _ _ _ _ _ _ _ _ size.part-size.ensures (omega arith)
+    kept_none _ _ _ _ _ _ _ _ _ size.part-size.ensures (omega arith)
 
 pub keep-one-spec : {M : Type 1} → statement M
 keep-one-spec =

@@ -2,16 +2,16 @@
 -- the number of records left.
 -- Assumes nothing.
 use Rattle.std.proofs.Common.{◌-◌, ◌∙◌, arith}
-use Rattle.temporal.specs.Struck.{lackingRecord}
-use Rattle.pass.specs.Column.{lanesBy, splitOf}
+use Rattle.temporal.specs.Struck.{lacking_record}
+use Rattle.pass.specs.Column.{lanes_by, split_of}
 use Rattle.stale.proofs.RingPlaces.{area_same}
-use Rattle.stale.proofs.WindowSteps.{Keeping, keeping_none, keeping-stop, keeping-more, keeping_all}
+use Rattle.stale.proofs.WindowSteps.{Keeping, keeping_none, keeping_stop, keeping_more, keeping_all}
 use Rattle.stale.proofs.keep_records.Statement.{statement}
 use Rattle.stale.proofs.keep_records.Tie as tie
 
 abbrev invariant-loop : tie.invariant-loop
 invariant-loop work₀ plan out n block depth source columns u j end i₀ work i =
-    Keeping (lackingRecord plan out) (lanesBy (splitOf columns)) n block depth source u j end work₀ i work
+    Keeping (lacking_record plan out) (lanes_by (split_of columns)) n block depth source u j end work₀ i work
 
 abbrev decreases-loop : tie.decreases-loop
 decreases-loop work₀ plan out n block depth source columns u j end i₀ work i = end - i
@@ -25,7 +25,7 @@ keep-record-requires c κs =
     let fits = c.before.before.before.before.before.requires.1 in (
       area_same c.before.before.before.before.before.requires.0 c.before.before.loop.invariant.same,
       fits.inside _ position c.before.loop-test.true,
-      fits.hearer-station _ position c.before.loop-test.true,
+      fits.hearer_station _ position c.before.loop-test.true,
       c.before.before.before.before.before.requires.2,
       c.before.before.before.before.before.requires.3,
     )
@@ -36,7 +36,7 @@ same_length c = c.before.before.before.keep-record.auto.0 ∙ c.before.before.be
 returns : tie.Need-returns invariant-loop decreases-loop
 returns c =
     let one = c.before.before.before in
-    keeping-stop _ _ _ _ _ _ _ _ _ _ _ _ _ _ (omega arith) one.before.before.before.loop.invariant one.keep-record.ensures
+    keeping_stop _ _ _ _ _ _ _ _ _ _ _ _ _ _ (omega arith) one.before.before.before.loop.invariant one.keep-record.ensures
     c.if1.true
 
 add-i : tie.Need-overflow-add-i invariant-loop decreases-loop
@@ -48,7 +48,7 @@ loop-less c = omega arith
 loop-again : tie.Need-loop-preserved invariant-loop decreases-loop
 loop-again c =
     let one = c.before.before.before in
-    keeping-more _ _ _ _ _ _ _ _ _ _ _ _ _ _ (omega arith) one.before.before.before.loop.invariant one.keep-record.ensures c.if1.false
+    keeping_more _ _ _ _ _ _ _ _ _ _ _ _ _ _ (omega arith) one.before.before.before.loop.invariant one.keep-record.ensures c.if1.false
     one.keep-record.auto.0
 
 same-length-2 : tie.Need-same-length-2 invariant-loop decreases-loop

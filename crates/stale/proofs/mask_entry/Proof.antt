@@ -2,7 +2,7 @@
 -- Assumes nothing.
 use Rattle.std.proofs.Common.{sym, ◌∙◌, arith, rules}
 use Rattle.pass.proofs.PlaceLaws.{row_inside}
-use Rattle.stale.proofs.WindowSteps.{mask-stop, mask_done}
+use Rattle.stale.proofs.WindowSteps.{mask_stop, mask_done}
 use Rattle.stale.proofs.mask_entry.Statement.{statement}
 use Rattle.stale.proofs.mask_entry.Tie as tie
 
@@ -18,7 +18,7 @@ same_length c = search rules
 returns : tie.Need-returns
 returns c =
     let wide = c.before in
-    mask-stop _ _ _ _ _ _ _ (sym c.if1.true ∙ wide.wide-entry.ensures)
+    mask_stop _ _ _ _ _ _ _ (sym c.if1.true ∙ wide.wide-entry.ensures)
 
 row-at-requires : tie.Need-row-at-requires
 row-at-requires c κs =

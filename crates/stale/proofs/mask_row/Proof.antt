@@ -1,7 +1,7 @@
 -- `stale::mask_row` meets its contract: each branch by its comparison.
 -- Assumes nothing.
 use Rattle.std.proofs.Common.{arith, rules}
-use Rattle.stale.proofs.WindowSteps.{row-asked, row-own, row-none}
+use Rattle.stale.proofs.WindowSteps.{row_asked, row_own, row_none}
 use Rattle.stale.proofs.mask_row.Statement.{statement}
 use Rattle.stale.proofs.mask_row.Tie as tie
 
@@ -20,7 +20,7 @@ clear-column-requires c κs =
     let all = col.before in
     let split = all.before in
     let start = split.before.before.before in
-    row-asked _ _ _ _ _ _ all.columns_of.ensures (rw split.split-of.ensures start.requires.1) (omega arith)
+    row_asked _ _ _ _ _ _ all.columns_of.ensures (rw split.split-of.ensures start.requires.1) (omega arith)
     start.requires.0 (omega (arith, start.requires.0, start.well-formed.0))
 
 same_length : tie.Need-same-length
@@ -32,7 +32,7 @@ returns c =
     let col = cleared.before.before.before in
     let all = col.before in
     let split = all.before in
-    row-own _ _ _ _ _ _ _ _ _ _ split.split-of.ensures all.columns_of.ensures col.column-of.ensures
+    row_own _ _ _ _ _ _ _ _ _ _ split.split-of.ensures all.columns_of.ensures col.column-of.ensures
     _ (omega arith) cleared.clear-column.ensures
 
 returns-2 : tie.Need-returns-2
@@ -40,7 +40,7 @@ returns-2 c =
     let col = c.before in
     let all = col.before in
     let split = all.before in
-    row-none _ _ _ _ _ _ _ _ _ _ split.split-of.ensures all.columns_of.ensures col.column-of.ensures
+    row_none _ _ _ _ _ _ _ _ _ _ split.split-of.ensures all.columns_of.ensures col.column-of.ensures
     (omega arith)
 
 pub mask-row-spec : {M : Type 1} → statement M

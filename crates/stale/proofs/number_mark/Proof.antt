@@ -1,7 +1,7 @@
 -- `stale::number_mark` meets its contract.
 -- Assumes nothing.
 use Rattle.std.proofs.Common.{arith, rules}
-use Rattle.stale.proofs.RingPlaces.{cells-some, number-inside, number-place}
+use Rattle.stale.proofs.RingPlaces.{cells_some, number_inside, number_place_law}
 use Rattle.stale.proofs.number_mark.Statement.{statement}
 use Rattle.stale.proofs.number_mark.Tie as tie
 
@@ -9,7 +9,7 @@ mul-cell : tie.Need-overflow-mul-cell
 mul-cell c = search rules
 
 rem-cell : tie.Need-nonzero-rem-cell
-rem-cell c = omega (arith, cells-some _ _ c.requires.0 c.requires.1)
+rem-cell c = omega (arith, cells_some _ _ c.requires.0 c.requires.1)
 
 div-mark-at : tie.Need-nonzero-div-mark-at
 div-mark-at c = search rules
@@ -20,8 +20,8 @@ rem-mark-at c = search rules
 mark-at-requires : tie.Need-mark-at-requires
 mark-at-requires c κs =
     let start = c.requires in (
-      omega (arith, number-inside c.args.n c.args.depth start.0 c.args.k start.1),
-      number-place c.args.n c.args.depth start.0 c.args.k,
+      omega (arith, number_inside c.args.n c.args.depth start.0 c.args.k start.1),
+      number_place_law c.args.n c.args.depth start.0 c.args.k,
       start.2,
     )
 

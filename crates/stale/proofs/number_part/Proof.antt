@@ -1,7 +1,7 @@
 -- `stale::number_part` meets its contract.
 -- Assumes nothing.
 use Rattle.std.proofs.Common.{arith, rules}
-use Rattle.stale.proofs.RingPlaces.{cells-some, number-inside}
+use Rattle.stale.proofs.RingPlaces.{cells_some, number_inside}
 use Rattle.stale.proofs.number_part.Statement.{statement}
 use Rattle.stale.proofs.number_part.Tie as tie
 
@@ -9,14 +9,14 @@ mul-ring-at : tie.Need-overflow-mul-ring-at
 mul-ring-at c = search rules
 
 rem-ring-at : tie.Need-nonzero-rem-ring-at
-rem-ring-at c = omega (arith, cells-some _ _ c.requires.0 c.requires.1)
+rem-ring-at c = omega (arith, cells_some _ _ c.requires.0 c.requires.1)
 
 div-ring-at : tie.Need-nonzero-div-ring-at
 div-ring-at c = search rules
 
 ring-at-requires : tie.Need-ring-at-requires
 ring-at-requires c κs =
-    (omega (arith, number-inside c.args.n c.args.depth c.requires.0 c.args.k c.requires.1), c.requires.0, c.requires.2)
+    (omega (arith, number_inside c.args.n c.args.depth c.requires.0 c.args.k c.requires.1), c.requires.0, c.requires.2)
 
 returns : tie.Need-returns
 returns c = search rules

@@ -1,6 +1,6 @@
 -- `stale::number_place` meets its contract.
 -- Assumes nothing.
-use Rattle.stale.proofs.RingPlaces.{cells-some}
+use Rattle.stale.proofs.RingPlaces.{cells_some}
 use Rattle.std.proofs.Common.{arith, rules}
 use Rattle.stale.proofs.number_place.Statement.{statement}
 use Rattle.stale.proofs.number_place.Tie as tie
@@ -9,7 +9,7 @@ mul-result : tie.Need-overflow-mul-result
 mul-result c = search rules
 
 rem-result : tie.Need-nonzero-rem-result
-rem-result c = omega (arith, cells-some _ _ c.requires.0 c.requires.1)
+rem-result c = omega (arith, cells_some _ _ c.requires.0 c.requires.1)
 
 rem-result-2 : tie.Need-nonzero-rem-result-2
 rem-result-2 c = search rules

@@ -1,8 +1,8 @@
 -- `stale::open_entry` meets its contract: two stores and a row of ones.
 -- Assumes nothing.
 use Rattle.std.proofs.Common.{◌+◌, ◌∙◌, arith, lt-length-set, rules}
-use Rattle.pass.proofs.PlaceLaws.{row_inside, set-twice-length}
-use Rattle.stale.proofs.WindowSteps.{opened-by}
+use Rattle.pass.proofs.PlaceLaws.{row_inside, set_twice_length}
+use Rattle.stale.proofs.WindowSteps.{opened_by}
 use Rattle.stale.proofs.open_entry.Statement.{statement}
 use Rattle.stale.proofs.open_entry.Tie as tie
 
@@ -41,16 +41,16 @@ fill-part-requires c κs =
       row_inside _ start.args.block _ start.requires.0,
       start.requires.1,
       c.before.row_at.ensures,
-      set-twice-length start.args.work.now at (at + start.args.n) 0 1,
+      set_twice_length start.args.work.now at (at + start.args.n) 0 1,
     )
 
 same_length : tie.Need-same-length
 same_length c =
     let filled = c.before.before in
-    filled.fill-part.auto.0 ∙ set-twice-length filled.before.before.before.before.args.work.now _ _ _ _
+    filled.fill-part.auto.0 ∙ set_twice_length filled.before.before.before.before.args.work.now _ _ _ _
 
 returns : tie.Need-returns
-returns c = opened-by _ _ _ _ _ _ _ _ c.before.before.before.before.row_at.ensures c.before.before.fill-part.ensures
+returns c = opened_by _ _ _ _ _ _ _ _ c.before.before.before.before.row_at.ensures c.before.before.fill-part.ensures
 
 pub open-entry-spec : {M : Type 1} → statement M
 open-entry-spec =

@@ -3,20 +3,20 @@
 -- Assumes nothing.
 use Rattle.std.proofs.Common.{◌+◌, ◌-◌, ◌*◌, ◌^◌, refl, ◌∙◌, arith, rules}
 use Rattle.temporal.specs.Plan.{units}
-use Rattle.temporal.specs.Struck.{lackingRecord}
+use Rattle.temporal.specs.Struck.{lacking_record}
 use Rattle.walks.proofs.Accepted.{accepted}
-use Rattle.pass.specs.Column.{columnOf, lanesBy, splitOf}
-use Rattle.pass.proofs.WidthLaws.{filled-by}
-use Rattle.stale.proofs.RingPlaces.{heard-fits}
-use Rattle.stale.proofs.WindowPass.{Windowing, ready-area, ready-begun, windowing-begun, windowing-area, windowing-position}
-use Rattle.stale.proofs.WindowPass.{windowing-records, windowing-next, passed_over, passed-end, passed_entry}
+use Rattle.pass.specs.Column.{column_of, lanes_by, split_of}
+use Rattle.pass.proofs.WidthLaws.{filled_by}
+use Rattle.stale.proofs.RingPlaces.{heard_fits}
+use Rattle.stale.proofs.WindowPass.{Windowing, ready_area, ready_begun, windowing_begun, windowing_area, windowing_position}
+use Rattle.stale.proofs.WindowPass.{windowing_records, windowing_next, passed_over, passed_end, passed_entry}
 use Rattle.stale.proofs.pass_window.Statement.{statement}
 use Rattle.stale.proofs.pass_window.Tie as tie
 
 abbrev invariant-loop : tie.invariant-loop
 invariant-loop work₀ plan out n t g h depth source columns set block j₀ u₀ work j u =
-    Windowing (lackingRecord plan out) n t (units g h) source (lanesBy (splitOf columns))
-    (columnOf columns set (block * 2 ^ splitOf columns)) block depth work₀ u j work
+    Windowing (lacking_record plan out) n t (units g h) source (lanes_by (split_of columns))
+    (column_of columns set (block * 2 ^ split_of columns)) block depth work₀ u j work
 
 abbrev decreases-loop : tie.decreases-loop
 decreases-loop work₀ plan out n t g h depth source columns set block j₀ u₀ work j u = t + 1 - u
@@ -24,21 +24,21 @@ decreases-loop work₀ plan out n t g h depth source columns set block j₀ u₀
 begin-window-requires : tie.Need-begin-window-requires invariant-loop decreases-loop
 begin-window-requires c κs =
     let start = c.before.before.before.before in
-    (ready-area _ _ _ _ _ _ _ _ start.requires.0, start.requires.0.source, start.requires.1)
+    (ready_area _ _ _ _ _ _ _ _ start.requires.0, start.requires.0.source, start.requires.1)
 
 loop-holds : tie.Need-loop-init invariant-loop decreases-loop
 loop-holds c =
     let begun = c.before.before in
     let start = begun.before.before.before.before.before in
-    windowing-begun _ _ _ _ _ _ _ (filled-by _ start.requires.1) _ _ _ _ start.requires.0 begun.begin-window.ensures
+    windowing_begun _ _ _ _ _ _ _ (filled_by _ start.requires.1) _ _ _ _ start.requires.0 begun.begin-window.ensures
 
 kept-slot-end-requires : tie.Need-kept-slot-end-requires invariant-loop decreases-loop
 kept-slot-end-requires c κs =
     let loop = c.before in
     let begun = loop.before.before.before in
     let start = begun.before.before.before.before.before in
-    let ready = ready-begun _ _ _ _ _ _ _ _ _ _ start.requires.0 begun.begin-window.ensures in
-    windowing-position _ _ _ _ _ _ _ _ _ _ ready _ _ _ loop.loop.invariant
+    let ready = ready_begun _ _ _ _ _ _ _ _ _ _ start.requires.0 begun.begin-window.ensures in
+    windowing_position _ _ _ _ _ _ _ _ _ _ ready _ _ _ loop.loop.invariant
 
 window-slot-requires : tie.Need-window-slot-requires invariant-loop decreases-loop
 window-slot-requires c κs =
@@ -46,10 +46,10 @@ window-slot-requires c κs =
     let loop = found.before.before in
     let begun = loop.before.before.before in
     let start = begun.before.before.before.before.before in
-    let ready = ready-begun _ _ _ _ _ _ _ _ _ _ start.requires.0 begun.begin-window.ensures in (
-      windowing-area _ _ _ _ _ _ _ _ _ _ ready _ _ _ loop.loop.invariant,
+    let ready = ready_begun _ _ _ _ _ _ _ _ _ _ start.requires.0 begun.begin-window.ensures in (
+      windowing_area _ _ _ _ _ _ _ _ _ _ ready _ _ _ loop.loop.invariant,
       start.requires.0.units.turns,
-      windowing-records _ _ _ _ _ _ _ _ _ _ ready _ _ _ loop.loop.invariant _ found.kept-slot-end.ensures,
+      windowing_records _ _ _ _ _ _ _ _ _ _ ready _ _ _ loop.loop.invariant _ found.kept-slot-end.ensures,
       start.requires.1,
       start.requires.0.source,
     )
@@ -72,8 +72,8 @@ returns c =
     let loop = found.before.before in
     let begun = loop.before.before.before in
     let start = begun.before.before.before.before.before in
-    let ready = ready-begun _ _ _ _ _ _ _ _ _ _ start.requires.0 begun.begin-window.ensures in
-    passed_entry _ _ _ _ _ _ _ (filled-by _ start.requires.1) _ _ _ _ start.requires.0 begun.begin-window.ensures _ _
+    let ready = ready_begun _ _ _ _ _ _ _ _ _ _ start.requires.0 begun.begin-window.ensures in
+    passed_entry _ _ _ _ _ _ _ (filled_by _ start.requires.1) _ _ _ _ start.requires.0 begun.begin-window.ensures _ _
     (passed_over _ _ _ _ _ _ _ _ _ _ ready _ _ _ loop.loop.invariant _
     found.kept-slot-end.ensures _ _ (omega arith) slot.window-slot.ensures over.if1.true _ refl _ c.stopped.ensures)
 
@@ -92,8 +92,8 @@ loop-again c =
     let loop = found.before.before in
     let begun = loop.before.before.before in
     let start = begun.before.before.before.before.before in
-    let ready = ready-begun _ _ _ _ _ _ _ _ _ _ start.requires.0 begun.begin-window.ensures in
-    windowing-next _ _ _ _ _ _ _ _ _ _ ready _ _ _ loop.loop.invariant _
+    let ready = ready_begun _ _ _ _ _ _ _ _ _ _ start.requires.0 begun.begin-window.ensures in
+    windowing_next _ _ _ _ _ _ _ _ _ _ ready _ _ _ loop.loop.invariant _
     found.kept-slot-end.ensures _ _ (omega arith) slot.window-slot.ensures c.if1.false
 
 end-pass-requires : tie.Need-end-pass-requires invariant-loop decreases-loop
@@ -101,8 +101,8 @@ end-pass-requires c κs =
     let loop = c.before.before in
     let begun = loop.before.before.before in
     let start = begun.before.before.before.before.before in
-    let ready = ready-begun _ _ _ _ _ _ _ _ _ _ start.requires.0 begun.begin-window.ensures in
-    omega (arith, heard-fits (windowing-area _ _ _ _ _ _ _ _ _ _ ready _ _ _ loop.loop.invariant))
+    let ready = ready_begun _ _ _ _ _ _ _ _ _ _ start.requires.0 begun.begin-window.ensures in
+    omega (arith, heard_fits (windowing_area _ _ _ _ _ _ _ _ _ _ ready _ _ _ loop.loop.invariant))
 
 same-length-2 : tie.Need-same-length-2 invariant-loop decreases-loop
 same-length-2 c =
@@ -115,9 +115,9 @@ returns-2 c =
     let loop = c.before.before.before in
     let begun = loop.before.before.before in
     let start = begun.before.before.before.before.before in
-    let ready = ready-begun _ _ _ _ _ _ _ _ _ _ start.requires.0 begun.begin-window.ensures in
-    passed_entry _ _ _ _ _ _ _ (filled-by _ start.requires.1) _ _ _ _ start.requires.0 begun.begin-window.ensures _ _
-    (passed-end _ _ _ _ _ _ _ _ _ _ ready _ _ _ loop.loop.invariant _ (omega arith)
+    let ready = ready_begun _ _ _ _ _ _ _ _ _ _ start.requires.0 begun.begin-window.ensures in
+    passed_entry _ _ _ _ _ _ _ (filled_by _ start.requires.1) _ _ _ _ start.requires.0 begun.begin-window.ensures _ _
+    (passed_end _ _ _ _ _ _ _ _ _ _ ready _ _ _ loop.loop.invariant _ (omega arith)
     c.end-pass.ensures)
 
 pub pass-window-spec : {M : Type 1} → statement M

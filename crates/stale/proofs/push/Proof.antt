@@ -1,12 +1,12 @@
 -- `stale::push` meets its contract: the source keeps nothing, and any other its next number.
 -- Assumes nothing.
 use Rattle.std.proofs.Common.{arith, rules}
-use Rattle.stale.proofs.WindowSteps.{pushed-source, pushed-by}
+use Rattle.stale.proofs.WindowSteps.{pushed_source, pushed_by}
 use Rattle.stale.proofs.push.Statement.{statement}
 use Rattle.stale.proofs.push.Tie as tie
 
 returns : tie.Need-returns
-returns c = pushed-source _ _ _ _ _ _ _ (omega arith)
+returns c = pushed_source _ _ _ _ _ _ _ (omega arith)
 
 head-of-requires : tie.Need-head-of-requires
 head-of-requires c κs = search rules
@@ -25,7 +25,7 @@ returns-2 c =
     let marks = c.before.before in
     let entry = marks.before.before.before.before in
     let head = entry.before.before in
-    pushed-by _ _ _ _ _ _ _ _ _ _ (omega arith) head.head_of.ensures entry.push-entry.ensures marks.push-marks.ensures
+    pushed_by _ _ _ _ _ _ _ _ _ _ (omega arith) head.head_of.ensures entry.push-entry.ensures marks.push-marks.ensures
 
 pub push_spec : {M : Type 1} → statement M
 push_spec =

@@ -1,8 +1,8 @@
 -- `stale::push_entry` meets its contract.
 -- Assumes nothing.
 use Rattle.std.proofs.Common.{arith, rules}
-use Rattle.stale.proofs.RingPlaces.{area_same, ring-heard, number-inside, number-place}
-use Rattle.stale.proofs.WindowSteps.{number_fits, entry-by}
+use Rattle.stale.proofs.RingPlaces.{area_same, ring_heard, number_inside, number_place_law}
+use Rattle.stale.proofs.WindowSteps.{number_fits, entry_by}
 use Rattle.stale.proofs.push_entry.Statement.{statement}
 use Rattle.stale.proofs.push_entry.Tie as tie
 
@@ -21,8 +21,8 @@ empty-entry-requires c κs =
     let area = start.requires.0 in (
       omega (
         arith,
-        number-place start.args.n start.args.depth area.some start.args.k,
-        c.before.before.number-place.ensures,
+        number_place_law start.args.n start.args.depth area.some start.args.k,
+        c.before.before.number_place_law.ensures,
       ),
       omega (arith, number_fits area _ _ c.before.before.before.number-part.ensures),
     )
@@ -36,9 +36,9 @@ take-requires c κs =
     let start = part.before.before in
     let area = start.requires.0 in (
       rw (part.number-part.ensures, size.part-size.ensures)
-          (ring-heard (area_same area bare.empty-entry.auto.0) _
-          (omega (arith, number-inside _ _ area.some start.args.k area.deep))),
-      omega (arith, number-place start.args.n start.args.depth area.some start.args.k, place.number-place.ensures),
+          (ring_heard (area_same area bare.empty-entry.auto.0) _
+          (omega (arith, number_inside _ _ area.some start.args.k area.deep))),
+      omega (arith, number_place_law start.args.n start.args.depth area.some start.args.k, place.number_place_law.ensures),
       start.requires.1,
       omega arith,
     )
@@ -53,7 +53,7 @@ returns c =
     let size = bare.before.before in
     let place = size.before in
     let part = place.before in
-    entry-by _ _ _ _ _ _ _ _ _ _ _ part.number-part.ensures place.number-place.ensures size.part-size.ensures
+    entry_by _ _ _ _ _ _ _ _ _ _ _ part.number-part.ensures place.number_place_law.ensures size.part-size.ensures
     bare.empty-entry.ensures taken.take.ensures
 
 pub push-entry-spec : {M : Type 1} → statement M

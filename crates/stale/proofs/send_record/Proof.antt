@@ -1,7 +1,7 @@
 -- `stale::send_record` meets its contract.
 -- Assumes nothing.
 use Rattle.std.proofs.Common.{ap, arith}
-use Rattle.stale.proofs.WindowSteps.{sent-by}
+use Rattle.stale.proofs.WindowSteps.{sent_by}
 use Rattle.stale.proofs.send_record.Statement.{statement}
 use Rattle.stale.proofs.send_record.Tie as tie
 
@@ -15,7 +15,7 @@ same_length : tie.Need-same-length
 same_length c = c.before.before.take.auto.0
 
 returns : tie.Need-returns
-returns c = sent-by _ _ _ _ _ _ _ _ _ c.before.before.before.before.kept-contact.ensures c.before.before.take.ensures
+returns c = sent_by _ _ _ _ _ _ _ _ _ c.before.before.before.before.kept-contact.ensures c.before.before.take.ensures
 
 pub send-record-spec : {M : Type 1} → statement M
 send-record-spec =

@@ -1,7 +1,7 @@
 -- `stale::wide_entry` meets its contract: each branch by its comparison.
 -- Assumes nothing.
 use Rattle.std.proofs.Common.{arith, rules}
-use Rattle.stale.proofs.WindowSteps.{entry_whole, entry-some, entry-none}
+use Rattle.stale.proofs.WindowSteps.{entry_whole, entry_some, entry_none}
 use Rattle.stale.proofs.wide_entry.Statement.{statement}
 use Rattle.stale.proofs.wide_entry.Tie as tie
 
@@ -34,12 +34,12 @@ too-wide-requires c κs = search rules
 returns-2 : tie.Need-returns-2
 returns-2 c =
     let split = c.before.before.before.before.before in
-    entry-some _ _ _ _ _ split.split-of.ensures _ (omega arith) c.too_wide.ensures
+    entry_some _ _ _ _ _ split.split-of.ensures _ (omega arith) c.too_wide.ensures
 
 returns-3 : tie.Need-returns-3
 returns-3 c =
     let split = c.before.before.before in
-    entry-none _ _ _ _ _ split.split-of.ensures (omega arith)
+    entry_none _ _ _ _ _ split.split-of.ensures (omega arith)
 
 pub wide-entry-spec : {M : Type 1} → statement M
 wide-entry-spec =

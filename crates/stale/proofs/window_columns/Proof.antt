@@ -1,7 +1,7 @@
 -- `stale::window_columns` meets its contract.
 -- Assumes nothing.
 use Rattle.std.proofs.Common.{arith, rules}
-use Rattle.stale.proofs.SizeLaws.{three-parts, columns-by}
+use Rattle.stale.proofs.SizeLaws.{three_parts, columns_by}
 use Rattle.stale.proofs.window_columns.Statement.{statement}
 use Rattle.stale.proofs.window_columns.Tie as tie
 
@@ -18,13 +18,13 @@ div-smaller : tie.Need-div-smaller
 div-smaller c = search rules
 
 sub-smaller-2 : tie.Need-sub-smaller-2
-sub-smaller-2 c = omega (arith, three-parts c.args.n _ _ c.pre)
+sub-smaller-2 c = omega (arith, three_parts c.args.n _ _ c.pre)
 
 smaller-requires : tie.Need-smaller-requires
 smaller-requires c κs = search rules
 
 returns : tie.Need-returns
-returns c = columns-by _ _ _ _ c.smaller.ensures
+returns c = columns_by _ _ _ _ c.smaller.ensures
 
 pub window-columns-spec : {M : Type 1} → statement M
 window-columns-spec =

@@ -1,8 +1,8 @@
 -- `stale::window_slot` meets its contract: the windows stop, or the three steps of a slot.
 -- Assumes nothing.
 use Rattle.std.proofs.Common.{◌∙◌, rules}
-use Rattle.stale.proofs.RingPlaces.{area_same, heard-windows}
-use Rattle.stale.proofs.WindowSteps.{slot-stop, slot-by}
+use Rattle.stale.proofs.RingPlaces.{area_same, heard_windows}
+use Rattle.stale.proofs.WindowSteps.{slot_stop, slot_by}
 use Rattle.stale.proofs.window_slot.Statement.{statement}
 use Rattle.stale.proofs.window_slot.Tie as tie
 
@@ -15,7 +15,7 @@ same_length c = search rules
 returns : tie.Need-returns
 returns c =
     let gathered = c.before.before.before in
-    slot-stop _ _ _ _ _ _ _ _ _ _ _ _ _ _ _ gathered.gather-records.ensures c.if1.true
+    slot_stop _ _ _ _ _ _ _ _ _ _ _ _ _ _ _ gathered.gather-records.ensures c.if1.true
 
 part-size-requires : tie.Need-part-size-requires
 part-size-requires c κs = search rules
@@ -29,7 +29,7 @@ send-records-requires c κs =
     let size = ring.before in
     let gathered = size.before.before.before.before in
     let start = gathered.before.before.before.before.before in (
-      rw (size.part-size.ensures, ring.ring-at.ensures) (heard-windows (area_same start.requires.0 gathered.gather-records.auto.0)),
+      rw (size.part-size.ensures, ring.ring-at.ensures) (heard_windows (area_same start.requires.0 gathered.gather-records.auto.0)),
       start.requires.2,
     )
 
@@ -55,7 +55,7 @@ returns-2 c =
     let size = ring.before in
     let goes = size.before in
     let gathered = goes.before.before.before in
-    slot-by _ _ _ _ _ _ _ _ _ _ _ _ _ _ _ gathered.gather-records.ensures _ _ _ _ goes.if1.false
+    slot_by _ _ _ _ _ _ _ _ _ _ _ _ _ _ _ gathered.gather-records.ensures _ _ _ _ goes.if1.false
     size.part-size.ensures ring.ring-at.ensures sent.send-records.ensures kept.keep-records.ensures
 
 pub window-slot-spec : {M : Type 1} → statement M

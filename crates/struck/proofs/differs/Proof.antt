@@ -1,7 +1,7 @@
 -- `struck::differs` meets its contract.
 -- Assumes nothing.
 use mathlib.Core.Path.{refl}
-use Rattle.struck.proofs.CompareLaws.{differs-hops, differs-count}
+use Rattle.struck.proofs.CompareLaws.{differs_hops, differs_count}
 use borrow.Author.Rules.{rules}
 use Rattle.struck.proofs.differs.Statement.{statement}
 use Rattle.struck.proofs.differs.Tie as tie
@@ -43,10 +43,10 @@ shared-slice-read-result-2 : tie.Need-shared-slice-read-result-2
 shared-slice-read-result-2 c = search rules
 
 returns : tie.Need-returns
-returns c = differs-count _ _ _ _ _ c.before.before.if1.true refl
+returns c = differs_count _ _ _ _ _ c.before.before.if1.true refl
 
 returns-2 : tie.Need-returns-2
-returns-2 c = differs-hops _ _ _ _ c.if1.false
+returns-2 c = differs_hops _ _ _ _ c.if1.false
 
 pub differs-spec : {M : Type 1} → statement M
 differs-spec =

@@ -1,7 +1,7 @@
 -- `struck::room_block` meets its contract.
 -- Assumes nothing.
 use native.Mathlib.Omega.{arith}
-use Rattle.struck.proofs.ParkLaws.{room-less}
+use Rattle.struck.proofs.ParkLaws.{room_less}
 use borrow.Author.Rules.{rules}
 use Rattle.struck.proofs.room_block.Statement.{statement}
 use Rattle.struck.proofs.room_block.Tie as tie
@@ -19,7 +19,7 @@ sub-result : tie.Need-overflow-sub-result
 sub-result c = search rules
 
 returns-2 : tie.Need-returns-2
-returns-2 c = room-less _ _ _ _ _ _ c.before.before.before.before.requires.1.1.1 (omega arith)
+returns-2 c = room_less _ _ _ _ _ _ c.before.before.before.before.requires.1.1.1 (omega arith)
 
 returns-3 : tie.Need-returns-3
 returns-3 c = search rules

@@ -7,19 +7,19 @@ use native.Mathlib.Omega.{arith}
 use lib.ListN.{length}
 use borrow.Author.Rules.{rules}
 use Rattle.temporal.specs.Plan.{units}
-use Rattle.temporal.specs.Struck.{lackingRecord}
+use Rattle.temporal.specs.Struck.{lacking_record}
 use Rattle.walks.proofs.Accepted.{accepted}
 use Rattle.forward.specs.Passed.{Knows}
-use Rattle.forward.proofs.WidthLaws.{knows-none, knows-next, knows-later}
-use Rattle.struck.proofs.ParkLaws.{Pairing, pairing-room, pairing-cleared, pairing-none, pairing-refill, pairing-kept, pairing-ready}
-use Rattle.struck.proofs.ParkLaws.{pairing-over, pairing-small, pairing-more, pairing-all, pairing-before}
+use Rattle.forward.proofs.WidthLaws.{knows_none, knows_next, knows_later}
+use Rattle.struck.proofs.ParkLaws.{Pairing, pairing_room, pairing_cleared, pairing_none, pairing_refill, pairing_kept, pairing_ready}
+use Rattle.struck.proofs.ParkLaws.{pairing_over, pairing_small, pairing_more, pairing_all, pairing_before}
 use Rattle.struck.proofs.strike_roomy.Statement.{statement}
 use Rattle.struck.proofs.strike_roomy.Tie as tie
 
 abbrev invariant-loop : tie.invariant-loop
 invariant-loop work₀ plan out n t g h depth base block with whole₀ lacking₀ pairs₀ source₀ work whole lacking pairs source =
-    Pairing plan out n t (units g h) base work₀ source work pairs × Knows (lackingRecord plan (length plan)) n t (units g h) source n whole ×
-    Knows (lackingRecord plan out) n t (units g h) source n lacking
+    Pairing plan out n t (units g h) base work₀ source work pairs × Knows (lacking_record plan (length plan)) n t (units g h) source n whole ×
+    Knows (lacking_record plan out) n t (units g h) source n lacking
 
 abbrev decreases-loop : tie.decreases-loop
 decreases-loop work₀ plan out n t g h depth base block with whole₀ lacking₀ pairs₀ source₀ work whole lacking pairs source = n - source
@@ -34,7 +34,7 @@ mul-fill-part : tie.Need-overflow-mul-fill-part invariant-loop decreases-loop
 mul-fill-part c = omega (arith, (accepted _ _ _ c.before.before.before.requires.accepted).stations)
 
 fill-part-requires : tie.Need-fill-part-requires invariant-loop decreases-loop
-fill-part-requires c κs = pairing-room _ 0 _ _ _ _ _ _ _ c.before.before.before.requires
+fill-part-requires c κs = pairing_room _ 0 _ _ _ _ _ _ _ c.before.before.before.requires
 
 no-splits-requires : tie.Need-no-splits-requires invariant-loop decreases-loop
 no-splits-requires c κs = search rules
@@ -46,9 +46,9 @@ loop-holds : tie.Need-loop-init invariant-loop decreases-loop
 loop-holds c =
     let filled = c.before.before.before.before in
     let start = filled.before.before.before.before in (
-      pairing-none _ _ _ _ _ _ _ _ _ start.requires _ filled.fill-part.ensures,
-      rw c.before.no-splits.ensures (knows-none _ _ _ _ _ _ (omega arith)),
-      rw c.no-splits2.ensures (knows-none _ _ _ _ _ _ (omega arith)),
+      pairing_none _ _ _ _ _ _ _ _ _ start.requires _ filled.fill-part.ensures,
+      rw c.before.no-splits.ensures (knows_none _ _ _ _ _ _ (omega arith)),
+      rw c.no-splits2.ensures (knows_none _ _ _ _ _ _ (omega arith)),
     )
 
 refilled-requires : tie.Need-refilled-requires invariant-loop decreases-loop
@@ -56,8 +56,8 @@ refilled-requires c κs =
     let looped = c.before.before in
     let filled = looped.before.before.before.before.before in
     let start = filled.before.before.before.before in
-    let pre = pairing-cleared _ 0 _ _ _ _ _ _ _ start.requires _ filled.fill-part.ensures in
-    pairing-refill _ _ _ _ _ _ _ _ _ pre _ _ _ looped.loop.invariant.0 _ c.before.loop-test.true _ looped.loop.invariant.1
+    let pre = pairing_cleared _ 0 _ _ _ _ _ _ _ start.requires _ filled.fill-part.ensures in
+    pairing_refill _ _ _ _ _ _ _ _ _ pre _ _ _ looped.loop.invariant.0 _ c.before.loop-test.true _ looped.loop.invariant.1
 
 refilled-requires-2 : tie.Need-refilled-requires-2 invariant-loop decreases-loop
 refilled-requires-2 c κs =
@@ -66,10 +66,10 @@ refilled-requires-2 c κs =
     let looped = tested.before in
     let filled = looped.before.before.before.before.before in
     let start = filled.before.before.before.before in
-    let pre = pairing-cleared _ 0 _ _ _ _ _ _ _ start.requires _ filled.fill-part.ensures in
+    let pre = pairing_cleared _ 0 _ _ _ _ _ _ _ start.requires _ filled.fill-part.ensures in
     let whole = asked.refilled.ensures in
-    let mid = pairing-kept _ _ _ _ _ _ _ _ _ pre _ _ _ looped.loop.invariant.0 _ whole.beyond whole.same_length in
-    pairing-refill _ _ _ _ _ _ _ _ _ pre _ _ _ mid _ tested.loop-test.true _ looped.loop.invariant.2
+    let mid = pairing_kept _ _ _ _ _ _ _ _ _ pre _ _ _ looped.loop.invariant.0 _ whole.beyond whole.same_length in
+    pairing_refill _ _ _ _ _ _ _ _ _ pre _ _ _ mid _ tested.loop-test.true _ looped.loop.invariant.2
 
 next-split-requires : tie.Need-next-split-requires invariant-loop decreases-loop
 next-split-requires c κs = search rules
@@ -85,15 +85,15 @@ strike-both-requires c κs =
     let looped = tested.before in
     let filled = looped.before.before.before.before.before in
     let start = filled.before.before.before.before in
-    let pre = pairing-cleared _ 0 _ _ _ _ _ _ _ start.requires _ filled.fill-part.ensures in
+    let pre = pairing_cleared _ 0 _ _ _ _ _ _ _ start.requires _ filled.fill-part.ensures in
     let whole = asked.refilled.ensures in
-    let mid = pairing-kept _ _ _ _ _ _ _ _ _ pre _ _ _ looped.loop.invariant.0 _ whole.beyond whole.same_length in
+    let mid = pairing_kept _ _ _ _ _ _ _ _ _ pre _ _ _ looped.loop.invariant.0 _ whole.beyond whole.same_length in
     let lacking = again.refilled2.ensures in
-    let now = pairing-kept _ _ _ _ _ _ _ _ _ pre _ _ _ mid _ lacking.beyond lacking.same_length in (
-      pairing-ready _ _ _ _ _ _ _ _ _ pre _ _ _ now tested.loop-test.true,
+    let now = pairing_kept _ _ _ _ _ _ _ _ _ pre _ _ _ mid _ lacking.beyond lacking.same_length in (
+      pairing_ready _ _ _ _ _ _ _ _ _ pre _ _ _ now tested.loop-test.true,
       record {
-        with-record = rw c.before.next-split.ensures (knows-next _ _ _ _ _ _ _ whole.knows whole.some);
-        without-record = rw c.next-split2.ensures (knows-next _ _ _ _ _ _ _ lacking.knows lacking.some);
+        with_record = rw c.before.next-split.ensures (knows_next _ _ _ _ _ _ _ whole.knows whole.some);
+        without_record = rw c.next-split2.ensures (knows_next _ _ _ _ _ _ _ lacking.knows lacking.some);
       },
     )
 
@@ -122,13 +122,13 @@ returns c =
     let looped = tested.before in
     let filled = looped.before.before.before.before.before in
     let start = filled.before.before.before.before in
-    let pre = pairing-cleared _ 0 _ _ _ _ _ _ _ start.requires _ filled.fill-part.ensures in
+    let pre = pairing_cleared _ 0 _ _ _ _ _ _ _ start.requires _ filled.fill-part.ensures in
     let whole = asked.refilled.ensures in
-    let mid = pairing-kept _ _ _ _ _ _ _ _ _ pre _ _ _ looped.loop.invariant.0 _ whole.beyond whole.same_length in
+    let mid = pairing_kept _ _ _ _ _ _ _ _ _ pre _ _ _ looped.loop.invariant.0 _ whole.beyond whole.same_length in
     let lacking = again.refilled2.ensures in
-    let now = pairing-kept _ _ _ _ _ _ _ _ _ pre _ _ _ mid _ lacking.beyond lacking.same_length in
-    pairing-before _ _ _ _ _ _ _ _ _ start.requires _ _ _ filled.fill-part.ensures
-    (pairing-over _ _ _ _ _ _ _ _ _ pre _ _ _ now tested.loop-test.true _ (rw c.enum_told.given.1 at done.strike-both.ensures))
+    let now = pairing_kept _ _ _ _ _ _ _ _ _ pre _ _ _ mid _ lacking.beyond lacking.same_length in
+    pairing_before _ _ _ _ _ _ _ _ _ start.requires _ _ _ filled.fill-part.ensures
+    (pairing_over _ _ _ _ _ _ _ _ _ pre _ _ _ now tested.loop-test.true _ (rw c.enum_told.given.1 at done.strike-both.ensures))
 
 later-splits-requires : tie.Need-later-splits-requires invariant-loop decreases-loop
 later-splits-requires c κs = c.before.before.before.before.before.before.before.before.before.before.before.before.before.before.before.refilled.ensures.some
@@ -145,12 +145,12 @@ add-pairs c =
     let looped = tested.before in
     let filled = looped.before.before.before.before.before in
     let start = filled.before.before.before.before in
-    let pre = pairing-cleared _ 0 _ _ _ _ _ _ _ start.requires _ filled.fill-part.ensures in
+    let pre = pairing_cleared _ 0 _ _ _ _ _ _ _ start.requires _ filled.fill-part.ensures in
     let whole = asked.refilled.ensures in
-    let mid = pairing-kept _ _ _ _ _ _ _ _ _ pre _ _ _ looped.loop.invariant.0 _ whole.beyond whole.same_length in
+    let mid = pairing_kept _ _ _ _ _ _ _ _ _ pre _ _ _ looped.loop.invariant.0 _ whole.beyond whole.same_length in
     let lacking = again.refilled2.ensures in
-    let now = pairing-kept _ _ _ _ _ _ _ _ _ pre _ _ _ mid _ lacking.beyond lacking.same_length in
-    omega (arith, pairing-small _ _ _ _ _ _ _ _ _ pre _ _ _ now tested.loop-test.true _ _ (rw c.before.before.before.k.given.1 at done.strike-both.ensures))
+    let now = pairing_kept _ _ _ _ _ _ _ _ _ pre _ _ _ mid _ lacking.beyond lacking.same_length in
+    omega (arith, pairing_small _ _ _ _ _ _ _ _ _ pre _ _ _ now tested.loop-test.true _ _ (rw c.before.before.before.k.given.1 at done.strike-both.ensures))
 
 add-source : tie.Need-overflow-add-source invariant-loop decreases-loop
 add-source c = let tested = c.before.before.before.before.before.before.before.before.before.before.before.before.before.before.before.before.before.before.before in omega (arith, tested.loop-test.true, tested.before.before.before.before.before.before.before.before.before.before.ranges.n)
@@ -167,14 +167,14 @@ loop-again c =
     let looped = tested.before in
     let filled = looped.before.before.before.before.before in
     let start = filled.before.before.before.before in
-    let pre = pairing-cleared _ 0 _ _ _ _ _ _ _ start.requires _ filled.fill-part.ensures in
+    let pre = pairing_cleared _ 0 _ _ _ _ _ _ _ start.requires _ filled.fill-part.ensures in
     let whole = asked.refilled.ensures in
-    let mid = pairing-kept _ _ _ _ _ _ _ _ _ pre _ _ _ looped.loop.invariant.0 _ whole.beyond whole.same_length in
+    let mid = pairing_kept _ _ _ _ _ _ _ _ _ pre _ _ _ looped.loop.invariant.0 _ whole.beyond whole.same_length in
     let lacking = again.refilled2.ensures in
-    let now = pairing-kept _ _ _ _ _ _ _ _ _ pre _ _ _ mid _ lacking.beyond lacking.same_length in (
-      pairing-more _ _ _ _ _ _ _ _ _ pre _ _ _ now tested.loop-test.true _ _ (rw c.before.before.before.k.given.1 at done.strike-both.ensures),
-      rw c.before.later-splits.ensures (knows-later _ _ _ _ _ _ _ whole.knows whole.some),
-      rw c.later-splits2.ensures (knows-later _ _ _ _ _ _ _ lacking.knows lacking.some),
+    let now = pairing_kept _ _ _ _ _ _ _ _ _ pre _ _ _ mid _ lacking.beyond lacking.same_length in (
+      pairing_more _ _ _ _ _ _ _ _ _ pre _ _ _ now tested.loop-test.true _ _ (rw c.before.before.before.k.given.1 at done.strike-both.ensures),
+      rw c.before.later-splits.ensures (knows_later _ _ _ _ _ _ _ whole.knows whole.some),
+      rw c.later-splits2.ensures (knows_later _ _ _ _ _ _ _ lacking.knows lacking.some),
     )
 
 same-length-2 : tie.Need-same-length-2 invariant-loop decreases-loop
@@ -187,9 +187,9 @@ returns-2 c =
     let looped = c.before in
     let filled = looped.before.before.before.before.before in
     let start = filled.before.before.before.before in
-    let pre = pairing-cleared _ 0 _ _ _ _ _ _ _ start.requires _ filled.fill-part.ensures in
-    pairing-before _ _ _ _ _ _ _ _ _ start.requires _ _ _ filled.fill-part.ensures
-    (pairing-all _ _ _ _ _ _ _ _ _ pre _ _ _ looped.loop.invariant.0 (omega arith))
+    let pre = pairing_cleared _ 0 _ _ _ _ _ _ _ start.requires _ filled.fill-part.ensures in
+    pairing_before _ _ _ _ _ _ _ _ _ start.requires _ _ _ filled.fill-part.ensures
+    (pairing_all _ _ _ _ _ _ _ _ _ pre _ _ _ looped.loop.invariant.0 (omega arith))
 
 pub strike-roomy-spec : {M : Type 1} → statement M
 strike-roomy-spec =

@@ -6,18 +6,18 @@ use mathlib.Core.Path.{◌∙◌}
 use native.Mathlib.Omega.{arith}
 use borrow.Author.Rules.{rules}
 use Rattle.temporal.specs.Plan.{units}
-use Rattle.temporal.specs.Struck.{lackingRecord}
+use Rattle.temporal.specs.Struck.{lacking_record}
 use Rattle.walks.proofs.Accepted.{accepted}
 use Rattle.forward.specs.Passed.{Knows}
-use Rattle.forward.proofs.WidthLaws.{knows-none, knows-next, knows-later}
-use Rattle.struck.proofs.StrikeLaws.{Striking, striking-room, striking-cleared, striking-none, striking-refill, striking-kept}
-use Rattle.struck.proofs.StrikeLaws.{striking-ready, striking-over, striking-small, striking-more, striking-all, struck-cleared}
+use Rattle.forward.proofs.WidthLaws.{knows_none, knows_next, knows_later}
+use Rattle.struck.proofs.StrikeLaws.{Striking, striking_room, striking_cleared, striking_none, striking_refill, striking_kept}
+use Rattle.struck.proofs.StrikeLaws.{striking_ready, striking_over, striking_small, striking_more, striking_all, struck_cleared}
 use Rattle.struck.proofs.strike_sources.Statement.{statement}
 use Rattle.struck.proofs.strike_sources.Tie as tie
 
 abbrev invariant-loop : tie.invariant-loop
 invariant-loop work₀ plan out n t g h depth base block splits₀ pairs₀ source₀ work splits pairs source =
-    Striking plan out n t (units g h) base work₀ source work pairs × Knows (lackingRecord plan out) n t (units g h) source n splits
+    Striking plan out n t (units g h) base work₀ source work pairs × Knows (lacking_record plan out) n t (units g h) source n splits
 
 abbrev decreases-loop : tie.decreases-loop
 decreases-loop work₀ plan out n t g h depth base block splits₀ pairs₀ source₀ work splits pairs source = n - source
@@ -26,7 +26,7 @@ mul-fill-part : tie.Need-overflow-mul-fill-part invariant-loop decreases-loop
 mul-fill-part c = omega (arith, (accepted _ _ _ c.before.before.before.requires.asked.accepted).stations)
 
 fill-part-requires : tie.Need-fill-part-requires invariant-loop decreases-loop
-fill-part-requires c κs = striking-room _ 0 _ _ _ _ _ _ _ c.before.before.before.requires
+fill-part-requires c κs = striking_room _ 0 _ _ _ _ _ _ _ c.before.before.before.requires
 
 no-splits-requires : tie.Need-no-splits-requires invariant-loop decreases-loop
 no-splits-requires c κs = search rules
@@ -35,15 +35,15 @@ loop-holds : tie.Need-loop-init invariant-loop decreases-loop
 loop-holds c =
     let filled = c.before.before.before in
     let start = filled.before.before.before.before in
-    (striking-none _ _ _ _ _ _ _ _ _ start.requires _ filled.fill-part.ensures, rw c.no-splits.ensures (knows-none _ _ _ _ _ _ (omega arith)))
+    (striking_none _ _ _ _ _ _ _ _ _ start.requires _ filled.fill-part.ensures, rw c.no-splits.ensures (knows_none _ _ _ _ _ _ (omega arith)))
 
 refilled-requires : tie.Need-refilled-requires invariant-loop decreases-loop
 refilled-requires c κs =
     let looped = c.before.before in
     let filled = looped.before.before.before.before in
     let start = filled.before.before.before.before in
-    let pre = striking-cleared _ 0 _ _ _ _ _ _ _ start.requires _ filled.fill-part.ensures in
-    striking-refill _ _ _ _ _ _ _ _ _ pre _ _ _ looped.loop.invariant.0 c.before.loop-test.true _ looped.loop.invariant.1
+    let pre = striking_cleared _ 0 _ _ _ _ _ _ _ start.requires _ filled.fill-part.ensures in
+    striking_refill _ _ _ _ _ _ _ _ _ pre _ _ _ looped.loop.invariant.0 c.before.loop-test.true _ looped.loop.invariant.1
 
 next-split-requires : tie.Need-next-split-requires invariant-loop decreases-loop
 next-split-requires c κs = search rules
@@ -55,11 +55,11 @@ strike-source-requires c κs =
     let looped = tested.before in
     let filled = looped.before.before.before.before in
     let start = filled.before.before.before.before in
-    let pre = striking-cleared _ 0 _ _ _ _ _ _ _ start.requires _ filled.fill-part.ensures in
+    let pre = striking_cleared _ 0 _ _ _ _ _ _ _ start.requires _ filled.fill-part.ensures in
     let knows = asked.refilled.ensures in
-    let now = striking-kept _ _ _ _ _ _ _ _ _ pre _ _ _ looped.loop.invariant.0 _ knows.beyond knows.same_length in (
-      striking-ready _ _ _ _ _ _ _ _ _ pre _ _ _ now tested.loop-test.true,
-      rw c.before.next-split.ensures (knows-next _ _ _ _ _ _ _ knows.knows knows.some),
+    let now = striking_kept _ _ _ _ _ _ _ _ _ pre _ _ _ looped.loop.invariant.0 _ knows.beyond knows.same_length in (
+      striking_ready _ _ _ _ _ _ _ _ _ pre _ _ _ now tested.loop-test.true,
+      rw c.before.next-split.ensures (knows_next _ _ _ _ _ _ _ knows.knows knows.some),
     )
 
 enum-known-k : tie.Need-enum-known-k invariant-loop decreases-loop
@@ -85,11 +85,11 @@ returns c =
     let looped = tested.before in
     let filled = looped.before.before.before.before in
     let start = filled.before.before.before.before in
-    let pre = striking-cleared _ 0 _ _ _ _ _ _ _ start.requires _ filled.fill-part.ensures in
+    let pre = striking_cleared _ 0 _ _ _ _ _ _ _ start.requires _ filled.fill-part.ensures in
     let knows = asked.refilled.ensures in
-    let now = striking-kept _ _ _ _ _ _ _ _ _ pre _ _ _ looped.loop.invariant.0 _ knows.beyond knows.same_length in
-    struck-cleared _ _ _ _ _ _ _ _ _ start.requires _ _ _ filled.fill-part.ensures
-    (striking-over _ _ _ _ _ _ _ _ _ pre _ _ _ now tested.loop-test.true _ (rw c.enum_told.given.1 at done.strike-source.ensures))
+    let now = striking_kept _ _ _ _ _ _ _ _ _ pre _ _ _ looped.loop.invariant.0 _ knows.beyond knows.same_length in
+    struck_cleared _ _ _ _ _ _ _ _ _ start.requires _ _ _ filled.fill-part.ensures
+    (striking_over _ _ _ _ _ _ _ _ _ pre _ _ _ now tested.loop-test.true _ (rw c.enum_told.given.1 at done.strike-source.ensures))
 
 later-splits-requires : tie.Need-later-splits-requires invariant-loop decreases-loop
 later-splits-requires c κs = c.before.before.before.before.before.before.before.before.before.before.refilled.ensures.some
@@ -102,10 +102,10 @@ add-pairs c =
     let looped = tested.before in
     let filled = looped.before.before.before.before in
     let start = filled.before.before.before.before in
-    let pre = striking-cleared _ 0 _ _ _ _ _ _ _ start.requires _ filled.fill-part.ensures in
+    let pre = striking_cleared _ 0 _ _ _ _ _ _ _ start.requires _ filled.fill-part.ensures in
     let knows = asked.refilled.ensures in
-    let now = striking-kept _ _ _ _ _ _ _ _ _ pre _ _ _ looped.loop.invariant.0 _ knows.beyond knows.same_length in
-    omega (arith, striking-small _ _ _ _ _ _ _ _ _ pre _ _ _ now tested.loop-test.true _ _ (rw c.before.before.k.given.1 at done.strike-source.ensures))
+    let now = striking_kept _ _ _ _ _ _ _ _ _ pre _ _ _ looped.loop.invariant.0 _ knows.beyond knows.same_length in
+    omega (arith, striking_small _ _ _ _ _ _ _ _ _ pre _ _ _ now tested.loop-test.true _ _ (rw c.before.before.k.given.1 at done.strike-source.ensures))
 
 add-source : tie.Need-overflow-add-source invariant-loop decreases-loop
 add-source c = let tested = c.before.before.before.before.before.before.before.before.before.before.before.before.before in omega (arith, tested.loop-test.true, tested.before.before.before.before.before.before.before.before.before.ranges.n)
@@ -121,11 +121,11 @@ loop-again c =
     let looped = tested.before in
     let filled = looped.before.before.before.before in
     let start = filled.before.before.before.before in
-    let pre = striking-cleared _ 0 _ _ _ _ _ _ _ start.requires _ filled.fill-part.ensures in
+    let pre = striking_cleared _ 0 _ _ _ _ _ _ _ start.requires _ filled.fill-part.ensures in
     let knows = asked.refilled.ensures in
-    let now = striking-kept _ _ _ _ _ _ _ _ _ pre _ _ _ looped.loop.invariant.0 _ knows.beyond knows.same_length in (
-      striking-more _ _ _ _ _ _ _ _ _ pre _ _ _ now tested.loop-test.true _ _ (rw c.before.before.k.given.1 at done.strike-source.ensures),
-      rw c.later-splits.ensures (knows-later _ _ _ _ _ _ _ knows.knows knows.some),
+    let now = striking_kept _ _ _ _ _ _ _ _ _ pre _ _ _ looped.loop.invariant.0 _ knows.beyond knows.same_length in (
+      striking_more _ _ _ _ _ _ _ _ _ pre _ _ _ now tested.loop-test.true _ _ (rw c.before.before.k.given.1 at done.strike-source.ensures),
+      rw c.later-splits.ensures (knows_later _ _ _ _ _ _ _ knows.knows knows.some),
     )
 
 same-length-2 : tie.Need-same-length-2 invariant-loop decreases-loop
@@ -138,9 +138,9 @@ returns-2 c =
     let looped = c.before in
     let filled = looped.before.before.before.before in
     let start = filled.before.before.before.before in
-    let pre = striking-cleared _ 0 _ _ _ _ _ _ _ start.requires _ filled.fill-part.ensures in
-    struck-cleared _ _ _ _ _ _ _ _ _ start.requires _ _ _ filled.fill-part.ensures
-    (striking-all _ _ _ _ _ _ _ _ _ pre _ _ _ looped.loop.invariant.0 (omega arith))
+    let pre = striking_cleared _ 0 _ _ _ _ _ _ _ start.requires _ filled.fill-part.ensures in
+    struck_cleared _ _ _ _ _ _ _ _ _ start.requires _ _ _ filled.fill-part.ensures
+    (striking_all _ _ _ _ _ _ _ _ _ pre _ _ _ looped.loop.invariant.0 (omega arith))
 
 pub strike-sources-spec : {M : Type 1} → statement M
 strike-sources-spec =

@@ -1,7 +1,7 @@
 -- `struck::struck_accepted` meets its contract.
 -- Assumes nothing.
-use Rattle.calls.proofs.CallLaws.{terms-free-by}
-use Rattle.struck.proofs.StruckLaws.{struck-terms}
+use Rattle.calls.proofs.CallLaws.{terms_free_by}
+use Rattle.struck.proofs.StruckLaws.{struck_terms}
 use borrow.Author.Rules.{rules}
 use Rattle.struck.proofs.struck_accepted.Statement.{statement}
 use Rattle.struck.proofs.struck_accepted.Tie as tie
@@ -16,7 +16,7 @@ enum_told : tie.Need-enum-told
 enum_told c = search rules
 
 struck-asked-requires : tie.Need-struck-asked-requires
-struck-asked-requires c κs = (c.before.before.before.before.before.before.before.requires, terms-free-by _ _ c.before.before.before.before.terms-call.ensures c.before.before.enum_told.given.1)
+struck-asked-requires c κs = (c.before.before.before.before.before.before.before.requires, terms_free_by _ _ c.before.before.before.before.terms-call.ensures c.before.before.enum_told.given.1)
 
 same_length : tie.Need-same-length
 same_length c = search rules
@@ -28,7 +28,7 @@ returns : tie.Need-returns
 returns c = search rules
 
 returns-2 : tie.Need-returns-2
-returns-2 c = struck-terms _ _ _ _ _ _ _ c.before.before.before.before.before.before.requires _ c.before.before.before.terms-call.ensures _ c.before.fault.given.1
+returns-2 c = struck_terms _ _ _ _ _ _ _ c.before.before.before.before.before.before.requires _ c.before.before.before.terms-call.ensures _ c.before.fault.given.1
 
 pub struck-accepted-spec : {M : Type 1} → statement M
 struck-accepted-spec =

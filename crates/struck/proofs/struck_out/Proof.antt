@@ -1,8 +1,8 @@
 -- `struck::struck_out` meets its contract.
 -- Assumes nothing.
 use mathlib.Core.Path.{sym, ap, ◌∙◌}
-use Rattle.plan.specs.Fault.{checkNumber}
-use Rattle.struck.proofs.StruckLaws.{struck-plan}
+use Rattle.plan.specs.Fault.{check_number}
+use Rattle.struck.proofs.StruckLaws.{struck_plan}
 use borrow.Author.Rules.{rules}
 use Rattle.struck.proofs.struck_out.Statement.{statement}
 use Rattle.struck.proofs.struck_out.Tie as tie
@@ -17,7 +17,7 @@ enum_told : tie.Need-enum-told
 enum_told c = search rules
 
 struck-accepted-requires : tie.Need-struck-accepted-requires
-struck-accepted-requires c κs = sym c.before.before.before.before.check.ensures ∙ ap checkNumber c.before.before.enum_told.given.1
+struck-accepted-requires c κs = sym c.before.before.before.before.check.ensures ∙ ap check_number c.before.before.enum_told.given.1
 
 same_length : tie.Need-same-length
 same_length c = search rules
@@ -29,7 +29,7 @@ returns : tie.Need-returns
 returns c = search rules
 
 returns-2 : tie.Need-returns-2
-returns-2 c = struck-plan _ _ _ _ _ _ _ _ _ c.before.before.before.check.ensures c.before.fault.given.1
+returns-2 c = struck_plan _ _ _ _ _ _ _ _ _ c.before.before.before.check.ensures c.before.fault.given.1
 
 pub struck-out-spec : {M : Type 1} → statement M
 struck-out-spec =

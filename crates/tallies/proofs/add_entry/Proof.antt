@@ -6,9 +6,9 @@ use native.Mathlib.Omega.{arith}
 use mathlib.Core.Path.{sym, ap, ◌∙◌}
 use borrow.Author.Rules.{rules}
 use Rattle.tallies.specs.Progress.{rows_of}
-use Rattle.tallies.proofs.LaneLaws.{entry-small, fewer-left}
-use Rattle.tallies.proofs.LoopLaws.{entry_place, entry-skipped, Running, running_none, running-addable, running_more, running-length}
-use Rattle.tallies.proofs.LoopLaws.{running-all}
+use Rattle.tallies.proofs.LaneLaws.{entry_small, fewer_left}
+use Rattle.tallies.proofs.LoopLaws.{entry_place, entry_skipped, Running, running_none, running_addable, running_more, running_length}
+use Rattle.tallies.proofs.LoopLaws.{running_all}
 use Rattle.tallies.proofs.add_entry.Statement.{statement}
 use Rattle.tallies.proofs.add_entry.Tie as tie
 
@@ -38,13 +38,13 @@ slice-read-if1 : tie.Need-slice-read-if1 invariant-loop decreases-loop
 slice-read-if1 c = let k = c.before.before in entry_place _ _ _ _ _ _ _ _ _ k.requires
 
 returns : tie.Need-returns invariant-loop decreases-loop
-returns c = entry-skipped _ _ _ _ _ _ _ _ _ c.before.before.before.requires (omega arith)
+returns c = entry_skipped _ _ _ _ _ _ _ _ _ c.before.before.before.requires (omega arith)
 
 add-columns-of : tie.Need-overflow-add-columns-of invariant-loop decreases-loop
-add-columns-of c = let k = c.before.before.before in omega (arith, entry-small k.requires (omega (arith, k.well-formed.0)))
+add-columns-of c = let k = c.before.before.before in omega (arith, entry_small k.requires (omega (arith, k.well-formed.0)))
 
 columns-of-requires : tie.Need-columns-of-requires invariant-loop decreases-loop
-columns-of-requires c κs = let k = c.before.before.before in (k.requires.working.few, omega (arith, entry-small k.requires (omega (arith, k.well-formed.0))))
+columns-of-requires c κs = let k = c.before.before.before in (k.requires.working.few, omega (arith, entry_small k.requires (omega (arith, k.well-formed.0))))
 
 smaller-requires : tie.Need-smaller-requires invariant-loop decreases-loop
 smaller-requires c κs = search rules
@@ -52,7 +52,7 @@ smaller-requires c κs = search rules
 columns-of-requires-2 : tie.Need-columns-of-requires-2 invariant-loop decreases-loop
 columns-of-requires-2 c κs =
     let k = c.before.before.before.before.before in
-    (k.requires.working.few, omega (arith, entry-small k.requires (omega (arith, k.well-formed.0))))
+    (k.requires.working.few, omega (arith, entry_small k.requires (omega (arith, k.well-formed.0))))
 
 loop-holds : tie.Need-loop-init invariant-loop decreases-loop
 loop-holds c =
@@ -64,13 +64,13 @@ add-pair-requires : tie.Need-add-pair-requires invariant-loop decreases-loop
 add-pair-requires c κs =
     let loop = c.before.before in
     let start = loop.before.before.before.before.before.before.before in
-    running-addable _ _ _ _ _ _ _ _ _ start.requires _ _ _ loop.loop.invariant (omega arith)
+    running_addable _ _ _ _ _ _ _ _ _ start.requires _ _ _ loop.loop.invariant (omega arith)
 
 add-j : tie.Need-overflow-add-j invariant-loop decreases-loop
 add-j c = omega arith
 
 loop-less : tie.Need-loop-smaller invariant-loop decreases-loop
-loop-less c = fewer-left _ _ (omega arith)
+loop-less c = fewer_left _ _ (omega arith)
 
 loop-again : tie.Need-loop-preserved invariant-loop decreases-loop
 loop-again c =
@@ -83,13 +83,13 @@ same_length : tie.Need-same-length invariant-loop decreases-loop
 same_length c =
     let loop = c.before in
     let start = loop.before.before.before.before.before.before.before in
-    running-length _ _ _ _ _ _ _ _ _ start.requires _ _ _ loop.loop.invariant
+    running_length _ _ _ _ _ _ _ _ _ start.requires _ _ _ loop.loop.invariant
 
 returns-2 : tie.Need-returns-2 invariant-loop decreases-loop
 returns-2 c =
     let loop = c.before in
     let start = loop.before.before.before.before.before.before.before in
-    running-all _ _ _ _ _ _ _ _ _ start.requires _ _ _ loop.loop.invariant (omega arith)
+    running_all _ _ _ _ _ _ _ _ _ start.requires _ _ _ loop.loop.invariant (omega arith)
 
 pub add-entry-spec : {M : Type 1} → statement M
 add-entry-spec =

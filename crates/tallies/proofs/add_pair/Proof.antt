@@ -4,8 +4,8 @@
 use native.Mathlib.Omega.{arith}
 use mathlib.Core.Path.{sym}
 use lib.ListN.{length-set}
-use Rattle.tallies.proofs.LaneLaws.{column-within, rows_before}
-use Rattle.tallies.proofs.AddLaws.{added-destination, added_none, added-some, whole-share}
+use Rattle.tallies.proofs.LaneLaws.{column_within, rows_before}
+use Rattle.tallies.proofs.AddLaws.{added_destination, added_none, added_some, whole_share}
 use borrow.Author.Rules.{rules}
 use Rattle.tallies.proofs.add_pair.Statement.{statement}
 use Rattle.tallies.proofs.add_pair.Tie as tie
@@ -14,7 +14,7 @@ add-v : tie.Need-overflow-add-v
 add-v c = search rules
 
 returns : tie.Need-returns
-returns c = added-destination _ _ _ _ _ _ _ _ (omega arith)
+returns c = added_destination _ _ _ _ _ _ _ _ (omega arith)
 
 add-count : tie.Need-overflow-add-count
 add-count c = search rules
@@ -35,7 +35,7 @@ add_row : tie.Need-overflow-add-row
 add_row c = let k = c.before.before.before in omega (arith, rows_before k.requires, k.requires.room.area, k.requires.room.fits, k.well-formed.0.0)
 
 column-requires : tie.Need-column-requires
-column-requires c κs = let k = c.before.before.before.before in column-within k.requires (omega (arith, rows_before k.requires, k.requires.room.area, k.requires.room.fits, k.well-formed.0))
+column-requires c κs = let k = c.before.before.before.before in column_within k.requires (omega (arith, rows_before k.requires, k.requires.room.area, k.requires.room.fits, k.well-formed.0))
 
 sub-through : tie.Need-overflow-sub-through
 sub-through c = rw c.column.ensures (c.before.before.before.before.before.requires.row (omega arith))
@@ -64,9 +64,9 @@ slice-read-sum c = search rules
 share-requires : tie.Need-share-requires
 share-requires c κs = search rules
 
-add-sum : tie.Need-overflow-add-sum
-add-sum c =
-    omega (arith, whole-share _ _ _ c.share.ensures (omega arith))
+add_sum : tie.Need-overflow-add-sum
+add_sum c =
+    omega (arith, whole_share _ _ _ c.share.ensures (omega arith))
 
 mul-work : tie.Need-overflow-mul-work
 mul-work c = search rules
@@ -93,7 +93,7 @@ same-length-2 : tie.Need-same-length-2
 same-length-2 c = search rules
 
 returns-3 : tie.Need-returns-3
-returns-3 c = added-some _ _ _ _ _ _ _ _ (omega arith) (omega (arith, c.before.before.before.before.column.ensures)) _ (rw c.before.before.before.before.column.ensures at c.before.share.ensures)
+returns-3 c = added_some _ _ _ _ _ _ _ _ (omega arith) (omega (arith, c.before.before.before.before.column.ensures)) _ (rw c.before.before.before.before.column.ensures at c.before.share.ensures)
 
 pub add-pair-spec : {M : Type 1} → statement M
 add-pair-spec =
@@ -117,7 +117,7 @@ add-pair-spec =
     mul-sum
     slice-read-sum
     share-requires
-    add-sum
+    add_sum
     mul-work
     slice-read-work
     add-work

@@ -4,8 +4,8 @@
 use Prim.Native.Nat.{◌-◌}
 use native.Mathlib.Omega.{arith}
 use Rattle.tallies.specs.Progress.{rows_of}
-use Rattle.tallies.proofs.LoopLaws.{row-self, row-unreached, row_count, Entering, entering-none, entering-workable, entering-more}
-use Rattle.tallies.proofs.LoopLaws.{entering-length, entering-all}
+use Rattle.tallies.proofs.LoopLaws.{row_self, row_unreached, row_count, Entering, entering_none, entering_workable, entering_more}
+use Rattle.tallies.proofs.LoopLaws.{entering_length, entering_all}
 use Rattle.tallies.proofs.add_row.Statement.{statement}
 use Rattle.tallies.proofs.add_row.Tie as tie
 
@@ -16,7 +16,7 @@ abbrev decreases-loop : tie.decreases-loop
 decreases-loop work₀ n base source low block split stations z all e₀ work e = block - e
 
 returns : tie.Need-returns invariant-loop decreases-loop
-returns c = row-self _ _ _ _ _ _ _ (omega arith)
+returns c = row_self _ _ _ _ _ _ _ (omega arith)
 
 mul-if2 : tie.Need-overflow-mul-if2 invariant-loop decreases-loop
 mul-if2 c = omega arith
@@ -25,7 +25,7 @@ slice-read-if2 : tie.Need-slice-read-if2 invariant-loop decreases-loop
 slice-read-if2 c = let k = c.before.before.before.requires.0.working.room in omega (arith, k.area, k.fits)
 
 returns-2 : tie.Need-returns-2 invariant-loop decreases-loop
-returns-2 c = row-unreached _ _ _ _ _ _ _ (omega arith) (omega arith)
+returns-2 c = row_unreached _ _ _ _ _ _ _ (omega arith) (omega arith)
 
 full-entry-requires : tie.Need-full-entry-requires invariant-loop decreases-loop
 full-entry-requires c κs =
@@ -33,13 +33,13 @@ full-entry-requires c κs =
     row_count _ _ _ _ _ _ _ start.requires.0 (omega arith) (omega arith)
 
 loop-holds : tie.Need-loop-init invariant-loop decreases-loop
-loop-holds c = entering-none _ _ _ _ _ _ _
+loop-holds c = entering_none _ _ _ _ _ _ _
 
 add-entry-requires : tie.Need-add-entry-requires invariant-loop decreases-loop
 add-entry-requires c κs =
     let loop = c.before.before in
     let start = loop.before.before.before.before.before.before.before in
-    entering-workable _ _ _ _ _ _ _ _ _ loop.loop.invariant start.requires.0 _ (omega arith) (omega arith) (omega arith) (omega arith)
+    entering_workable _ _ _ _ _ _ _ _ _ loop.loop.invariant start.requires.0 _ (omega arith) (omega arith) (omega arith) (omega arith)
     loop.before.full-entry.ensures
 
 add-e : tie.Need-overflow-add-e invariant-loop decreases-loop
@@ -53,19 +53,19 @@ loop-again c =
     let added = c.before.before in
     let loop = added.before.before.before in
     let start = loop.before.before.before.before.before.before.before in
-    entering-more _ _ _ _ _ _ _ _ _ loop.loop.invariant start.requires.0 _ (omega arith) added.add-entry.ensures
+    entering_more _ _ _ _ _ _ _ _ _ loop.loop.invariant start.requires.0 _ (omega arith) added.add-entry.ensures
 
 same_length : tie.Need-same-length invariant-loop decreases-loop
 same_length c =
     let loop = c.before in
     let start = loop.before.before.before.before.before.before.before in
-    entering-length _ _ _ _ _ _ _ _ _ loop.loop.invariant start.requires.0
+    entering_length _ _ _ _ _ _ _ _ _ loop.loop.invariant start.requires.0
 
 returns-3 : tie.Need-returns-3 invariant-loop decreases-loop
 returns-3 c =
     let loop = c.before in
     let start = loop.before.before.before.before.before.before.before in
-    entering-all _ _ _ _ _ _ _ _ _ loop.loop.invariant start.requires.0 (omega arith)
+    entering_all _ _ _ _ _ _ _ _ _ loop.loop.invariant start.requires.0 (omega arith)
 
 pub add-row-spec : {M : Type 1} → statement M
 add-row-spec =

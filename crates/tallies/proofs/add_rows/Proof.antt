@@ -4,8 +4,8 @@
 use Prim.Native.Nat.{◌-◌}
 use native.Mathlib.Omega.{arith}
 use Rattle.tallies.specs.Progress.{rows_of}
-use Rattle.tallies.proofs.LoopLaws.{Sweeping, sweeping-none, sweeping-workable, sweeping-more, sweeping-length}
-use Rattle.tallies.proofs.LoopLaws.{sweeping-all}
+use Rattle.tallies.proofs.LoopLaws.{Sweeping, sweeping_none, sweeping_workable, sweeping_more, sweeping_length}
+use Rattle.tallies.proofs.LoopLaws.{sweeping_all}
 use Rattle.tallies.proofs.add_rows.Statement.{statement}
 use Rattle.tallies.proofs.add_rows.Tie as tie
 
@@ -17,10 +17,10 @@ abbrev decreases-loop : tie.decreases-loop
 decreases-loop work₀ n base source low block split stations z₀ work z = n - z
 
 loop-holds : tie.Need-loop-init invariant-loop decreases-loop
-loop-holds c = sweeping-none _ _ _ _ _ _
+loop-holds c = sweeping_none _ _ _ _ _ _
 
 add-row-requires : tie.Need-add-row-requires invariant-loop decreases-loop
-add-row-requires c κs = (sweeping-workable _ _ _ _ _ _ _ _ c.before.before.loop.invariant c.before.before.before.before.requires, omega arith)
+add-row-requires c κs = (sweeping_workable _ _ _ _ _ _ _ _ c.before.before.loop.invariant c.before.before.before.before.requires, omega arith)
 
 add-z : tie.Need-overflow-add-z invariant-loop decreases-loop
 add-z c = omega arith
@@ -29,13 +29,13 @@ loop-less : tie.Need-loop-smaller invariant-loop decreases-loop
 loop-less c = omega arith
 
 loop-again : tie.Need-loop-preserved invariant-loop decreases-loop
-loop-again c = sweeping-more _ _ _ _ _ _ _ _ c.before.before.before.before.before.loop.invariant (omega arith) _ c.before.before.add_row.ensures
+loop-again c = sweeping_more _ _ _ _ _ _ _ _ c.before.before.before.before.before.loop.invariant (omega arith) _ c.before.before.add_row.ensures
 
 same_length : tie.Need-same-length invariant-loop decreases-loop
-same_length c = sweeping-length _ _ _ _ _ _ _ _ c.before.loop.invariant c.before.before.before.requires
+same_length c = sweeping_length _ _ _ _ _ _ _ _ c.before.loop.invariant c.before.before.before.requires
 
 returns : tie.Need-returns invariant-loop decreases-loop
-returns c = sweeping-all _ _ _ _ _ _ _ _ c.before.loop.invariant (omega arith)
+returns c = sweeping_all _ _ _ _ _ _ _ _ c.before.loop.invariant (omega arith)
 
 pub add-rows-spec : {M : Type 1} → statement M
 add-rows-spec =

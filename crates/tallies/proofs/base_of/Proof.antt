@@ -1,8 +1,8 @@
 -- `tallies::base_of` meets its contract.
 -- Assumes nothing.
 use native.Mathlib.Omega.{arith}
-use Rattle.tallies.specs.Tally.{tallyBase}
-use Rattle.tallies.proofs.Sizes.{base-small}
+use Rattle.tallies.specs.Tally.{tally_base}
+use Rattle.tallies.proofs.Sizes.{base_small}
 use borrow.Author.Rules.{rules}
 use Rattle.tallies.proofs.base_of.Statement.{statement}
 use Rattle.tallies.proofs.base_of.Tie as tie
@@ -17,10 +17,10 @@ sub-result : tie.Need-overflow-sub-result
 sub-result c = search rules
 
 mul-result-2 : tie.Need-overflow-mul-result-2
-mul-result-2 c = omega (arith, base-small _ _ c.requires.0 c.requires.1)
+mul-result-2 c = omega (arith, base_small _ _ c.requires.0 c.requires.1)
 
 returns : tie.Need-returns
-unfolding tallyBase
+unfolding tally_base
 returns c = search rules
 
 pub base-of-spec : {M : Type 1} → statement M

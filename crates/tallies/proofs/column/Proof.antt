@@ -2,8 +2,8 @@
 -- Assumes nothing.
 use native.Mathlib.Omega.{arith}
 use mathlib.Core.Path.{refl}
-use Rattle.pass.proofs.WidthLaws.{column-asked}
-use Rattle.tallies.proofs.LaneLaws.{column-whole, column-lane}
+use Rattle.pass.proofs.WidthLaws.{column_asked}
+use Rattle.tallies.proofs.LaneLaws.{column_whole, column_lane}
 use borrow.Author.Rules.{rules}
 use Rattle.tallies.proofs.column.Statement.{statement}
 use Rattle.tallies.proofs.column.Tie as tie
@@ -20,7 +20,7 @@ shared-slice-read-result c = let start = c.before.before.before in start.require
 returns : tie.Need-returns
 returns c =
     let a = c.before.before.before.args in
-    column-whole a.split a.row a.j a.work.now (omega arith)
+    column_whole a.split a.row a.j a.work.now (omega arith)
 
 entry-of-requires : tie.Need-entry-of-requires
 entry-of-requires c κs = search rules
@@ -47,12 +47,12 @@ shared-slice-read-lane-at c =
 lane-at-requires : tie.Need-lane-at-requires
 lane-at-requires c κs =
     let start = c.before.before.before.before.before.before in
-    column-asked _ _ _ _ start.requires.few c.before.before.width_of_lem.ensures c.before.lane_of.ensures
+    column_asked _ _ _ _ start.requires.few c.before.before.width_of_lem.ensures c.before.lane_of.ensures
 
 returns-2 : tie.Need-returns-2
 returns-2 c =
     let a = c.before.before.before.before.before.before.before.args in
-    column-lane a.split a.row a.j a.work.now (omega arith) _ _ _ _ _ c.before.before.before.before.entry_of.ensures c.before.before.before.width_of_lem.ensures
+    column_lane a.split a.row a.j a.work.now (omega arith) _ _ _ _ _ c.before.before.before.before.entry_of.ensures c.before.before.before.width_of_lem.ensures
     c.before.before.lane_of.ensures refl c.lane-at.ensures
 
 pub column-spec : {M : Type 1} → statement M

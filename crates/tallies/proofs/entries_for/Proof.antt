@@ -1,7 +1,7 @@
 -- `tallies::entries_for` meets its contract.
 -- Assumes nothing.
 use native.Mathlib.Omega.{arith}
-use Rattle.tallies.proofs.LaneLaws.{entries-asked, entries-for}
+use Rattle.tallies.proofs.LaneLaws.{entries_asked, entries_for}
 use borrow.Author.Rules.{rules}
 use Rattle.tallies.proofs.entries_for.Statement.{statement}
 use Rattle.tallies.proofs.entries_for.Tie as tie
@@ -10,10 +10,10 @@ columns-of-requires : tie.Need-columns-of-requires
 columns-of-requires c κs = search rules
 
 add-entry-of : tie.Need-overflow-add-entry-of
-add-entry-of c = let a = entries-asked _ c.before.requires.0 in omega (arith, c.columns_of.ensures, c.before.requires.1)
+add-entry-of c = let a = entries_asked _ c.before.requires.0 in omega (arith, c.columns_of.ensures, c.before.requires.1)
 
 sub-entry-of : tie.Need-overflow-sub-entry-of
-sub-entry-of c = let a = entries-asked _ c.before.requires.0 in omega (arith, c.columns_of.ensures)
+sub-entry-of c = let a = entries_asked _ c.before.requires.0 in omega (arith, c.columns_of.ensures)
 
 entry-of-requires : tie.Need-entry-of-requires
 entry-of-requires c κs = search rules
@@ -23,7 +23,7 @@ smaller-requires c κs = search rules
 
 returns : tie.Need-returns
 returns c =
-    entries-for _ _ _ _ _ c.before.before.before.requires.0 c.before.before.columns_of.ensures c.before.entry_of.ensures _ c.smaller.ensures
+    entries_for _ _ _ _ _ c.before.before.before.requires.0 c.before.before.columns_of.ensures c.before.entry_of.ensures _ c.smaller.ensures
 
 pub entries-for-spec : {M : Type 1} → statement M
 entries-for-spec =

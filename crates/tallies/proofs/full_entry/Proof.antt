@@ -3,7 +3,7 @@
 use native.Mathlib.Omega.{arith}
 use Prim.Native.Nat.{◌+◌}
 use lib.ListN.{get_or}
-use Rattle.tallies.proofs.LaneLaws.{full-whole, full-fits}
+use Rattle.tallies.proofs.LaneLaws.{full_whole, full_fits}
 use borrow.Author.Rules.{rules}
 use Rattle.tallies.proofs.full_entry.Statement.{statement}
 use Rattle.tallies.proofs.full_entry.Tie as tie
@@ -18,7 +18,7 @@ shared-slice-read-count : tie.Need-shared-slice-read-count
 shared-slice-read-count c = search rules
 
 returns : tie.Need-returns
-returns c = full-whole _ _ (omega arith)
+returns c = full_whole _ _ (omega arith)
 
 ones-of-requires : tie.Need-ones-of-requires
 ones-of-requires c κs = search rules
@@ -27,7 +27,7 @@ mul-result : tie.Need-overflow-mul-result
 mul-result c =
     let start = c.before.before.before.before in
     let a = start.args in
-    let fits = full-fits a.split (get_or a.work.now (a.n + a.z) 0) start.requires.few start.requires.fits (omega arith) in
+    let fits = full_fits a.split (get_or a.work.now (a.n + a.z) 0) start.requires.few start.requires.fits (omega arith) in
     rw c.ones-of.ensures (omega (arith, fits))
 
 returns-2 : tie.Need-returns-2

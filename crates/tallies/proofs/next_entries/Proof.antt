@@ -3,7 +3,7 @@
 use Prim.Native.Nat.{ℕ}
 use native.Mathlib.Omega.{arith}
 use mathlib.Core.Path.{◌≡◌}
-use Rattle.tallies.proofs.LaneLaws.{entries_none, entries-known}
+use Rattle.tallies.proofs.LaneLaws.{entries_none, entries_known}
 use borrow.Author.Rules.{rules}
 use Rattle.tallies.proofs.next_entries.Statement.{statement}
 use Rattle.tallies.proofs.next_entries.Tie as tie
@@ -12,7 +12,7 @@ entries-for-requires : tie.Need-entries-for-requires
 entries-for-requires c κs = search rules
 
 returns : tie.Need-returns
-returns c = entries-known _ _ _ _ _ c.entries-for.ensures
+returns c = entries_known _ _ _ _ _ c.entries_for.ensures
 
 returns-2 : tie.Need-returns-2
 returns-2 c = entries_none _ _ _ _ c.if1.false

@@ -1,13 +1,13 @@
 -- `tallies::tally_block` meets its contract: what the pass says of the counts, and the block done where it goes on.
 -- Assumes nothing.
-use Rattle.tallies.proofs.BlockLaws.{block-ready, block-over, block-wide, block-workable, block-done}
+use Rattle.tallies.proofs.BlockLaws.{block_ready, block_over, block_wide, block_workable, block_done}
 use borrow.Author.Rules.{rules}
 use Rattle.tallies.proofs.tally_block.Statement.{statement}
 use Rattle.tallies.proofs.tally_block.Tie as tie
 
 pass-packed-requires : tie.Need-pass-packed-requires
 pass-packed-requires c κs = let start = c.before.before.before in
-    (block-ready _ _ _ _ _ _ _ _ _ _ start.requires.0, start.requires.1)
+    (block_ready _ _ _ _ _ _ _ _ _ _ start.requires.0, start.requires.1)
 
 enum_told : tie.Need-enum-told
 enum_told c = search rules
@@ -17,7 +17,7 @@ add-rows-requires c κs =
     let told = c.before in
     let passed = told.before.before.before.before in
     let start = passed.before.before.before.before in
-    block-workable _ _ _ _ _ _ _ _ _ _ start.requires.0 _ _ passed.pass-packed.ensures told.enum_told.given.1
+    block_workable _ _ _ _ _ _ _ _ _ _ start.requires.0 _ _ passed.pass-packed.ensures told.enum_told.given.1
 
 same_length : tie.Need-same-length
 same_length c = search rules
@@ -28,7 +28,7 @@ returns c =
     let told = added.before.before in
     let passed = told.before.before.before.before in
     let start = passed.before.before.before.before in
-    block-done _ _ _ _ _ _ _ _ _ _ start.requires.0 _ _ passed.pass-packed.ensures told.enum_told.given.1 _ added.add-rows.ensures
+    block_done _ _ _ _ _ _ _ _ _ _ start.requires.0 _ _ passed.pass-packed.ensures told.enum_told.given.1 _ added.add-rows.ensures
 
 enum-told-2 : tie.Need-enum-told-2
 enum-told-2 c = search rules
@@ -40,7 +40,7 @@ returns-2 : tie.Need-returns-2
 returns-2 c =
     let passed = c.before.before.before.before in
     let start = passed.before.before.before.before in
-    block-over _ _ _ _ _ _ _ _ _ _ start.requires.0 _ _ passed.pass-packed.ensures c.enum-told2.given.1
+    block_over _ _ _ _ _ _ _ _ _ _ start.requires.0 _ _ passed.pass-packed.ensures c.enum-told2.given.1
 
 enum-told-3 : tie.Need-enum-told-3
 enum-told-3 c = search rules
@@ -52,7 +52,7 @@ returns-3 : tie.Need-returns-3
 returns-3 c =
     let passed = c.before.before.before.before in
     let start = passed.before.before.before.before in
-    block-wide _ _ _ _ _ _ _ _ _ _ start.requires.0 _ _ passed.pass-packed.ensures c.enum-told3.given.1
+    block_wide _ _ _ _ _ _ _ _ _ _ start.requires.0 _ _ passed.pass-packed.ensures c.enum-told3.given.1
 
 pub tally-block-spec : {M : Type 1} → statement M
 tally-block-spec =

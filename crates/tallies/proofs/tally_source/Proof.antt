@@ -8,18 +8,18 @@ use native.Mathlib.Omega.{arith}
 use borrow.Author.Rules.{rules}
 use Rattle.temporal.specs.Plan.{units}
 use Rattle.temporal.specs.Bytes.{plan_of}
-use Rattle.temporal.specs.Cause.{tooMany}
-use Rattle.temporal.specs.Struck.{lackingRecord}
-use Rattle.tallies.proofs.BlockLaws.{Blocking, blocking-none, blocking-ready, blocking-over, blocking-more, blocking-known, blocking-again}
-use Rattle.tallies.proofs.BlockLaws.{blocking-all, some-stations, known-few}
-use Rattle.tallies.proofs.LaneLaws.{fewer-passes, narrower-split}
+use Rattle.temporal.specs.Cause.{is_too_many}
+use Rattle.temporal.specs.Struck.{lacking_record}
+use Rattle.tallies.proofs.BlockLaws.{Blocking, blocking_none, blocking_ready, blocking_over, blocking_more, blocking_known, blocking_again}
+use Rattle.tallies.proofs.BlockLaws.{blocking_all, some_stations, known_few}
+use Rattle.tallies.proofs.LaneLaws.{fewer_passes, narrower_split}
 use Rattle.tallies.proofs.tally_source.Statement.{statement}
 use Rattle.tallies.proofs.tally_source.Tie as tie
 
 abbrev invariant-loop : tie.invariant-loop
 invariant-loop work₀ plan out n t g h depth base block source width known₀ split₀ low₀ work known split low =
-    (split ≤ 3) × (known ≡ true → tooMany (plan_of (lackingRecord plan out) n t (units g h)) source ≡ false) ×
-    Blocking (lackingRecord plan out) n t (units g h) base source work₀ low work
+    (split ≤ 3) × (known ≡ true → is_too_many (plan_of (lacking_record plan out) n t (units g h)) source ≡ false) ×
+    Blocking (lacking_record plan out) n t (units g h) base source work₀ low work
 
 abbrev decreases-loop : tie.decreases-loop
 decreases-loop work₀ plan out n t g h depth base block source width known₀ split₀ low₀ work known split low = 4 * (n - low) + split + cond known 0 1
@@ -30,7 +30,7 @@ first-split-requires c κs = (c.before.before.requires.0.units.most, c.before.be
 loop-holds : tie.Need-loop-init invariant-loop decreases-loop
 loop-holds c =
     let start = c.before.before.before in
-    (c.first-split.ensures, known-few _ _ _ _ _ _ start.requires.1, blocking-none _ _ _ _ _ _ _ _ _ start.requires.0)
+    (c.first-split.ensures, known_few _ _ _ _ _ _ start.requires.1, blocking_none _ _ _ _ _ _ _ _ _ start.requires.0)
 
 sub-next-entries : tie.Need-overflow-sub-next-entries invariant-loop decreases-loop
 sub-next-entries c = omega arith
@@ -56,7 +56,7 @@ tally-block-requires c κs =
     let found = smaller.before.before in
     let loop = found.before.before in
     let start = loop.before.before.before.before in (
-      blocking-ready _ _ _ _ _ _ _ _ _ start.requires.0 _ _ loop.loop.invariant.2 _ _ _ _ loop.loop.invariant.0 found.next-entries.ensures
+      blocking_ready _ _ _ _ _ _ _ _ _ start.requires.0 _ _ loop.loop.invariant.2 _ _ _ _ loop.loop.invariant.0 found.next-entries.ensures
           (rw smaller.before.columns_of.ensures at smaller.smaller.ensures) found.before.loop-test.true,
       loop.loop.invariant.1,
     )
@@ -78,7 +78,7 @@ loop-less c =
     let found = smaller.before.before in
     let loop = found.before.before in
     let start = loop.before.before.before.before in
-    fewer-passes _ _ _ _ _ (some-stations _ _ _ _ _ _ _ _ _ start.requires.0 _ _ loop.loop.invariant.2 _ _ _ _ loop.loop.invariant.0 found.next-entries.ensures
+    fewer_passes _ _ _ _ _ (some_stations _ _ _ _ _ _ _ _ _ start.requires.0 _ _ loop.loop.invariant.2 _ _ _ _ loop.loop.invariant.0 found.next-entries.ensures
     (rw smaller.before.columns_of.ensures at smaller.smaller.ensures) found.before.loop-test.true) (omega (arith, smaller.smaller.ensures))
 
 loop-again : tie.Need-loop-preserved invariant-loop decreases-loop
@@ -89,9 +89,9 @@ loop-again c =
     let start = loop.before.before.before.before in
     let done = rw c.enum_told.given.1 at c.before.before.before.before.tally-block.ensures in (
       loop.loop.invariant.0,
-      λ is. blocking-known _ _ _ _ _ _ _ _ _ start.requires.0 _ _ loop.loop.invariant.2 _ _ _ _ loop.loop.invariant.0 found.next-entries.ensures
+      λ is. blocking_known _ _ _ _ _ _ _ _ _ start.requires.0 _ _ loop.loop.invariant.2 _ _ _ _ loop.loop.invariant.0 found.next-entries.ensures
           (rw smaller.before.columns_of.ensures at smaller.smaller.ensures) found.before.loop-test.true _ done,
-      blocking-more _ _ _ _ _ _ _ _ _ start.requires.0 _ _ loop.loop.invariant.2 _ _ _ _ loop.loop.invariant.0 found.next-entries.ensures
+      blocking_more _ _ _ _ _ _ _ _ _ start.requires.0 _ _ loop.loop.invariant.2 _ _ _ _ loop.loop.invariant.0 found.next-entries.ensures
           (rw smaller.before.columns_of.ensures at smaller.smaller.ensures) found.before.loop-test.true _ done,
     )
 
@@ -112,7 +112,7 @@ returns c =
     let found = smaller.before.before in
     let loop = found.before.before in
     let start = loop.before.before.before.before in
-    blocking-over _ _ _ _ _ _ _ _ _ start.requires.0 _ _ loop.loop.invariant.2 _ _ _ _ loop.loop.invariant.0 found.next-entries.ensures
+    blocking_over _ _ _ _ _ _ _ _ _ start.requires.0 _ _ loop.loop.invariant.2 _ _ _ _ loop.loop.invariant.0 found.next-entries.ensures
     (rw smaller.before.columns_of.ensures at smaller.smaller.ensures) found.before.loop-test.true _
     (rw c.enum-told2.given.1 at c.before.before.before.before.tally-block.ensures)
 
@@ -125,7 +125,7 @@ sub-split c =
     let found = smaller.before.before in
     let loop = found.before.before in
     let start = loop.before.before.before.before in
-    let (some, again) = blocking-again _ _ _ _ _ _ _ _ _ start.requires.0 _ _ loop.loop.invariant.2 _ _ _ _ loop.loop.invariant.0 found.next-entries.ensures
+    let (some, again) = blocking_again _ _ _ _ _ _ _ _ _ start.requires.0 _ _ loop.loop.invariant.2 _ _ _ _ loop.loop.invariant.0 found.next-entries.ensures
     (rw smaller.before.columns_of.ensures at smaller.smaller.ensures) found.before.loop-test.true _
     (rw c.enum-told3.given.1 at c.before.before.before.before.tally-block.ensures) in
     omega arith
@@ -136,10 +136,10 @@ loop-less-2 c =
     let found = smaller.before.before in
     let loop = found.before.before in
     let start = loop.before.before.before.before in
-    let (some, again) = blocking-again _ _ _ _ _ _ _ _ _ start.requires.0 _ _ loop.loop.invariant.2 _ _ _ _ loop.loop.invariant.0 found.next-entries.ensures
+    let (some, again) = blocking_again _ _ _ _ _ _ _ _ _ start.requires.0 _ _ loop.loop.invariant.2 _ _ _ _ loop.loop.invariant.0 found.next-entries.ensures
     (rw smaller.before.columns_of.ensures at smaller.smaller.ensures) found.before.loop-test.true _
     (rw c.enum-told3.given.1 at c.before.before.before.before.tally-block.ensures) in
-    narrower-split loop.loop.known _ _ _ some
+    narrower_split loop.loop.known _ _ _ some
 
 loop-again-2 : tie.Need-loop-preserved-2 invariant-loop decreases-loop
 loop-again-2 c =
@@ -147,7 +147,7 @@ loop-again-2 c =
     let found = smaller.before.before in
     let loop = found.before.before in
     let start = loop.before.before.before.before in
-    let (some, again) = blocking-again _ _ _ _ _ _ _ _ _ start.requires.0 _ _ loop.loop.invariant.2 _ _ _ _ loop.loop.invariant.0 found.next-entries.ensures
+    let (some, again) = blocking_again _ _ _ _ _ _ _ _ _ start.requires.0 _ _ loop.loop.invariant.2 _ _ _ _ loop.loop.invariant.0 found.next-entries.ensures
     (rw smaller.before.columns_of.ensures at smaller.smaller.ensures) found.before.loop-test.true _
     (rw c.enum-told3.given.1 at c.before.before.before.before.tally-block.ensures) in
     (let few = loop.loop.invariant.0 in omega arith, loop.loop.invariant.1, again)
@@ -156,7 +156,7 @@ same-length-2 : tie.Need-same-length-2 invariant-loop decreases-loop
 same-length-2 c = c.before.loop.invariant.2.kept.same_length
 
 returns-2 : tie.Need-returns-2 invariant-loop decreases-loop
-returns-2 c = blocking-all _ _ _ _ _ _ _ _ _ c.before.before.before.before.before.requires.0 _ _ c.before.loop.invariant.2 (omega arith)
+returns-2 c = blocking_all _ _ _ _ _ _ _ _ _ c.before.before.before.before.before.requires.0 _ _ c.before.loop.invariant.2 (omega arith)
 
 pub tally-source-spec : {M : Type 1} → statement M
 tally-source-spec =

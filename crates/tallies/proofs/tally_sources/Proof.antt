@@ -6,20 +6,20 @@ use mathlib.Core.Path.{◌∙◌}
 use native.Mathlib.Omega.{arith}
 use lib.ListN.{length}
 use Rattle.temporal.specs.Plan.{units}
-use Rattle.temporal.specs.Struck.{lackingRecord}
+use Rattle.temporal.specs.Struck.{lacking_record}
 use Rattle.walks.proofs.Accepted.{accepted}
 use Rattle.forward.specs.Passed.{Knows}
-use Rattle.forward.proofs.WidthLaws.{knows-none, knows-next, knows-later}
-use Rattle.tallies.proofs.SourceLaws.{Summing, summing-none, summing-ready, summing-kept}
-use Rattle.tallies.proofs.SourceLaws.{summing-over, summing-more, summing-all, all_room, all-cleared, tallied-cleared}
-use Rattle.tallies.proofs.SourceLaws.{source-whole, done-whole, source-refill}
+use Rattle.forward.proofs.WidthLaws.{knows_none, knows_next, knows_later}
+use Rattle.tallies.proofs.SourceLaws.{Summing, summing_none, summing_ready, summing_kept}
+use Rattle.tallies.proofs.SourceLaws.{summing_over, summing_more, summing_all, all_room, all_cleared, tallied_cleared}
+use Rattle.tallies.proofs.SourceLaws.{source_whole, done_whole, source_refill}
 use borrow.Author.Rules.{rules}
 use Rattle.tallies.proofs.tally_sources.Statement.{statement}
 use Rattle.tallies.proofs.tally_sources.Tie as tie
 
 abbrev invariant-loop : tie.invariant-loop
 invariant-loop work₀ plan n t g h depth k base block splits₀ source₀ work splits source =
-    Summing plan n t (units g h) k base work₀ source work × Knows (lackingRecord plan (length plan)) n t (units g h) source k splits
+    Summing plan n t (units g h) k base work₀ source work × Knows (lacking_record plan (length plan)) n t (units g h) source k splits
 
 abbrev decreases-loop : tie.decreases-loop
 decreases-loop work₀ plan n t g h depth k base block splits₀ source₀ work splits source = k - source
@@ -37,8 +37,8 @@ loop-holds : tie.Need-loop-init invariant-loop decreases-loop
 loop-holds c =
     let filled = c.before.before.before in
     let start = filled.before.before.before.before in (
-      summing-none _ _ _ _ _ _ _ _ _ start.requires _ filled.fill-part.ensures,
-      rw c.no-splits.ensures (knows-none _ _ _ _ _ _ (omega arith)),
+      summing_none _ _ _ _ _ _ _ _ _ start.requires _ filled.fill-part.ensures,
+      rw c.no-splits.ensures (knows_none _ _ _ _ _ _ (omega arith)),
     )
 
 refilled-requires : tie.Need-refilled-requires invariant-loop decreases-loop
@@ -46,9 +46,9 @@ refilled-requires c κs =
     let looped = c.before.before in
     let filled = looped.before.before.before.before in
     let start = filled.before.before.before.before in
-    let pre = all-cleared _ _ _ _ _ _ _ _ _ start.requires _ filled.fill-part.ensures in
-    let ready = summing-ready _ _ _ _ _ _ _ _ _ pre _ _ looped.loop.invariant.0 c.before.loop-test.true in
-    source-refill _ _ _ _ _ _ _ _ _ (source-whole _ _ _ _ _ _ _ _ _ ready) _ _ c.before.loop-test.true start.requires.asked.sources
+    let pre = all_cleared _ _ _ _ _ _ _ _ _ start.requires _ filled.fill-part.ensures in
+    let ready = summing_ready _ _ _ _ _ _ _ _ _ pre _ _ looped.loop.invariant.0 c.before.loop-test.true in
+    source_refill _ _ _ _ _ _ _ _ _ (source_whole _ _ _ _ _ _ _ _ _ ready) _ _ c.before.loop-test.true start.requires.asked.sources
     looped.loop.invariant.1
 
 next-split-requires : tie.Need-next-split-requires invariant-loop decreases-loop
@@ -61,11 +61,11 @@ tally-source-requires c κs =
     let looped = tested.before in
     let filled = looped.before.before.before.before in
     let start = filled.before.before.before.before in
-    let pre = all-cleared _ _ _ _ _ _ _ _ _ start.requires _ filled.fill-part.ensures in
+    let pre = all_cleared _ _ _ _ _ _ _ _ _ start.requires _ filled.fill-part.ensures in
     let knows = asked.refilled.ensures in
-    let now = summing-kept _ _ _ _ _ _ _ _ _ looped.loop.invariant.0 _ knows.beyond knows.same_length in (
-      source-whole _ _ _ _ _ _ _ _ _ (summing-ready _ _ _ _ _ _ _ _ _ pre _ _ now tested.loop-test.true),
-      rw c.before.next-split.ensures (knows-next _ _ _ _ _ _ _ knows.knows knows.some),
+    let now = summing_kept _ _ _ _ _ _ _ _ _ looped.loop.invariant.0 _ knows.beyond knows.same_length in (
+      source_whole _ _ _ _ _ _ _ _ _ (summing_ready _ _ _ _ _ _ _ _ _ pre _ _ now tested.loop-test.true),
+      rw c.before.next-split.ensures (knows_next _ _ _ _ _ _ _ knows.knows knows.some),
     )
 
 same_length : tie.Need-same-length invariant-loop decreases-loop
@@ -85,12 +85,12 @@ returns c =
     let looped = tested.before in
     let filled = looped.before.before.before.before in
     let start = filled.before.before.before.before in
-    let pre = all-cleared _ _ _ _ _ _ _ _ _ start.requires _ filled.fill-part.ensures in
+    let pre = all_cleared _ _ _ _ _ _ _ _ _ start.requires _ filled.fill-part.ensures in
     let knows = asked.refilled.ensures in
-    let now = summing-kept _ _ _ _ _ _ _ _ _ looped.loop.invariant.0 _ knows.beyond knows.same_length in
-    tallied-cleared _ _ _ _ _ _ _ _ _ start.requires _ _ _ filled.fill-part.ensures
-    (summing-over _ _ _ _ _ _ _ _ _ pre _ _ now tested.loop-test.true _
-    (done-whole _ _ _ _ _ _ _ _ _ (rw c.if1.true at done.tally-source.ensures)))
+    let now = summing_kept _ _ _ _ _ _ _ _ _ looped.loop.invariant.0 _ knows.beyond knows.same_length in
+    tallied_cleared _ _ _ _ _ _ _ _ _ start.requires _ _ _ filled.fill-part.ensures
+    (summing_over _ _ _ _ _ _ _ _ _ pre _ _ now tested.loop-test.true _
+    (done_whole _ _ _ _ _ _ _ _ _ (rw c.if1.true at done.tally-source.ensures)))
 
 later-splits-requires : tie.Need-later-splits-requires invariant-loop decreases-loop
 later-splits-requires c κs = c.before.before.before.before.before.before.before.before.refilled.ensures.some
@@ -109,12 +109,12 @@ loop-again c =
     let looped = tested.before in
     let filled = looped.before.before.before.before in
     let start = filled.before.before.before.before in
-    let pre = all-cleared _ _ _ _ _ _ _ _ _ start.requires _ filled.fill-part.ensures in
+    let pre = all_cleared _ _ _ _ _ _ _ _ _ start.requires _ filled.fill-part.ensures in
     let knows = asked.refilled.ensures in
-    let now = summing-kept _ _ _ _ _ _ _ _ _ looped.loop.invariant.0 _ knows.beyond knows.same_length in (
-      summing-more _ _ _ _ _ _ _ _ _ pre _ _ now tested.loop-test.true _
-          (done-whole _ _ _ _ _ _ _ _ _ (rw c.before.if1.false at done.tally-source.ensures)),
-      rw c.later-splits.ensures (knows-later _ _ _ _ _ _ _ knows.knows knows.some),
+    let now = summing_kept _ _ _ _ _ _ _ _ _ looped.loop.invariant.0 _ knows.beyond knows.same_length in (
+      summing_more _ _ _ _ _ _ _ _ _ pre _ _ now tested.loop-test.true _
+          (done_whole _ _ _ _ _ _ _ _ _ (rw c.before.if1.false at done.tally-source.ensures)),
+      rw c.later-splits.ensures (knows_later _ _ _ _ _ _ _ knows.knows knows.some),
     )
 
 same-length-2 : tie.Need-same-length-2 invariant-loop decreases-loop
@@ -127,9 +127,9 @@ returns-2 c =
     let looped = c.before in
     let filled = looped.before.before.before.before in
     let start = filled.before.before.before.before in
-    let pre = all-cleared _ _ _ _ _ _ _ _ _ start.requires _ filled.fill-part.ensures in
-    tallied-cleared _ _ _ _ _ _ _ _ _ start.requires _ _ _ filled.fill-part.ensures
-    (summing-all _ _ _ _ _ _ _ _ _ pre _ _ looped.loop.invariant.0 (omega arith))
+    let pre = all_cleared _ _ _ _ _ _ _ _ _ start.requires _ filled.fill-part.ensures in
+    tallied_cleared _ _ _ _ _ _ _ _ _ start.requires _ _ _ filled.fill-part.ensures
+    (summing_all _ _ _ _ _ _ _ _ _ pre _ _ looped.loop.invariant.0 (omega arith))
 
 pub tally-sources-spec : {M : Type 1} → statement M
 tally-sources-spec =

@@ -3,7 +3,7 @@
 use native.Mathlib.Omega.{arith}
 use mathlib.Core.Path.{◌∙◌}
 use lib.ListN.{length-set}
-use Rattle.text.proofs.DivisionLaws.{length-tenth, digit_room, digit-put, tenth-put}
+use Rattle.text.proofs.DivisionLaws.{length_tenth, digit_room, digit_put, tenth_put}
 use Prim.Native.Nat.{ℕ, ◌+◌, ◌<◌}
 use borrow.Fn.Kinds.{In}
 use borrow.Fn.PlainCycle.{Measures, is, falls, and}
@@ -61,7 +61,7 @@ put-decimal-returns : (t : ℕ) → put-decimal-lts.Need-returns (
   put-decimal-below t,
   put-decimal.Post,
 ) (put-decimal-at t) put-decimal.Post
-put-decimal-returns t c = digit-put _ _ _ c.before.before.requires.1 c.if1.true
+put-decimal-returns t c = digit_put _ _ _ c.before.before.requires.1 c.if1.true
 
 put-decimal-array-read-put-decimal : (t : ℕ) → put-decimal-lts.Need-array-read-put-decimal (
   put-decimal-below t,
@@ -75,7 +75,7 @@ put-decimal-put-decimal-requires : (t : ℕ) → put-decimal-lts.Need-put-decima
 ) (put-decimal-at t) put-decimal.Post
 put-decimal-put-decimal-requires t c κs =
     let start = c.before.before.before in
-    let parts = length-tenth start.args.x c.before.if1.false (omega arith) in
+    let parts = length_tenth start.args.x c.before.if1.false (omega arith) in
     (omega (arith, start.requires.0), omega (arith, start.requires.1, parts))
 
 put-decimal-array-read-put-decimal-2 : (t : ℕ) → put-decimal-lts.Need-array-read-put-decimal-2 (
@@ -90,7 +90,7 @@ put-decimal-put-decimal-requires-2 : (t : ℕ) → put-decimal-lts.Need-put-deci
 ) (put-decimal-at t) put-decimal.Post
 put-decimal-put-decimal-requires-2 t c κs =
     let start = c.before.before.before.before.before.before.before in
-    let parts = length-tenth start.args.x c.before.before.before.before.before.if1.false (omega arith) in
+    let parts = length_tenth start.args.x c.before.before.before.before.before.if1.false (omega arith) in
     let tenth = c.before.before.before.put-decimal in
     (omega (arith, start.requires.0), omega (arith, start.requires.1, parts, tenth.ensures.place, tenth.auto.0))
 
@@ -110,7 +110,7 @@ put-decimal-returns-2 t c =
     let tenth = c.before.before.before.before.before.before.put-decimal in
     let last = c.before.before.put-decimal2 in
     let several = c.before.before.before.before.before.before.before.before.if1.false in
-    tenth-put _ _ _ start.requires.1 several (omega arith) _ _ tenth.ensures _ _ last.ensures
+    tenth_put _ _ _ start.requires.1 several (omega arith) _ _ tenth.ensures _ _ last.ensures
 
 pub +put-decimal-spec : {M : Type 1} → statement M
 +put-decimal-spec = close μ-put-decimal λ t. put-decimal-lts.spec (

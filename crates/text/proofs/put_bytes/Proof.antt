@@ -5,7 +5,7 @@ use Prim.Native.Nat.{◌+◌, ◌-◌, ◌≤◌}
 use mathlib.Core.Path.{◌≡◌}
 use native.Mathlib.Omega.{arith}
 use lib.ListN.{length, drop, drop_of_length-le}
-use Rattle.text.proofs.WrittenLaws.{Writing, writing-none, writing-next, writing-all}
+use Rattle.text.proofs.WrittenLaws.{Writing, writing_none, writing_next, writing_all}
 use Rattle.text.proofs.put_bytes.Statement.{statement}
 use Rattle.text.proofs.put_bytes.Tie as tie
 
@@ -16,7 +16,7 @@ abbrev decreases-loop : tie.decreases-loop
 decreases-loop out₀ at bytes i₀ out i = length bytes - i
 
 loop-holds : tie.Need-loop-init invariant-loop decreases-loop
-loop-holds c = let start : c.args.at + 0 ≡ c.args.at = omega arith in (omega arith, rw start (writing-none _ _ _))
+loop-holds c = let start : c.args.at + 0 ≡ c.args.at = omega arith in (omega arith, rw start (writing_none _ _ _))
 
 shared-slice-read-out : tie.Need-shared-slice-read-out invariant-loop decreases-loop
 shared-slice-read-out c = omega arith
@@ -34,7 +34,7 @@ loop-less : tie.Need-loop-smaller invariant-loop decreases-loop
 loop-less c = omega arith
 
 loop-again : tie.Need-loop-preserved invariant-loop decreases-loop
-loop-again c = (omega arith, writing-next _ _ _ _ _ (omega arith) c.before.before.loop.invariant.1)
+loop-again c = (omega arith, writing_next _ _ _ _ _ (omega arith) c.before.before.loop.invariant.1)
 
 add-result : tie.Need-overflow-add-result invariant-loop decreases-loop
 add-result c = omega arith
@@ -44,7 +44,7 @@ same_length c = c.before.loop.invariant.1.same
 
 returns : tie.Need-returns invariant-loop decreases-loop
 returns c =
-    writing-all _ _ _ _ _ _ c.before.before.requires (drop_of_length-le _ {i = c.before.loop.i} (omega arith)) c.before.loop.invariant.1
+    writing_all _ _ _ _ _ _ c.before.before.requires (drop_of_length-le _ {i = c.before.loop.i} (omega arith)) c.before.loop.invariant.1
 
 pub put-bytes-spec : {M : Type 1} → statement M
 put-bytes-spec =

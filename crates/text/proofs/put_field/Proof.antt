@@ -1,6 +1,6 @@
 -- `text::put_field` meets its contract: the number, then what stands behind it.
 -- Assumes nothing.
-use Rattle.text.proofs.PutLaws.{room-first, room-rest, put_both}
+use Rattle.text.proofs.PutLaws.{room_first, room_rest, put_both}
 use Rattle.text.specs.Decimal.{decimal}
 use Rattle.text.specs.Field.{field}
 use borrow.Author.Rules.{rules}
@@ -11,13 +11,13 @@ put-decimal-requires : tie.Need-put-decimal-requires
 unfolding field
 put-decimal-requires c κs =
     let a = c.before.before.before.args in
-    room-first a.at (decimal a.x) a.behind.now a.out.now c.before.before.before.requires
+    room_first a.at (decimal a.x) a.behind.now a.out.now c.before.before.before.requires
 
 put-bytes-requires : tie.Need-put-bytes-requires
 unfolding field
 put-bytes-requires c κs =
     let a = c.before.before.before.before.before.before.before.args in
-    room-rest a.at (decimal a.x) a.behind.now a.out.now c.before.before.before.before.before.before.before.requires _ _ c.before.before.before.put-decimal.ensures
+    room_rest a.at (decimal a.x) a.behind.now a.out.now c.before.before.before.before.before.before.before.requires _ _ c.before.before.before.put-decimal.ensures
 
 same_length : tie.Need-same-length
 same_length c = search rules

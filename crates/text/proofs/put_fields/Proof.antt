@@ -1,7 +1,7 @@
 -- `text::put_fields` meets its contract: three numbers, one behind the other.
 -- Assumes nothing.
 use Rattle.text.specs.Field.{field, fields}
-use Rattle.text.proofs.PutLaws.{room-first-of-three, room-second-of-three, room-third-of-three, put_three}
+use Rattle.text.proofs.PutLaws.{room_first_of_three, room_second_of_three, room_third_of_three, put_three}
 use borrow.Author.Rules.{rules}
 use Rattle.text.proofs.put_fields.Statement.{statement}
 use Rattle.text.proofs.put_fields.Tie as tie
@@ -11,14 +11,14 @@ unfolding fields
 put-field-requires c κs =
     let s = c.before.before.before.before.before in
     let a = s.args in
-    room-first-of-three a.at (field a.x a.a.now) (field a.y a.b.now) (field a.z a.c.now) a.out.now s.requires
+    room_first_of_three a.at (field a.x a.a.now) (field a.y a.b.now) (field a.z a.c.now) a.out.now s.requires
 
 put-field-requires-2 : tie.Need-put-field-requires-2
 unfolding fields
 put-field-requires-2 c κs =
     let s = c.before.before.before.before.before.before.before.before.before in
     let a = s.args in
-    room-second-of-three a.at (field a.x a.a.now) (field a.y a.b.now) (field a.z a.c.now) a.out.now s.requires _ _
+    room_second_of_three a.at (field a.x a.a.now) (field a.y a.b.now) (field a.z a.c.now) a.out.now s.requires _ _
     c.before.before.before.put-field.ensures
 
 put-field-requires-3 : tie.Need-put-field-requires-3
@@ -28,7 +28,7 @@ put-field-requires-3 c κs =
     let first = second.before.before.before.before in
     let s = c.before.before.before.before.before.before.before.before.before.before.before.before.before in
     let a = s.args in
-    room-third-of-three a.at (field a.x a.a.now) (field a.y a.b.now) (field a.z a.c.now) a.out.now s.requires _ _
+    room_third_of_three a.at (field a.x a.a.now) (field a.y a.b.now) (field a.z a.c.now) a.out.now s.requires _ _
     first.put-field.ensures _ _ second.put-field2.ensures
 
 same_length : tie.Need-same-length

@@ -1,7 +1,7 @@
 -- `text::put_labelled` meets its contract: the label, then three numbers.
 -- Assumes nothing.
 use Rattle.text.specs.Field.{fields, labelled}
-use Rattle.text.proofs.PutLaws.{room-first, room-rest, put_both}
+use Rattle.text.proofs.PutLaws.{room_first, room_rest, put_both}
 use borrow.Author.Rules.{rules}
 use Rattle.text.proofs.put_labelled.Statement.{statement}
 use Rattle.text.proofs.put_labelled.Tie as tie
@@ -11,7 +11,7 @@ unfolding labelled
 put-bytes-requires c κs =
     let s = c.before.before.before.before.before.before in
     let a = s.args in
-    room-first a.at a.label.now (fields a.x a.a.now a.y a.b.now a.z a.c.now) a.out.now s.requires
+    room_first a.at a.label.now (fields a.x a.a.now a.y a.b.now a.z a.c.now) a.out.now s.requires
 
 put-fields-requires : tie.Need-put-fields-requires
 unfolding labelled
@@ -19,7 +19,7 @@ put-fields-requires c κs =
     let word = c.before.before.before in
     let s = word.before.before.before.before.before.before.before in
     let a = s.args in
-    room-rest a.at a.label.now (fields a.x a.a.now a.y a.b.now a.z a.c.now) a.out.now s.requires _ _
+    room_rest a.at a.label.now (fields a.x a.a.now a.y a.b.now a.z a.c.now) a.out.now s.requires _ _
     word.put-bytes.ensures
 
 same_length : tie.Need-same-length

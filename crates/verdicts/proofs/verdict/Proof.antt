@@ -1,8 +1,8 @@
 -- `verdicts::verdict` meets its contract: a refusal of the plan is passed on, an accepted plan goes on to the call.
 -- Assumes nothing.
 use mathlib.Core.Path.{sym, ap, ◌∙◌}
-use Rattle.plan.specs.Fault.{checkNumber}
-use Rattle.verdicts.proofs.BeginLaws.{verdict-plan}
+use Rattle.plan.specs.Fault.{check_number}
+use Rattle.verdicts.proofs.BeginLaws.{verdict_plan}
 use borrow.Author.Rules.{rules}
 use Rattle.verdicts.proofs.verdict.Statement.{statement}
 use Rattle.verdicts.proofs.verdict.Tie as tie
@@ -17,7 +17,7 @@ enum_told : tie.Need-enum-told
 enum_told c = search rules
 
 verdict-accepted-requires : tie.Need-verdict-accepted-requires
-verdict-accepted-requires c κs = sym c.before.before.before.check.ensures ∙ ap checkNumber c.before.enum_told.given.1
+verdict-accepted-requires c κs = sym c.before.before.before.check.ensures ∙ ap check_number c.before.enum_told.given.1
 
 same_length : tie.Need-same-length
 same_length c = search rules
@@ -26,7 +26,7 @@ returns : tie.Need-returns
 returns c = search rules
 
 returns-2 : tie.Need-returns-2
-returns-2 c = verdict-plan _ _ _ _ _ _ _ _ _ _ c.before.before.before.check.ensures c.before.fault.given.1
+returns-2 c = verdict_plan _ _ _ _ _ _ _ _ _ _ c.before.before.before.check.ensures c.before.fault.given.1
 
 pub verdict-spec : {M : Type 1} → statement M
 verdict-spec =

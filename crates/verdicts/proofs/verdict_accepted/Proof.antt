@@ -2,7 +2,7 @@
 -- Assumes nothing.
 use mathlib.Core.Path.{sym, ◌∙◌}
 use Rattle.walks.proofs.Accepted.{accepted}
-use Rattle.verdicts.proofs.BeginLaws.{verdict-ready, verdict-works, verdict-call}
+use Rattle.verdicts.proofs.BeginLaws.{verdict_ready, verdict_works, verdict_call}
 use borrow.Author.Rules.{rules}
 use Rattle.verdicts.proofs.verdict_accepted.Statement.{statement}
 use Rattle.verdicts.proofs.verdict_accepted.Tie as tie
@@ -18,7 +18,7 @@ enum_told c = search rules
 
 verdict-cleared-requires : tie.Need-verdict-cleared-requires
 verdict-cleared-requires c κs =
-    verdict-ready _ _ _ _ _ _ _ _ c.before.before.before.before.before.before.before.requires _ c.before.before.before.pair-call.ensures c.before.enum_told.given.1
+    verdict_ready _ _ _ _ _ _ _ _ c.before.before.before.before.before.before.before.requires _ c.before.before.before.pair_call.ensures c.before.enum_told.given.1
 
 same_length : tie.Need-same-length
 same_length c = search rules
@@ -26,11 +26,11 @@ same_length c = search rules
 returns : tie.Need-returns
 returns c =
     c.before.before.verdict-cleared.ensures ∙
-    sym (verdict-works _ _ _ _ _ _ _ _ c.before.before.before.before.before.before.before.before.before.before.requires _ c.before.before.before.before.before.before.pair-call.ensures c.before.before.before.before.enum_told.given.1)
+    sym (verdict_works _ _ _ _ _ _ _ _ c.before.before.before.before.before.before.before.before.before.before.requires _ c.before.before.before.before.before.before.pair_call.ensures c.before.before.before.before.enum_told.given.1)
 
 returns-2 : tie.Need-returns-2
 returns-2 c =
-    verdict-call _ _ _ _ _ _ _ _ c.before.before.before.before.before.before.before.requires _ c.before.before.before.pair-call.ensures _ c.before.fault.given.1
+    verdict_call _ _ _ _ _ _ _ _ c.before.before.before.before.before.before.before.requires _ c.before.before.before.pair_call.ensures _ c.before.fault.given.1
 
 pub verdict-accepted-spec : {M : Type 1} → statement M
 verdict-accepted-spec =

@@ -3,7 +3,7 @@
 use native.Mathlib.Omega.{arith}
 use Rattle.walks.proofs.Accepted.{accepted}
 use Rattle.listing.specs.Answer.{question}
-use Rattle.verdicts.proofs.WorkLaws.{work-cleared}
+use Rattle.verdicts.proofs.WorkLaws.{work_cleared}
 use borrow.Author.Rules.{rules}
 use Rattle.verdicts.proofs.verdict_cleared.Statement.{statement}
 use Rattle.verdicts.proofs.verdict_cleared.Tie as tie
@@ -27,7 +27,7 @@ same_length : tie.Need-same-length
 same_length c = search rules
 
 returns : tie.Need-returns
-returns c = work-cleared (question _ _ _ _ _ _ _) _ _ _ _ _ c.before.before.before.before.before.before.verdict-work.ensures c.before.before.clear.ensures
+returns c = work_cleared (question _ _ _ _ _ _ _) _ _ _ _ _ c.before.before.before.before.before.before.verdict-work.ensures c.before.before.clear.ensures
 
 pub verdict-cleared-spec : {M : Type 1} → statement M
 verdict-cleared-spec =

@@ -4,19 +4,19 @@ use mathlib.Core.Path.{refl}
 use mathlib.Core.List.{[]}
 use native.Mathlib.Omega.{arith}
 use Rattle.listing.specs.Answer.{question}
-use Rattle.verdicts.proofs.WorkLaws.{pass-asks, judged-too-many, judged-none, judgeable, judged-there}
+use Rattle.verdicts.proofs.WorkLaws.{pass_asks, judged_too_many, judged_none, judgeable, judged_there}
 use borrow.Author.Rules.{rules}
 use Rattle.verdicts.proofs.verdict_work.Statement.{statement}
 use Rattle.verdicts.proofs.verdict_work.Tie as tie
 
 pass-requires : tie.Need-pass-requires
-pass-requires c κs = pass-asks (question _ _ _ _ _ _ _) [] _ c.before.before.before.before.requires
+pass-requires c κs = pass_asks (question _ _ _ _ _ _ _) [] _ c.before.before.before.before.requires
 
 same_length : tie.Need-same-length
 same_length c = search rules
 
 returns : tie.Need-returns
-returns c = judged-too-many _ _ _ c.before.before.before.before.before.before.before.before.requires _ _ c.before.before.before.pass.ensures c.if1.true
+returns c = judged_too_many _ _ _ c.before.before.before.before.before.before.before.before.requires _ _ c.before.before.before.pass.ensures c.if1.true
 
 mul-hops : tie.Need-overflow-mul-hops
 mul-hops c = search rules
@@ -31,7 +31,7 @@ same-length-2 : tie.Need-same-length-2
 same-length-2 c = search rules
 
 returns-2 : tie.Need-returns-2
-returns-2 c = judged-none _ _ _ c.before.before.before.before.before.before.before.before.before.before.before.requires _ _ c.before.before.before.before.before.before.pass.ensures c.before.before.before.if1.false _ refl (omega arith) _ c.judge-none.ensures
+returns-2 c = judged_none _ _ _ c.before.before.before.before.before.before.before.before.before.before.before.requires _ _ c.before.before.before.before.before.before.pass.ensures c.before.before.before.if1.false _ refl (omega arith) _ c.judge-none.ensures
 
 complete-requires : tie.Need-complete-requires
 complete-requires c κs = search rules
@@ -45,7 +45,7 @@ same-length-3 c = search rules
 
 returns-3 : tie.Need-returns-3
 returns-3 c =
-    judged-there _ _ _ c.before.before.before.before.before.before.before.before.before.before.before.before.before.before.before.before.requires _ _ c.before.before.before.before.before.before.before.before.before.before.before.pass.ensures c.before.before.before.before.before.before.before.before.if1.false _ refl (λ e. c.before.before.before.before.before.before.if2.false e) _ c.before.before.before.before.complete.ensures _ c.judge.ensures
+    judged_there _ _ _ c.before.before.before.before.before.before.before.before.before.before.before.before.before.before.before.before.requires _ _ c.before.before.before.before.before.before.before.before.before.before.before.pass.ensures c.before.before.before.before.before.before.before.before.if1.false _ refl (λ e. c.before.before.before.before.before.before.if2.false e) _ c.before.before.before.before.complete.ensures _ c.judge.ensures
 
 pub verdict-work-spec : {M : Type 1} → statement M
 verdict-work-spec =

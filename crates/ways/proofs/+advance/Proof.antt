@@ -3,8 +3,8 @@
 use native.Mathlib.Omega.{arith}
 use mathlib.Core.Path.{refl, ap, ◌∙◌}
 use borrow.Author.Rules.{rules}
-use Rattle.ways.proofs.ListingLaws.{advanced-zero}
-use Rattle.ways.proofs.AdvanceLaws.{leg-inside, last-ready, advance-here, front-ready, advance-none, advance-behind}
+use Rattle.ways.proofs.ListingLaws.{advanced_zero}
+use Rattle.ways.proofs.AdvanceLaws.{leg_inside, last_ready, advance_here, front_ready, advance_none, advance_behind}
 use Prim.Native.Nat.{ℕ, ◌+◌, ◌<◌}
 use borrow.Fn.Kinds.{In}
 use borrow.Fn.PlainCycle.{Measures, is, falls, and}
@@ -33,7 +33,7 @@ advance-returns : (t : ℕ) → advance-lts.Need-returns (
   advance-below t,
   advance.Post,
 ) (advance-at t) advance.Post
-advance-returns t c = advanced-zero _ _ _ c.if1.true
+advance-returns t c = advanced_zero _ _ _ c.if1.true
 
 advance-sub-last : (t : ℕ) → advance-lts.Need-overflow-sub-last (
   wide-reads.Asked,
@@ -53,7 +53,7 @@ advance-mul-wide : (t : ℕ) → advance-lts.Need-overflow-mul-wide (
   advance-below t,
   advance.Post,
 ) (advance-at t) advance.Post
-advance-mul-wide t c = omega (arith, leg-inside _ _ _ _ _ c.before.before.before.before.requires.1 (omega arith), c.before.before.before.before.well-formed.0.1)
+advance-mul-wide t c = omega (arith, leg_inside _ _ _ _ _ c.before.before.before.before.requires.1 (omega arith), c.before.before.before.before.well-formed.0.1)
 
 advance-slice-read-wide : (t : ℕ) → advance-lts.Need-slice-read-wide (
   wide-reads.Asked,
@@ -63,7 +63,7 @@ advance-slice-read-wide : (t : ℕ) → advance-lts.Need-slice-read-wide (
   advance-below t,
   advance.Post,
 ) (advance-at t) advance.Post
-advance-slice-read-wide t c = omega (arith, leg-inside _ _ _ _ _ c.before.before.before.before.before.requires.1 (omega arith))
+advance-slice-read-wide t c = omega (arith, leg_inside _ _ _ _ _ c.before.before.before.before.before.requires.1 (omega arith))
 
 advance-wide-requires : (t : ℕ) → advance-lts.Need-wide-requires (
   wide-reads.Asked,
@@ -93,7 +93,7 @@ advance-place-requires : (t : ℕ) → advance-lts.Need-place-requires (
   advance-below t,
   advance.Post,
 ) (advance-at t) advance.Post
-advance-place-requires t c κs = last-ready _ _ _ _ _ c.before.before.before.before.before.before.before.requires.1 (omega arith) _ refl
+advance-place-requires t c κs = last_ready _ _ _ _ _ c.before.before.before.before.before.before.before.requires.1 (omega arith) _ refl
 
 advance-same-length : (t : ℕ) → advance-lts.Need-same-length (
   wide-reads.Asked,
@@ -113,7 +113,7 @@ advance-returns-2 : (t : ℕ) → advance-lts.Need-returns-2 (
   advance-below t,
   advance.Post,
 ) (advance-at t) advance.Post
-advance-returns-2 t c = advance-here _ _ _ _ _ c.before.before.before.before.before.before.before.before.before.before.before.requires.1 (omega arith) _ (ap (λ k. k + 1) c.before.before.before.before.before.wide.ensures.0) c.before.before.before.place.ensures c.if2.true
+advance-returns-2 t c = advance_here _ _ _ _ _ c.before.before.before.before.before.before.before.before.before.before.before.requires.1 (omega arith) _ (ap (λ k. k + 1) c.before.before.before.before.before.wide.ensures.0) c.before.before.before.place.ensures c.if2.true
 
 advance-advance-requires : (t : ℕ) → advance-lts.Need-advance-requires (
   wide-reads.Asked,
@@ -123,7 +123,7 @@ advance-advance-requires : (t : ℕ) → advance-lts.Need-advance-requires (
   advance-below t,
   advance.Post,
 ) (advance-at t) advance.Post
-advance-advance-requires t c κs = (omega (arith, c.before.before.before.before.before.before.before.before.before.before.before.before.requires.0), front-ready _ _ _ _ _ c.before.before.before.before.before.before.before.before.before.before.before.before.requires.1 (omega arith) _ (ap (λ k. k + 1) c.before.before.before.before.before.before.wide.ensures.0) c.before.before.before.before.place.ensures c.before.if2.false)
+advance-advance-requires t c κs = (omega (arith, c.before.before.before.before.before.before.before.before.before.before.before.before.requires.0), front_ready _ _ _ _ _ c.before.before.before.before.before.before.before.before.before.before.before.before.requires.1 (omega arith) _ (ap (λ k. k + 1) c.before.before.before.before.before.before.wide.ensures.0) c.before.before.before.before.place.ensures c.before.if2.false)
 
 advance-place-requires-2 : (t : ℕ) → advance-lts.Need-place-requires-2 (
   wide-reads.Asked,
@@ -133,7 +133,7 @@ advance-place-requires-2 : (t : ℕ) → advance-lts.Need-place-requires-2 (
   advance-below t,
   advance.Post,
 ) (advance-at t) advance.Post
-advance-place-requires-2 t c κs = last-ready _ _ _ _ _ c.before.before.before.before.before.before.before.before.before.before.before.before.before.before.before.before.before.requires.1 (omega (arith, c.before.before.before.before.before.before.before.before.before.before.before.before.before.if1.false)) _ (c.before.before.before.before.advance.auto.0 ∙ c.before.before.before.before.before.before.before.before.before.place.auto.0)
+advance-place-requires-2 t c κs = last_ready _ _ _ _ _ c.before.before.before.before.before.before.before.before.before.before.before.before.before.before.before.before.before.requires.1 (omega (arith, c.before.before.before.before.before.before.before.before.before.before.before.before.before.if1.false)) _ (c.before.before.before.before.advance.auto.0 ∙ c.before.before.before.before.before.before.before.before.before.place.auto.0)
 
 advance-same-length-2 : (t : ℕ) → advance-lts.Need-same-length-2 (
   wide-reads.Asked,
@@ -153,7 +153,7 @@ advance-returns-3 : (t : ℕ) → advance-lts.Need-returns-3 (
   advance-below t,
   advance.Post,
 ) (advance-at t) advance.Post
-advance-returns-3 t c = advance-behind _ _ _ _ _ c.before.before.before.before.before.before.before.before.before.before.before.before.before.before.before.before.before.before.before.before.requires.1 (omega (arith, c.before.before.before.before.before.before.before.before.before.before.before.before.before.before.before.before.if1.false)) _ (ap (λ k. k + 1) c.before.before.before.before.before.before.before.before.before.before.before.before.before.before.wide.ensures.0) c.before.before.before.before.before.before.before.before.before.before.before.before.place.ensures c.before.before.before.before.before.before.before.before.before.if2.false c.before.before.before.before.before.before.before.advance.ensures c.before.before.before.before.if3.true (c.before.before.before.before.before.before.before.advance.auto.0 ∙ c.before.before.before.before.before.before.before.before.before.before.before.before.place.auto.0) c.before.before.place2.ensures
+advance-returns-3 t c = advance_behind _ _ _ _ _ c.before.before.before.before.before.before.before.before.before.before.before.before.before.before.before.before.before.before.before.before.requires.1 (omega (arith, c.before.before.before.before.before.before.before.before.before.before.before.before.before.before.before.before.if1.false)) _ (ap (λ k. k + 1) c.before.before.before.before.before.before.before.before.before.before.before.before.before.before.wide.ensures.0) c.before.before.before.before.before.before.before.before.before.before.before.before.place.ensures c.before.before.before.before.before.before.before.before.before.if2.false c.before.before.before.before.before.before.before.advance.ensures c.before.before.before.before.if3.true (c.before.before.before.before.before.before.before.advance.auto.0 ∙ c.before.before.before.before.before.before.before.before.before.before.before.before.place.auto.0) c.before.before.place2.ensures
 
 advance-same-length-3 : (t : ℕ) → advance-lts.Need-same-length-3 (
   wide-reads.Asked,
@@ -173,7 +173,7 @@ advance-returns-4 : (t : ℕ) → advance-lts.Need-returns-4 (
   advance-below t,
   advance.Post,
 ) (advance-at t) advance.Post
-advance-returns-4 t c = advance-none _ _ _ _ _ c.before.before.before.before.before.before.before.before.before.before.before.before.before.before.before.before.requires.1 (omega (arith, c.before.before.before.before.before.before.before.before.before.before.before.before.if1.false)) _ (ap (λ k. k + 1) c.before.before.before.before.before.before.before.before.before.before.wide.ensures.0) c.before.before.before.before.before.before.before.before.place.ensures c.before.before.before.before.before.if2.false c.before.before.before.advance.ensures c.if3.false
+advance-returns-4 t c = advance_none _ _ _ _ _ c.before.before.before.before.before.before.before.before.before.before.before.before.before.before.before.before.requires.1 (omega (arith, c.before.before.before.before.before.before.before.before.before.before.before.before.if1.false)) _ (ap (λ k. k + 1) c.before.before.before.before.before.before.before.before.before.before.wide.ensures.0) c.before.before.before.before.before.before.before.before.place.ensures c.before.before.before.before.before.if2.false c.before.before.before.advance.ensures c.if3.false
 
 pub +advance-spec : {M : Type 1} → statement M
 +advance-spec = close μ-advance λ t. advance-lts.spec (

@@ -1,7 +1,7 @@
 -- `ways::begin_window` meets its contract: a fill, and the destination's row.
 -- Assumes nothing.
 use native.Mathlib.Omega.{arith}
-use Rattle.ways.proofs.WindowLaws.{row_below, begun-by}
+use Rattle.ways.proofs.WindowLaws.{row_below, begun_by}
 use borrow.Author.Rules.{rules}
 use Rattle.ways.proofs.begin_window.Statement.{statement}
 use Rattle.ways.proofs.begin_window.Tie as tie
@@ -22,7 +22,7 @@ same_length : tie.Need-same-length
 same_length c = search rules
 
 returns : tie.Need-returns
-returns c = begun-by _ _ _ _ _ _ c.before.before.before.before.before.before.fill64.ensures c.before.before.fill-part.ensures
+returns c = begun_by _ _ _ _ _ _ c.before.before.before.before.before.before.fill64.ensures c.before.before.fill-part.ensures
 
 pub begin-window-spec : {M : Type 1} → statement M
 begin-window-spec =

@@ -6,8 +6,8 @@ use native.Mathlib.Omega.{arith}
 use mathlib.Core.Path.{refl, sym, ◌∙◌}
 use Rattle.temporal.specs.Plan.{units}
 use Rattle.walks.proofs.Accepted.{accepted}
-use Rattle.ways.proofs.PassLaws.{Passing, passing-begun, passing-room, passing-look, passing-some, passing-store, passing-fold}
-use Rattle.ways.proofs.PassLaws.{passing-end}
+use Rattle.ways.proofs.PassLaws.{Passing, passing_begun, passing_room, passing_look, passing_some, passing_store, passing_fold}
+use Rattle.ways.proofs.PassLaws.{passing_end}
 use Rattle.ways.proofs.complete_lasting.Statement.{statement}
 use Rattle.ways.proofs.complete_lasting.Tie as tie
 
@@ -26,40 +26,40 @@ begin-back-requires c κs = (c.before.before.before.requires.0.fits, omega arith
 loop-holds : tie.Need-loop-init invariant-loop decreases-loop
 loop-holds c =
     let (ready, keeps) = c.before.before.before.before.before.before.requires in
-    passing-begun _ _ _ _ _ _ ready keeps _ _ c.before.before.begin-back.ensures refl
+    passing_begun _ _ _ _ _ _ ready keeps _ _ c.before.before.begin-back.ensures refl
 
 is-due-requires : tie.Need-is-due-requires invariant-loop decreases-loop
-is-due-requires c κs = passing-look _ _ _ _ _ _ _ _ _ c.before.loop.invariant c.loop-test.true
+is-due-requires c κs = passing_look _ _ _ _ _ _ _ _ _ c.before.loop.invariant c.loop-test.true
 
 sub-i : tie.Need-overflow-sub-i invariant-loop decreases-loop
 sub-i c =
     let s = c.before.before.before.loop.invariant in
     let due = sym c.before.is-due.ensures ∙ c.if1.true in
-    omega (arith, passing-some _ _ _ _ _ _ _ _ _ s c.before.before.loop-test.true due)
+    omega (arith, passing_some _ _ _ _ _ _ _ _ _ s c.before.before.loop-test.true due)
 
 store-back-requires : tie.Need-store-back-requires invariant-loop decreases-loop
 store-back-requires c κs =
     let s = c.before.before.before.before.loop.invariant in
-    passing-room _ _ _ _ _ _ _ _ _ s _ (omega (arith, s.order))
+    passing_room _ _ _ _ _ _ _ _ _ s _ (omega (arith, s.order))
 
 loop-less : tie.Need-loop-smaller invariant-loop decreases-loop
 loop-less c =
     let s = c.before.before.before.before.before.before.before.loop.invariant in
     let due = sym c.before.before.before.before.before.is-due.ensures ∙ c.before.before.before.before.if1.true in
-    omega (arith, passing-some _ _ _ _ _ _ _ _ _ s c.before.before.before.before.before.before.loop-test.true due)
+    omega (arith, passing_some _ _ _ _ _ _ _ _ _ s c.before.before.before.before.before.before.loop-test.true due)
 
 loop-again : tie.Need-loop-preserved invariant-loop decreases-loop
 loop-again c =
     let s = c.before.before.before.before.before.before.before.loop.invariant in
     let due = sym c.before.before.before.before.before.is-due.ensures ∙ c.before.before.before.before.if1.true in
-    passing-store _ _ _ _ _ _ _ _ _ s c.before.before.before.before.before.before.loop-test.true due _
+    passing_store _ _ _ _ _ _ _ _ _ s c.before.before.before.before.before.before.loop-test.true due _
     c.before.before.store-back.ensures
 
 sub-j : tie.Need-overflow-sub-j invariant-loop decreases-loop
 sub-j c = omega arith
 
 fold-back-requires : tie.Need-fold-back-requires invariant-loop decreases-loop
-fold-back-requires c κs = passing-room _ _ _ _ _ _ _ _ _ c.before.before.before.before.loop.invariant _ (omega arith)
+fold-back-requires c κs = passing_room _ _ _ _ _ _ _ _ _ c.before.before.before.before.loop.invariant _ (omega arith)
 
 loop-less-2 : tie.Need-loop-smaller-2 invariant-loop decreases-loop
 loop-less-2 c = omega arith
@@ -68,7 +68,7 @@ loop-again-2 : tie.Need-loop-preserved-2 invariant-loop decreases-loop
 loop-again-2 c =
     let s = c.before.before.before.before.before.before.before.loop.invariant in
     let due = sym c.before.before.before.before.before.is-due.ensures ∙ c.before.before.before.before.if1.false in
-    passing-fold _ _ _ _ _ _ _ _ _ s c.before.before.before.before.before.before.loop-test.true due _
+    passing_fold _ _ _ _ _ _ _ _ _ s c.before.before.before.before.before.before.loop-test.true due _
     c.before.before.fold-back.ensures
 
 same_length : tie.Need-same-length invariant-loop decreases-loop
@@ -77,7 +77,7 @@ same_length c = c.before.loop.invariant.same ∙ c.before.before.before.before.b
 returns : tie.Need-returns invariant-loop decreases-loop
 returns c =
     let begun = c.before.before.before.before.begin-back.ensures in
-    passing-end _ _ _ _ _ _ _ begun _ _ _ c.before.loop.invariant c.loop-test.false
+    passing_end _ _ _ _ _ _ _ begun _ _ _ c.before.loop.invariant c.loop-test.false
 
 pub complete-lasting-spec : {M : Type 1} → statement M
 complete-lasting-spec =

@@ -1,7 +1,7 @@
 -- `ways::fold_window` meets its contract: the sender's entry of the start and those of the window are lowered by the hearer's.
 -- Assumes nothing.
 use native.Mathlib.Omega.{arith}
-use Rattle.ways.proofs.WindowLaws.{read-window, window-by}
+use Rattle.ways.proofs.WindowLaws.{read_window, window_by}
 use borrow.Author.Rules.{rules}
 use Rattle.ways.proofs.fold_window.Statement.{statement}
 use Rattle.ways.proofs.fold_window.Tie as tie
@@ -11,27 +11,27 @@ contact-at-requires c κs = search rules
 
 mul-row : tie.Need-overflow-mul-row
 mul-row c =
-    let read = read-window _ _ _ _ _ c.before.before.before.before.requires c.before.contact-at.ensures in
-    omega (arith, read.sender-row, c.before.before.before.before.well-formed.0.0)
+    let read = read_window _ _ _ _ _ c.before.before.before.before.requires c.before.contact-at.ensures in
+    omega (arith, read.sender_row, c.before.before.before.before.well-formed.0.0)
 
 mul-from : tie.Need-overflow-mul-from
 mul-from c =
-    let read = read-window _ _ _ _ _ c.before.before.before.before.before.requires c.before.before.contact-at.ensures in
-    omega (arith, read.hearer-row, c.before.before.before.before.before.well-formed.0.0)
+    let read = read_window _ _ _ _ _ c.before.before.before.before.before.requires c.before.before.contact-at.ensures in
+    omega (arith, read.hearer_row, c.before.before.before.before.before.well-formed.0.0)
 
 add-from : tie.Need-overflow-add-from
 add-from c =
-    let read = read-window _ _ _ _ _ c.before.before.before.before.before.before.requires c.before.before.before.contact-at.ensures in
-    omega (arith, read.hearer-row, read.column, c.before.before.before.before.before.before.well-formed.0.0)
+    let read = read_window _ _ _ _ _ c.before.before.before.before.before.before.requires c.before.before.before.contact-at.ensures in
+    omega (arith, read.hearer_row, read.column, c.before.before.before.before.before.before.well-formed.0.0)
 
 lower-requires : tie.Need-lower-requires
 lower-requires c κs =
-    let read = read-window _ _ _ _ _ c.before.before.before.before.before.before.before.requires c.before.before.before.before.contact-at.ensures in
-    (omega (arith, read.sender-row, read.column), omega (arith, read.hearer-row, read.column))
+    let read = read_window _ _ _ _ _ c.before.before.before.before.before.before.before.requires c.before.before.before.before.contact-at.ensures in
+    (omega (arith, read.sender_row, read.column), omega (arith, read.hearer_row, read.column))
 
 sub-above : tie.Need-overflow-sub-above
 sub-above c =
-    let read = read-window _ _ _ _ _ c.before.before.before.before.before.before.before.before.before.before.before.requires c.before.before.before.before.before.before.before.before.contact-at.ensures in
+    let read = read_window _ _ _ _ _ c.before.before.before.before.before.before.before.before.before.before.before.requires c.before.before.before.before.before.before.before.before.contact-at.ensures in
     omega (arith, read.from_one)
 
 above-requires : tie.Need-above-requires
@@ -39,7 +39,7 @@ above-requires c κs = search rules
 
 add_low : tie.Need-overflow-add-low
 add_low c =
-    let read = read-window _ _ _ _ _ c.before.before.before.before.before.before.before.before.before.before.before.before.requires c.before.before.before.before.before.before.before.before.before.contact-at.ensures in
+    let read = read_window _ _ _ _ _ c.before.before.before.before.before.before.before.before.before.before.before.before.requires c.before.before.before.before.before.before.before.before.before.contact-at.ensures in
     omega (arith, read.column, read.few, c.above.ensures)
 
 above-requires-2 : tie.Need-above-requires-2
@@ -47,7 +47,7 @@ above-requires-2 c κs = search rules
 
 add-end : tie.Need-overflow-add-end
 add-end c =
-    let read = read-window _ _ _ _ _ c.before.before.before.before.before.before.before.before.before.before.before.before.before.requires c.before.before.before.before.before.before.before.before.before.before.contact-at.ensures in
+    let read = read_window _ _ _ _ _ c.before.before.before.before.before.before.before.before.before.before.before.before.before.requires c.before.before.before.before.before.before.before.before.before.before.contact-at.ensures in
     omega (arith, read.column, read.few, c.above2.ensures)
 
 above-requires-3 : tie.Need-above-requires-3
@@ -55,15 +55,15 @@ above-requires-3 c κs = search rules
 
 add-lower-run : tie.Need-overflow-add-lower-run
 add-lower-run c =
-    let read = read-window _ _ _ _ _ c.before.before.before.before.before.before.before.before.before.before.before.before.before.before.before.requires c.before.before.before.before.before.before.before.before.before.before.before.before.contact-at.ensures in
-    omega (arith, read.sender-row, read.from_one, read.column, c.before.before.before.above.ensures, c.before.before.before.before.before.before.before.before.before.before.before.before.before.before.before.well-formed.0.0)
+    let read = read_window _ _ _ _ _ c.before.before.before.before.before.before.before.before.before.before.before.before.before.before.before.requires c.before.before.before.before.before.before.before.before.before.before.before.before.contact-at.ensures in
+    omega (arith, read.sender_row, read.from_one, read.column, c.before.before.before.above.ensures, c.before.before.before.before.before.before.before.before.before.before.before.before.before.before.before.well-formed.0.0)
 
 lower-run-requires : tie.Need-lower-run-requires
 lower-run-requires c κs =
-    let read = read-window _ _ _ _ _ c.before.before.before.before.before.before.before.before.before.before.before.before.before.before.before.requires c.before.before.before.before.before.before.before.before.before.before.before.before.contact-at.ensures in
+    let read = read_window _ _ _ _ _ c.before.before.before.before.before.before.before.before.before.before.before.before.before.before.before.requires c.before.before.before.before.before.before.before.before.before.before.before.before.contact-at.ensures in
     let same = c.before.before.before.before.before.before.before.lower.auto.0 in (
-      omega (arith, read.sender-row, read.from_one, read.column, c.before.before.before.above.ensures, c.before.before.above2.ensures, c.before.above3.ensures),
-      omega (arith, read.hearer-row, read.column),
+      omega (arith, read.sender_row, read.from_one, read.column, c.before.before.before.above.ensures, c.before.before.above2.ensures, c.before.above3.ensures),
+      omega (arith, read.hearer_row, read.column),
     )
 
 same_length : tie.Need-same-length
@@ -71,8 +71,8 @@ same_length c = search rules
 
 returns : tie.Need-returns
 returns c =
-    let read = read-window _ _ _ _ _ c.before.before.before.before.before.before.before.before.before.before.before.before.before.before.before.before.before.before.requires c.before.before.before.before.before.before.before.before.before.before.before.before.before.before.before.contact-at.ensures in
-    window-by _ _ _ _ _ _ _ _ _ _ _
+    let read = read_window _ _ _ _ _ c.before.before.before.before.before.before.before.before.before.before.before.before.before.before.before.before.before.before.requires c.before.before.before.before.before.before.before.before.before.before.before.before.before.before.before.contact-at.ensures in
+    window_by _ _ _ _ _ _ _ _ _ _ _
     c.before.before.before.before.before.before.before.before.before.before.before.before.before.before.before.contact-at.ensures
     c.before.before.before.before.before.before.before.before.before.before.lower.ensures
     (omega (arith, read.from_one, c.before.before.before.before.before.before.above.ensures))

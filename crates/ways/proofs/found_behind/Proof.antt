@@ -1,7 +1,7 @@
 -- `ways::found_behind` meets its contract: where the entries before lead, and what the search finds from there.
 -- Assumes nothing.
 use mathlib.Core.Path.{sym}
-use Rattle.ways.proofs.AdvanceLaws.{found_nowhere, found-there}
+use Rattle.ways.proofs.AdvanceLaws.{found_nowhere, found_there}
 use borrow.Author.Rules.{rules}
 use Rattle.ways.proofs.found_behind.Statement.{statement}
 use Rattle.ways.proofs.found_behind.Tie as tie
@@ -28,7 +28,7 @@ find-requires : tie.Need-find-requires
 find-requires c κs = search rules
 
 returns-2 : tie.Need-returns-2
-returns-2 c = sym (found-there _ _ _ _ _ _ _ c.before.before.before.before.before.end_of_lem.ensures _ c.before.before.before.end.given.1 _ c.find.ensures)
+returns-2 c = sym (found_there _ _ _ _ _ _ _ c.before.before.before.before.before.end_of_lem.ensures _ c.before.before.before.end.given.1 _ c.find.ensures)
 
 pub found-behind-spec : {M : Type 1} → statement M
 found-behind-spec =

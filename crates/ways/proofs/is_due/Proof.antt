@@ -1,7 +1,7 @@
 -- `ways::is_due` meets its contract: the slots of the two records are compared, where there is a first.
 -- Assumes nothing.
 use native.Mathlib.Omega.{arith}
-use Rattle.ways.proofs.ColumnLaws.{due-read, due-first}
+use Rattle.ways.proofs.ColumnLaws.{due_read, due_first}
 use borrow.Author.Rules.{rules}
 use Rattle.ways.proofs.is_due.Statement.{statement}
 use Rattle.ways.proofs.is_due.Tie as tie
@@ -23,11 +23,11 @@ above-requires c κs = search rules
 
 returns : tie.Need-returns
 returns c =
-    due-read _ _ _ _ _ _ _ c.before.before.before.if1.true c.before.before.contact-at.ensures
+    due_read _ _ _ _ _ _ _ c.before.before.before.if1.true c.before.before.contact-at.ensures
     c.before.contact-at2.ensures c.above.ensures
 
 returns-2 : tie.Need-returns-2
-returns-2 c = due-first _ _ _ _ (omega arith)
+returns-2 c = due_first _ _ _ _ (omega arith)
 
 pub is-due-spec : {M : Type 1} → statement M
 is-due-spec =

@@ -1,7 +1,7 @@
 -- `ways::lower` meets its contract: the entry is written where one more than the other is less.
 -- Assumes nothing.
 use native.Mathlib.Omega.{arith}
-use Rattle.ways.proofs.ColumnLaws.{lowered-less, lowered-more}
+use Rattle.ways.proofs.ColumnLaws.{lowered_less, lowered_more}
 use borrow.Author.Rules.{rules}
 use Rattle.ways.proofs.lower.Statement.{statement}
 use Rattle.ways.proofs.lower.Tie as tie
@@ -31,10 +31,10 @@ same_length : tie.Need-same-length
 same_length c = search rules
 
 returns : tie.Need-returns
-returns c = lowered-less _ _ _ c.if1.true
+returns c = lowered_less _ _ _ c.if1.true
 
 returns-2 : tie.Need-returns-2
-returns-2 c = lowered-more _ _ _ c.if1.false
+returns-2 c = lowered_more _ _ _ c.if1.false
 
 pub lower_spec : {M : Type 1} → statement M
 lower_spec =

@@ -1,7 +1,7 @@
 -- `ways::place` meets its contract: where the entries before lead, what the search finds, and the entry that is written.
 -- Assumes nothing.
 use native.Mathlib.Omega.{arith}
-use Rattle.ways.proofs.AdvanceLaws.{found-fits, placed-nowhere, placed-nothing, placed-found}
+use Rattle.ways.proofs.AdvanceLaws.{found_fits, placed_nowhere, placed_nothing, placed_found}
 use borrow.Author.Rules.{rules}
 use Rattle.ways.proofs.place.Statement.{statement}
 use Rattle.ways.proofs.place.Tie as tie
@@ -19,7 +19,7 @@ same_length : tie.Need-same-length
 same_length c = search rules
 
 returns : tie.Need-returns
-returns c = placed-nowhere _ _ _ _ _ _ _ c.before.before.end_of_lem.ensures c.enum_told.given.1
+returns c = placed_nowhere _ _ _ _ _ _ _ c.before.before.end_of_lem.ensures c.enum_told.given.1
 
 add-need : tie.Need-overflow-add-need
 add-need c = search rules
@@ -40,10 +40,10 @@ same-length-2 : tie.Need-same-length-2
 same-length-2 c = search rules
 
 returns-2 : tie.Need-returns-2
-returns-2 c = placed-nothing _ _ _ _ _ _ _ c.before.before.before.before.before.before.before.end_of_lem.ensures _ c.before.before.before.before.before.end.given.1 _ c.before.before.find.ensures c.enum-told2.given.1
+returns-2 c = placed_nothing _ _ _ _ _ _ _ c.before.before.before.before.before.before.before.end_of_lem.ensures _ c.before.before.before.before.before.end.given.1 _ c.before.before.find.ensures c.enum-told2.given.1
 
 cast-way : tie.Need-overflow-cast-way
-cast-way c = omega (arith, found-fits _ _ _ _ _ _ _ c.before.before.before.before.before.before.before.before.before.before.before.before.before.requires.searchable c.before.before.before.find.ensures c.before.found.given.1)
+cast-way c = omega (arith, found_fits _ _ _ _ _ _ _ c.before.before.before.before.before.before.before.before.before.before.before.before.before.requires.searchable c.before.before.before.find.ensures c.before.found.given.1)
 
 mul-way : tie.Need-overflow-mul-way
 mul-way c = search rules
@@ -55,7 +55,7 @@ same-length-3 : tie.Need-same-length-3
 same-length-3 c = search rules
 
 returns-3 : tie.Need-returns-3
-returns-3 c = placed-found _ _ _ _ _ _ _ c.before.before.before.before.before.before.before.before.end_of_lem.ensures _ c.before.before.before.before.before.before.end.given.1 _ c.before.before.before.find.ensures _ c.before.found.given.1
+returns-3 c = placed_found _ _ _ _ _ _ _ c.before.before.before.before.before.before.before.before.end_of_lem.ensures _ c.before.before.before.before.before.before.end.given.1 _ c.before.before.before.find.ensures _ c.before.found.given.1
 
 pub place-spec : {M : Type 1} → statement M
 place-spec =

@@ -2,7 +2,7 @@
 -- Assumes nothing.
 use native.Mathlib.Omega.{arith}
 use Rattle.walks.proofs.Accepted.{accepted}
-use Rattle.ways.proofs.CodeLaws.{serves-nowhere, serves-there, serves-room}
+use Rattle.ways.proofs.CodeLaws.{serves_nowhere, serves_there, serves_room}
 use borrow.Author.Rules.{rules}
 use Rattle.ways.proofs.serves.Statement.{statement}
 use Rattle.ways.proofs.serves.Tie as tie
@@ -17,25 +17,25 @@ enum_told : tie.Need-enum-told
 enum_told c = search rules
 
 returns : tie.Need-returns
-returns c = serves-nowhere _ c.before.before.before.before.before.args.q _ _ _ _ _ c.before.before.step-on.ensures c.enum_told.given.1
+returns c = serves_nowhere _ c.before.before.before.before.before.args.q _ _ _ _ _ c.before.before.step-on.ensures c.enum_told.given.1
 
 add_at : tie.Need-overflow-add-at
 add_at c = omega (arith, (accepted _ _ _ c.before.before.before.before.before.before.before.requires.accepted).slots)
 
 mul_at : tie.Need-overflow-mul-at
-mul_at c = omega (arith, serves-room _ _ _ _ c.before.before.before.before.before.before.before.before.args.need _ _ c.before.before.before.before.before.step-on.ensures _ c.before.before.before.end.given.1 c.before.before.before.before.before.before.before.before.requires, c.before.before.before.before.before.before.before.before.well-formed.0.0)
+mul_at c = omega (arith, serves_room _ _ _ _ c.before.before.before.before.before.before.before.before.args.need _ _ c.before.before.before.before.before.step-on.ensures _ c.before.before.before.end.given.1 c.before.before.before.before.before.before.before.before.requires, c.before.before.before.before.before.before.before.before.well-formed.0.0)
 
 add-at-2 : tie.Need-overflow-add-at-2
-add-at-2 c = omega (arith, serves-room _ _ _ _ c.before.before.before.before.before.before.before.before.before.args.need _ _ c.before.before.before.before.before.before.step-on.ensures _ c.before.before.before.before.end.given.1 c.before.before.before.before.before.before.before.before.before.requires, c.before.before.before.before.before.before.before.before.before.well-formed.0.0)
+add-at-2 c = omega (arith, serves_room _ _ _ _ c.before.before.before.before.before.before.before.before.before.args.need _ _ c.before.before.before.before.before.before.step-on.ensures _ c.before.before.before.before.end.given.1 c.before.before.before.before.before.before.before.before.before.requires, c.before.before.before.before.before.before.before.before.before.well-formed.0.0)
 
 mul-result : tie.Need-overflow-mul-result
-mul-result c = omega (arith, serves-room _ _ _ _ c.before.before.before.before.before.before.before.before.before.args.need _ _ c.before.before.before.before.before.before.step-on.ensures _ c.before.before.before.before.end.given.1 c.before.before.before.before.before.before.before.before.before.requires, c.before.before.before.before.before.before.before.before.before.well-formed.0.1)
+mul-result c = omega (arith, serves_room _ _ _ _ c.before.before.before.before.before.before.before.before.before.args.need _ _ c.before.before.before.before.before.before.step-on.ensures _ c.before.before.before.before.end.given.1 c.before.before.before.before.before.before.before.before.before.requires, c.before.before.before.before.before.before.before.before.before.well-formed.0.1)
 
 shared-slice-read-result : tie.Need-shared-slice-read-result
-shared-slice-read-result c = omega (arith, serves-room _ _ _ _ c.before.before.before.before.before.before.before.before.before.before.args.need _ _ c.before.before.before.before.before.before.before.step-on.ensures _ c.before.before.before.before.before.end.given.1 c.before.before.before.before.before.before.before.before.before.before.requires)
+shared-slice-read-result c = omega (arith, serves_room _ _ _ _ c.before.before.before.before.before.before.before.before.before.before.args.need _ _ c.before.before.before.before.before.before.before.step-on.ensures _ c.before.before.before.before.before.end.given.1 c.before.before.before.before.before.before.before.before.before.before.requires)
 
 returns-2 : tie.Need-returns-2
-returns-2 c = serves-there _ c.before.before.before.before.before.before.before.before.before.before.args.q _ _ _ _ _ c.before.before.before.before.before.before.before.step-on.ensures _ c.before.before.before.before.before.end.given.1
+returns-2 c = serves_there _ c.before.before.before.before.before.before.before.before.before.before.args.q _ _ _ _ _ c.before.before.before.before.before.before.before.step-on.ensures _ c.before.before.before.before.before.end.given.1
 
 pub serves-spec : {M : Type 1} → statement M
 serves-spec =

@@ -2,19 +2,19 @@
 -- number of entries left.
 -- Assumes nothing.
 use Rattle.std.proofs.Common.{◌-◌, arith, rules}
-use Rattle.pass.proofs.RowLaws.{Combining, combining-none, combining-more, combining-all}
-use Rattle.widths.specs.Key.{mergedKey}
+use Rattle.pass.proofs.RowLaws.{Combining, combining_none, combining_more, combining_all}
+use Rattle.widths.specs.Key.{merged_key}
 use Rattle.widths.proofs.merge_keys.Statement.{statement}
 use Rattle.widths.proofs.merge_keys.Tie as tie
 
 abbrev invariant-loop : tie.invariant-loop
-invariant-loop work₀ to from size j₀ work j = Combining mergedKey to from size work₀ j work
+invariant-loop work₀ to from size j₀ work j = Combining merged_key to from size work₀ j work
 
 abbrev decreases-loop : tie.decreases-loop
 decreases-loop work₀ to from size j₀ work j = size - j
 
 loop-holds : tie.Need-loop-init invariant-loop decreases-loop
-loop-holds c = combining-none _ _ _ _ _
+loop-holds c = combining_none _ _ _ _ _
 
 add-merged-key : tie.Need-overflow-add-merged-key invariant-loop decreases-loop
 add-merged-key c = omega arith
@@ -53,13 +53,13 @@ loop-less : tie.Need-loop-smaller invariant-loop decreases-loop
 loop-less c = omega arith
 
 loop-again : tie.Need-loop-preserved invariant-loop decreases-loop
-loop-again c = rw c.merged-key.ensures (combining-more mergedKey _ _ _ _ _ _ (omega arith) c.before.before.before.before.loop.invariant)
+loop-again c = rw c.merged-key.ensures (combining_more merged_key _ _ _ _ _ _ (omega arith) c.before.before.before.before.loop.invariant)
 
 same_length : tie.Need-same-length invariant-loop decreases-loop
 same_length c = c.before.loop.invariant.same
 
 returns : tie.Need-returns invariant-loop decreases-loop
-returns c = combining-all _ _ _ _ _ _ _ (omega arith) c.before.loop.invariant
+returns c = combining_all _ _ _ _ _ _ _ (omega arith) c.before.loop.invariant
 
 pub merge-keys-spec : {M : Type 1} → statement M
 merge-keys-spec =

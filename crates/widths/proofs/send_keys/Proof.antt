@@ -2,19 +2,19 @@
 -- number of entries left.
 -- Assumes nothing.
 use Rattle.std.proofs.Common.{◌-◌, arith, rules}
-use Rattle.pass.proofs.RowLaws.{Combining, combining-none, combining-more, combining-all}
-use Rattle.widths.specs.Key.{sentKey}
+use Rattle.pass.proofs.RowLaws.{Combining, combining_none, combining_more, combining_all}
+use Rattle.widths.specs.Key.{sent_key}
 use Rattle.widths.proofs.send_keys.Statement.{statement}
 use Rattle.widths.proofs.send_keys.Tie as tie
 
 abbrev invariant-loop : tie.invariant-loop
-invariant-loop work₀ to from size j₀ work j = Combining sentKey to from size work₀ j work
+invariant-loop work₀ to from size j₀ work j = Combining sent_key to from size work₀ j work
 
 abbrev decreases-loop : tie.decreases-loop
 decreases-loop work₀ to from size j₀ work j = size - j
 
 loop-holds : tie.Need-loop-init invariant-loop decreases-loop
-loop-holds c = combining-none _ _ _ _ _
+loop-holds c = combining_none _ _ _ _ _
 
 add-wrapping-add-u64 : tie.Need-overflow-add-wrapping-add-u64 invariant-loop decreases-loop
 add-wrapping-add-u64 c = omega arith
@@ -56,16 +56,16 @@ loop-less : tie.Need-loop-smaller invariant-loop decreases-loop
 loop-less c = omega arith
 
 loop-again : tie.Need-loop-preserved invariant-loop decreases-loop
-unfolding sentKey
+unfolding sent_key
 loop-again c =
     rw (c.merged-key.ensures, c.before.before.wrapping-add-u64.ensures)
-    (combining-more sentKey _ _ _ _ _ _ (omega arith) c.before.before.before.before.before.loop.invariant)
+    (combining_more sent_key _ _ _ _ _ _ (omega arith) c.before.before.before.before.before.loop.invariant)
 
 same_length : tie.Need-same-length invariant-loop decreases-loop
 same_length c = c.before.loop.invariant.same
 
 returns : tie.Need-returns invariant-loop decreases-loop
-returns c = combining-all _ _ _ _ _ _ _ (omega arith) c.before.loop.invariant
+returns c = combining_all _ _ _ _ _ _ _ (omega arith) c.before.loop.invariant
 
 pub send-keys-spec : {M : Type 1} → statement M
 send-keys-spec =
