@@ -11,7 +11,7 @@ use Rattle.report.proofs.put_lines.Given as goal
 
 abbrev pub invariant-loop-v : goal.invariant-loop-v
 invariant-loop-v l =
-    Going l.at (lines_of l.pairs l.sums l.n) l.initial.out l.end (pieces (λ l.v. line l.v (get_or l.pairs l.v 0) (get_or l.sums l.v 0)) l.v l.n) l.out
+    Going l.at (lines_of l.pairs l.sums l.n) l.initial.out l.end (pieces (λ u. line u (get_or l.pairs u 0) (get_or l.sums u 0)) l.v l.n) l.out
 
 abbrev pub decreases-loop-v : goal.decreases-loop-v
 decreases-loop-v l = l.n - l.v
