@@ -7,10 +7,10 @@ use Rattle.cases_check.proofs.main.Statement.{statement}
 use Rattle.cases_check.proofs.main.Tie as tie
 
 abbrev invariant-loop : tie.invariant-loop
-invariant-loop head₀ label₀ plan₀ left₀ head label plan left = (8 ≡ length head) × (64 ≡ length label) × (49200 ≡ length plan)
+invariant-loop rt head₀ label₀ plan₀ left₀ head label plan left = (8 ≡ length head) × (64 ≡ length label) × (49200 ≡ length plan)
 
 abbrev decreases-loop : tie.decreases-loop
-decreases-loop head₀ label₀ plan₀ left₀ head label plan left = left
+decreases-loop rt head₀ label₀ plan₀ left₀ head label plan left = left
 
 loop-holds : tie.Need-loop-init invariant-loop decreases-loop
 loop-holds c = search rules
