@@ -54,7 +54,7 @@ module _ {A : Type 0} where
       mul-pos (h x (Memᴰ.head refl)) (product_positive c l (λ y m. h y (Memᴰ.tail m)))
 
   -- a product is a multiple of each of its numbers
-  pub product_member : (c : A → ℕ) {l : List A} {x : A} → Memᴰ x l → (k : ℕ) × (product (map c l) ≡ k * c x)
+  pub product_member : (c : A → ℕ) {x : A} {l : List A} → Memᴰ x l → (k : ℕ) × (product (map c l) ≡ k * c x)
   unfolding product
   product_member c (Memᴰ.head {xs = l} e) = (product (map c l), rw e (mul_comm _ _))
   product_member c {x = x} (Memᴰ.tail {x = y} m) =
