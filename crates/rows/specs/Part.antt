@@ -6,7 +6,7 @@ use Rattle.temporal.specs.Outcome.{row_number, row}
 
 -- where a place of a table of 64-bit entries stands in memory: in the table's block, 8 bytes an entry behind its beginning
 abbrev pub place_in : Bor (List ℕ) → ℕ → ℕ × ℕ
-place_in table i = (table.ptr.0, table.ptr.1 + i * 8)
+place_in table i = (table.ref_ptr.0, table.ref_ptr.1 + i * 8)
 
 -- Document 01's "the part of their own table": the entries are row's, and an accepted row stands at place v (T + 1) of the
 -- caller's table. A refused row is the empty part, wherever it stands.

@@ -83,7 +83,7 @@ snoc k u e =
 -- ---- places in a list
 
 -- a member stands at a place
-pub place_of : {l : List (List ℕ)} {w : List ℕ} → Memᴰ w l → (i : ℕ) × (i < length l) × (get_or l i [] ≡ w)
+pub place_of : {w : List ℕ} {l : List (List ℕ)} → Memᴰ w l → (i : ℕ) × (i < length l) × (get_or l i [] ≡ w)
 place_of (Memᴰ.head e) = (0, omega arith, sym e)
 place_of (Memᴰ.tail m) = let (i, h, e) = place_of m in (suc i, omega arith, e)
 
@@ -161,7 +161,7 @@ holds_map none = refl
 holds_map (some i) = refl
 
 -- a buffer that begins with a member has an index
-pub index_some : (b : List ℕ) {l : List (List ℕ)} {w : List ℕ} → Memᴰ w l → w ≡ take (length w) b
+pub index_some : (b : List ℕ) {w : List ℕ} {l : List (List ℕ)} → Memᴰ w l → w ≡ take (length w) b
     → holds (index_in l b) (λ i. true) ≡ true
 unfolding index_in holds
 index_some b {w = w} (Memᴰ.head {x = v} e) begins =

@@ -1,0 +1,11 @@
+-- `calls::wrong_turnaround` meets its contract: the two tests are those of 12.
+-- Assumes nothing.
+use mathlib.Core.Path.{sym}
+use Rattle.calls.proofs.CallLaws.{terms_none, terms_some}
+use Rattle.calls.proofs.wrong_turnaround.Goals as goal
+
+pub returns-then-g-eq0 : goal.returns-then-g-eq0
+returns-then-g-eq0 c h = sym (terms_none _ c.if-g-eq0.true)
+
+pub returns : goal.returns
+returns c h = terms_some _ c.if-g-eq0.false

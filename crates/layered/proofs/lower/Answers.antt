@@ -1,0 +1,10 @@
+-- `layered::lower` meets its contract.
+-- Assumes nothing.
+use Rattle.layered.proofs.RecordLaws.{lowered_low, lowered_high}
+use Rattle.layered.proofs.lower.Goals as goal
+
+pub returns-then-u-n : goal.returns-then-u-n
+returns-then-u-n c = lowered_low _ _ c.if-u-n.true
+
+pub returns : goal.returns
+returns c = lowered_high _ _ c.if-u-n.false

@@ -1,0 +1,7 @@
+-- `layered::lowered_contact` meets its contract.
+-- Assumes nothing.
+use Rattle.layered.proofs.RecordLaws.{lowered_whole}
+use Rattle.layered.proofs.lowered_contact.Goals as goal
+
+pub returns : goal.returns
+returns c = lowered_whole _ _ _ _ _ c.contact_at-c.ensures c.lower-sender.ensures c.lower-hearer.ensures

@@ -1,0 +1,23 @@
+-- `pass::settle_waiting` meets its contract: what waits is taken in and the waiting entry cleared; where the count is over 2^64 - 1 or does
+-- not fit a lane, nothing is changed.
+-- Assumes nothing.
+use Rattle.std.proofs.Common.{sym, ◌∙◌, arith, lt-length-set}
+use Rattle.pass.proofs.PlaceLaws.{settled_over, settled_stop, settled_go}
+use Rattle.pass.proofs.settle_waiting.Goals as goal
+
+pub returns-then-over : goal.returns-then-over
+returns-then-over c = settled_over _ _ _ _ _ _ _ _ _ c.requires.3 (sym c.if-over.true ∙ c.over.ensures)
+
+pub returns-then-take_in : goal.returns-then-take_in
+returns-then-take_in c =
+    settled_stop _ _ _ _ _ _ _ _ _ _ c.requires.3 (sym c.if-over.false ∙ c.over.ensures)
+    (rw c.if-take_in.true at c.take_in.ensures)
+
+pub bounds-work-counted-2 : goal.bounds-work-counted-2
+bounds-work-counted-2 c =
+    lt-length-set c.take_in.new.work _ _ (omega (arith, c.take_in.auto.work, c.requires.0.fits, c.requires.1))
+
+pub returns : goal.returns
+returns c =
+    settled_go _ _ _ _ _ _ _ _ _ _ c.requires.3 (sym c.if-over.false ∙ c.over.ensures)
+    (rw c.if-take_in.false at c.take_in.ensures)

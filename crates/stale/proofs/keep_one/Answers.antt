@@ -1,0 +1,23 @@
+-- `stale::keep_one` meets its contract: the count is over 2^64 - 1, or the total's does not fit a lane; what is heard is taken into the
+-- total, kept and gone; or nothing is heard.
+-- Assumes nothing.
+use Rattle.std.proofs.Common.{arith}
+use Rattle.stale.proofs.WindowSteps.{kept_over, kept_wide, kept_within, kept_none}
+use Rattle.stale.proofs.keep_one.Goals as goal
+
+pub returns-then-d-eq0 : goal.returns-then-d-eq0
+returns-then-d-eq0 c =
+    kept_over _ _ _ _ _ _ _ _ _ c.part_size-size.ensures (omega arith) (omega arith)
+
+pub returns-then-wide_at : goal.returns-then-wide_at
+returns-then-wide_at c =
+    kept_wide _ _ _ _ _ _ _ _ _ c.part_size-size.ensures _ (omega arith) (omega arith) c.wide_at.ensures c.if-wide_at.true
+
+pub returns-else-wide_at : goal.returns-else-wide_at
+returns-else-wide_at c =
+    kept_within _ _ _ _ _ _ _ _ _ c.part_size-size.ensures _ (omega arith) (omega arith) c.wide_at.ensures _ _ _
+    c.if-wide_at.false c.take.ensures c.push.ensures c.empty_entry.ensures
+
+pub returns-else-l-lt65535 : goal.returns-else-l-lt65535
+returns-else-l-lt65535 c =
+    kept_none _ _ _ _ _ _ _ _ _ c.part_size-size.ensures (omega arith)

@@ -1,0 +1,13 @@
+-- `widths::send_keys` meets its contract. The loop's invariant: writing the entries from j on gives what writing all gives. The measure is the
+-- number of entries left.
+-- Assumes nothing.
+use Rattle.std.proofs.Common.{◌-◌}
+use Rattle.pass.proofs.RowLaws.{Combining}
+use Rattle.widths.specs.Key.{sent_key}
+use Rattle.widths.proofs.send_keys.Given as goal
+
+abbrev pub invariant-loop-j : goal.invariant-loop-j
+invariant-loop-j l = Combining sent_key l.to l.from l.size l.initial.work l.j l.work
+
+abbrev pub decreases-loop-j : goal.decreases-loop-j
+decreases-loop-j l = l.size - l.j
