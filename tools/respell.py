@@ -40,7 +40,7 @@ CHOSEN = {
 
 
 def snake(name):
-    s = re.sub(r"([a-z0-9])([A-Z])", lambda m: m[1] + "_" + m[2].lower(), name)
+    s = re.sub(r"([a-z0-9])_?([A-Z])", lambda m: m[1] + "_" + m[2].lower(), name)
     s = re.sub(r"([A-Z])(?=[A-Z])", lambda m: m[1].lower() + "_", s) if re.match(r"[a-z]", s) else s
     return s.lower().replace("-", "_") if s[0].islower() else s
 
@@ -48,7 +48,7 @@ def snake(name):
 def wanted(name):
     if not name[0].islower() or name.startswith("μ") or not re.search(r"[A-Za-z]", name):
         return False
-    return "-" in name or re.search(r"[a-z0-9][A-Z]", name) is not None
+    return "-" in name or re.search(r"[a-z0-9_][A-Z]", name) is not None
 
 
 def code_of(line, mark):
