@@ -1,6 +1,6 @@
 -- What the work of first way and next way asks, once 1 to 5, 12, 14 and 6 to 8 are excluded, and what it leaves. Definitions only.
 -- Assumes nothing.
-use Rattle.std.specs.Prelude.{ℕ, ◌<◌, ◌≤◌, ◌≡◌, List, length, drop}
+use Rattle.std.specs.Prelude.{ℕ, ◌≤◌, ◌≡◌, List, length, drop}
 use Rattle.temporal.specs.Plan.{Allowed}
 use Rattle.temporal.specs.Outcome.{work_size}
 use Rattle.temporal.specs.Cursor.{Reply, Operation, Moved, index_in, move}

@@ -1,6 +1,7 @@
 // Operations 7 and 8: first way and next way, which list the shortest walks of a pair in lexicographic order, one a call.
 // A call is told where the listing stands by the way buffer alone.
 #![tactic(auto)]
+
 ghost use Rattle.std.specs.Prelude.{◌≡◌, ◌≤◌, length, replicate};
 ghost use Rattle.temporal.specs.Cause.{plan_fault};
 ghost use Rattle.temporal.specs.Outcome.{over, work_size};

@@ -1,13 +1,13 @@
 -- What the work of the operation does: 9, no walk, and the list judged by the completion table. Assumes nothing.
-use Prim.Native.Nat.{ℕ, ◌+◌, ◌<◌, ◌≤◌}
+use Prim.Native.Nat.{ℕ, ◌<◌}
 use native.Mathlib.Omega.{arith}
 use mathlib.Core.Path.{◌≡◌, refl, sym, ap, ◌∙◌, subst}
-use mathlib.Core.Bool.{Bool, true, false, ◌&&◌, and-eq-true_iff}
+use mathlib.Core.Bool.{Bool, true, false}
 use mathlib.Core.Logic.{◌≢◌}
 use mathlib.Core.List.{List, [], ◌∷◌, Memᴰ}
 use mathlib.Core.Option.{some}
 use borrow.Author.Tests.{eqb-true}
-use lib.ListN.{length, get_or, drop, replicate, length-replicate}
+use lib.ListN.{get_or, replicate, length-replicate}
 use Rattle.temporal.specs.Plan.{Plan, Terms, start}
 use Rattle.temporal.specs.Walk.{is_at, is_walk_to}
 use Rattle.walks.proofs.WalkLaws.{ends_nil}
@@ -31,7 +31,7 @@ use Rattle.judging.specs.Judge.{verdict_of, Judgeable}
 use Rattle.judging.specs.declared.Judgement.{Judgement}
 use Rattle.verdicts.specs.declared.VerdictAnswer.{VerdictAnswer}
 use Rattle.verdicts.specs.declared.VerdictAnswer.TheVariants.{Judged, Refused}
-use Rattle.verdicts.specs.Answer.{verdict_number, verdict_given, verdict_outcome}
+use Rattle.verdicts.specs.Answer.{verdict_outcome}
 use Rattle.verdicts.specs.Work.{VerdictReady, VerdictWorked}
 
 -- the empty list is a walk only from a station to itself

@@ -1,6 +1,7 @@
 // The operation that judges a list of positions which somebody else wrote (document 02, C-19): whether it is the complete list of a
 // pair, a proper beginning of it, or wrong. One pass, one completion table, then the list is gone through once.
 #![tactic(auto)]
+
 ghost use Rattle.std.specs.Prelude.{◌≡◌};
 ghost use Rattle.temporal.specs.Plan.{units};
 ghost use Rattle.temporal.specs.Bytes.{plan_of};
