@@ -1,7 +1,6 @@
 -- Figures of rules that have no other figure, by computation from the definitions: lists in lexicographic order, strictly later slots, stations
 -- visited twice, a plan that is no whole number of records, and slot 0.
 -- Assumes nothing.
-use Prim.Native.Nat.{ℕ}
 use native.Mathlib.Omega.{arith}
 use mathlib.Core.Path.{◌≡◌, refl}
 use mathlib.Core.Bool.{true, false}
