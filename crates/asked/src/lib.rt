@@ -1,9 +1,10 @@
 // The arguments of a program that accounts for a station: the station, and the most walks to print under each pair of it.
 #![tactic(auto)]
-ghost use Rattle.std.specs.Prelude.{◌+◌, ◌*◌, min, ◌≡◌};
+
+ghost use Rattle.std.specs.Prelude.{◌+◌, ◌*◌, ◌≤◌, min, length, ◌≡◌};
 ghost use Rattle.asked.specs.Asked.{largest, number_of, request_of, RequestWithin};
 
-use libc::STDERR_FILENO;
+use std::env::{Env, FillError};
 
 // What a word says: a number, or it is none.
 #[derive(Clone, Copy)]
@@ -83,18 +84,48 @@ pub fn request_of(count: usize, first: &[u8], second: &[u8]) -> Request
     Request::Account(station, walks)
 }
 
-// What the program's own arguments ask for. Where they are wrong, one line on standard error says what they are to be. An argument
-// that is missing or too long counts as an empty word, which is no number.
-pub fn arguments(wrong: &[u8]) -> Request
+// Whether the program has an argument of this number; its name has number 0.
+fn is_given<V: Env>(environment: &V, number: usize) -> bool {
+    let mut none = [0u8; 0];
+    !matches!(
+        environment.arg(number, &mut none),
+        Err(FillError::NotPresent)
+    )
+}
+
+// The number of the program's arguments, its own name among them; one more than ARGUMENTS stands for every larger number.
+fn count_of<V: Env>(environment: &V) -> usize
+    ensures { result ≤ 4 }
+{
+    let mut count = 0;
+    while count <= ARGUMENTS && is_given(environment, count) {
+        count += 1;
+    }
+    count
+}
+
+// Puts an argument at the beginning of a buffer; its length, 0 where it is missing or longer than the buffer.
+fn read_word<V: Env>(environment: &V, number: usize, word: &mut [u8]) -> usize
+    ensures { result ≤ length word.new }
+{
+    environment.arg(number, word).unwrap_or(0)
+}
+
+// What the program's own arguments ask for. Where they are wrong, one line says what they are to be. An argument that is missing or too
+// long counts as an empty word, which is no number.
+pub fn arguments<V: Env, E: Print>(environment: &V, errors: &E, wrong: &[u8]) -> Request
     ensures { RequestWithin result }
 {
     let mut first = [0u8; LONGEST];
     let mut second = [0u8; LONGEST];
-    let a = os::arg(1, &mut first);
-    let b = os::arg(2, &mut second);
-    let Request::Account(station, walks) = request_of(os::arg_count(), &first[..a], &second[..b])
-    else {
-        io::write_all(STDERR_FILENO, wrong);
+    let a = read_word(environment, 1, &mut first);
+    let b = read_word(environment, 2, &mut second);
+    let Request::Account(station, walks) = request_of(
+        count_of(environment),
+        &first[..a],
+        &second[..b],
+    ) else {
+        let _ = errors.write_all(wrong);
         return Request::Wrong;
     };
     Request::Account(station, walks)

@@ -11,7 +11,6 @@ use borrow.Author.Tests.{lt-ltb, le-ltb, ltb-false}
 use lib.ListN.{length, get_or, set, drop, length-set}
 use lib.Seq.{get_or-set_same, get_or-set_other, get_or-drop, drop-set-lt}
 use Rattle.temporal.specs.Lists.{from, below, any}
-use Rattle.temporal.specs.Bytes.{records}
 use Rattle.temporal.specs.Cause.{cause, plan_causes, plan_fault}
 use Rattle.temporal.specs.Outcome.{Outcome, entered, short}
 use Rattle.temporal.specs.Band.{records_in, band_slots, taken_in, taken_out, over_band, under_band, take_in, take_out}

@@ -1,6 +1,7 @@
 // Document 02's operations on plans that share a band (C-22): taking a plan in and taking it out. The plan is gone through twice, slot by
 // slot: first every entry is looked at, then every entry is written.
 #![tactic(auto)]
+
 ghost use Rattle.std.specs.Prelude.{◌≡◌, false, ◌+◌, ◌≤◌, ltb};
 ghost use Rattle.temporal.specs.Cause.{plan_fault};
 ghost use Rattle.temporal.specs.Band.{take_in, take_out};

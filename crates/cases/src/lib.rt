@@ -1,9 +1,10 @@
 // What the programs that run cases share: reading a case from standard input, lending parts of tables, writing an answer
-// and tables to standard output.
+// and tables to standard output. A failed write is not told.
 #![tactic(auto)]
+
 ghost use Rattle.std.specs.Prelude.{◌<◌, ◌≤◌, length};
 
-use libc::{STDIN_FILENO, STDOUT_FILENO};
+use std::io::Read;
 
 // The most cases of one input: a proved loop has to end.
 pub const MOST: usize = 1000000;
@@ -69,60 +70,54 @@ pub fn lent(head: &[u8], k: usize, most: usize) -> usize
 }
 
 // Reads k bytes to the beginning of a buffer. False where the buffer is shorter, or the input ends before.
-pub fn read_part(buf: &mut [u8], k: usize) -> bool {
+pub fn read_part(rt: &impl Input, buf: &mut [u8], k: usize) -> bool {
     if buf.len() < k {
         return false;
     }
-    let got = io::read_full(STDIN_FILENO, &mut buf[..k]);
-    got == k
+    rt.reader().read_exact(&mut buf[..k]).is_ok()
 }
 
 // Reads a whole head, then a label and a plan, whose 16-bit lengths stand at places of the head. False where the input has
 // no further case.
 pub fn read_case(
+    rt: &impl Input,
     head: &mut [u8],
     label: &mut [u8],
     plan: &mut [u8],
     label_at: usize,
     plan_at: usize,
 ) -> bool {
-    if !read_part(head, head.len()) {
+    if !read_part(rt, head, head.len()) {
         return false;
     }
-    if !read_part(label, word(head, label_at)) {
+    if !read_part(rt, label, word(head, label_at)) {
         return false;
     }
-    read_part(plan, word(head, plan_at))
+    read_part(rt, plan, word(head, plan_at))
 }
 
 // Writes the first k bytes of a buffer, all where it has fewer.
-pub fn write_part(buf: &[u8], k: usize) {
+pub fn write_part(rt: &impl Print, buf: &[u8], k: usize) {
     if k <= buf.len() {
-        io::write_all(STDOUT_FILENO, &buf[..k]);
+        let _ = rt.write_all(&buf[..k]);
     } else {
-        io::write_all(STDOUT_FILENO, buf);
+        let _ = rt.write_all(buf);
     }
 }
 
 // Writes a space and a number in decimal.
-pub fn write_number(x: u64) {
-    io::write_all(STDOUT_FILENO, b" ");
-    io::print_decimal(STDOUT_FILENO, x);
+pub fn write_number(rt: &impl Print, x: u64) {
+    let _ = print!(rt; " {x}");
 }
 
 // Writes a space and a number in decimal, with a minus sign where it is below 0.
-pub fn write_signed(x: i64) {
-    if 0 <= x {
-        write_number(x as u64);
-        return;
-    }
-    io::write_all(STDOUT_FILENO, b" -");
-    io::print_decimal(STDOUT_FILENO, (-(x + 1)) as u64 + 1);
+pub fn write_signed(rt: &impl Print, x: i64) {
+    let _ = print!(rt; " {x}");
 }
 
 // Writes the end of a line.
-pub fn end_line() {
-    io::write_all(STDOUT_FILENO, b"\n");
+pub fn end_line(rt: &impl Print) {
+    let _ = rt.write_all(b"\n");
 }
 
 // Fills a table with a mark.
@@ -151,31 +146,31 @@ fn run_end64(table: &[u64], from: usize) -> usize
 }
 
 // Writes the entries of a run from one to another, " i:" or " i .. j:".
-pub fn write_entries(from: usize, last: usize) {
-    write_number(from as u64);
+pub fn write_entries(rt: &impl Print, from: usize, last: usize) {
+    write_number(rt, from as u64);
     if from < last {
-        write_part(b" ..", 3);
-        write_number(last as u64);
+        write_part(rt, b" ..", 3);
+        write_number(rt, last as u64);
     }
-    write_part(b":", 1);
+    write_part(rt, b":", 1);
 }
 
 // Writes the run of x from one entry to another, " i: x" or " i .. j: x", unless x is the value left out.
-pub fn write_run(from: usize, last: usize, x: u64, out: u64) {
+pub fn write_run(rt: &impl Print, from: usize, last: usize, x: u64, out: u64) {
     if x == out {
         return;
     }
-    write_entries(from, last);
-    write_number(x);
+    write_entries(rt, from, last);
+    write_number(rt, x);
 }
 
 // Writes " |" and the runs of a table, but those of 0.
-pub fn write64(table: &[u64]) {
-    write_part(b" |", 2);
+pub fn write64(rt: &impl Print, table: &[u64]) {
+    write_part(rt, b" |", 2);
     let mut from = 0;
     while from < table.len() {
         let end = run_end64(table, from);
-        write_run(from, end - 1, table[from], 0);
+        write_run(rt, from, end - 1, table[from], 0);
         from = end;
     }
 }

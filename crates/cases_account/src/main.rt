@@ -4,7 +4,14 @@
 #![tactic(auto)]
 
 // Writes the account of a station for units with a turnaround.
-fn write_account(input: &[u8], g: usize, station: usize, walks: usize, out: &mut [u8; 2598088]) {
+fn write_account(
+    rt: &impl Print,
+    input: &[u8],
+    g: usize,
+    station: usize,
+    walks: usize,
+    out: &mut [u8; 2598088],
+) {
     let mut pairs = [0u64; 32];
     let mut sums = [0u64; 32];
     let mut layered = [0u8; 12288];
@@ -22,18 +29,25 @@ fn write_account(input: &[u8], g: usize, station: usize, walks: usize, out: &mut
         &mut way,
         &mut work,
     );
-    cases::write_part(out, size);
+    cases::write_part(rt, out, size);
 }
 
 // One case; false where the input has no further one.
-fn run_case(head: &mut [u8], label: &mut [u8], input: &mut [u8], out: &mut [u8; 2598088]) -> bool {
-    if !cases::read_case(head, label, input, 0, 2) {
+fn run_case(
+    rt: &(impl Input + Print),
+    head: &mut [u8],
+    label: &mut [u8],
+    input: &mut [u8],
+    out: &mut [u8; 2598088],
+) -> bool {
+    if !cases::read_case(rt, head, label, input, 0, 2) {
         return false;
     }
-    cases::write_part(label, cases::word(head, 0));
-    cases::write_part(b":\n", 2);
+    cases::write_part(rt, label, cases::word(head, 0));
+    cases::write_part(rt, b":\n", 2);
     let size = cases::least(cases::word(head, 2), input.len());
     write_account(
+        rt,
         &input[..size],
         cases::word(head, 4),
         cases::word(head, 6),
@@ -43,13 +57,13 @@ fn run_case(head: &mut [u8], label: &mut [u8], input: &mut [u8], out: &mut [u8; 
     true
 }
 
-fn main() {
+fn main(rt: HostRuntime) {
     let mut head = [0u8; 10];
     let mut label = [0u8; 64];
     let mut input = [0u8; 6200];
     let mut out = [0u8; 2598088];
     let mut left = cases::MOST;
-    while 0 < left && run_case(&mut head, &mut label, &mut input, &mut out) {
+    while 0 < left && run_case(&rt, &mut head, &mut label, &mut input, &mut out) {
         left -= 1;
     }
 }

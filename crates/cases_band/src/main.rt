@@ -7,6 +7,7 @@
 // For each case a line: the label, a colon, a space and the number of the answer; then, behind " |", the lent table after the call.
 // A run of one value is written " i: x" or " i .. j: x"; entries of 0 are left out.
 #![tactic(auto)]
+
 ghost use Rattle.std.specs.Prelude.{◌<◌, ◌≤◌, length};
 
 use band::BandAnswer;
@@ -41,21 +42,21 @@ fn wide(x: u16) -> u64 {
 }
 
 // Writes " |" and the runs of a table, but those of 0.
-fn write16(table: &[u16]) {
-    cases::write_part(b" |", 2);
+fn write16(rt: &impl Print, table: &[u16]) {
+    cases::write_part(rt, b" |", 2);
     let mut from = 0;
     while from < table.len() {
         let end = run_end16(table, from);
-        cases::write_run(from, end - 1, wide(table[from]), 0);
+        cases::write_run(rt, from, end - 1, wide(table[from]), 0);
         from = end;
     }
 }
 
 // Writes the number of the answer.
-fn write_answer(answer: BandAnswer) {
+fn write_answer(rt: &impl Print, answer: BandAnswer) {
     match answer {
-        BandAnswer::Taken => cases::write_number(0),
-        BandAnswer::Refused(fault) => cases::write_number(plan::fault_number(fault) as u64),
+        BandAnswer::Taken => cases::write_number(rt, 0),
+        BandAnswer::Refused(fault) => cases::write_number(rt, plan::fault_number(fault) as u64),
     }
 }
 
@@ -70,48 +71,58 @@ fn call(head: &[u8], plan: &[u8], table: &mut [u16]) -> BandAnswer {
 }
 
 // Makes the call on the lent parts, and writes its answer.
-fn run_band(head: &[u8], plan: &[u8], table: &mut [u16]) {
-    write_answer(call(head, plan, table));
-    write16(table);
+fn run_band(rt: &impl Print, head: &[u8], plan: &[u8], table: &mut [u16]) {
+    write_answer(rt, call(head, plan, table));
+    write16(rt, table);
 }
 
 // Lends what the head names, and runs the case.
-fn run_named(head: &[u8], plan: &[u8], table: &mut [u16]) {
+fn run_named(rt: &impl Print, head: &[u8], plan: &[u8], table: &mut [u16]) {
     let size = cases::least(cases::word(head, 8), plan.len());
     let entries = cases::least(cases::word(head, 12), table.len());
-    run_band(head, &plan[..size], &mut table[..entries]);
+    run_band(rt, head, &plan[..size], &mut table[..entries]);
 }
 
 // One case; false where the input has no further one.
 fn run_case(
+    rt: &(impl Input + Print),
     head: &mut [u8],
     label: &mut [u8],
     plan: &mut [u8],
     entries: &mut [u8],
     table: &mut [u16],
 ) -> bool {
-    if !cases::read_case(head, label, plan, 10, 8) {
+    if !cases::read_case(rt, head, label, plan, 10, 8) {
         return false;
     }
-    if !cases::read_part(entries, cases::word(head, 12) * 2) {
+    if !cases::read_part(rt, entries, cases::word(head, 12) * 2) {
         return false;
     }
     fill(table, entries);
-    cases::write_part(label, cases::word(head, 10));
-    cases::write_part(b":", 1);
-    run_named(head, plan, table);
-    cases::end_line();
+    cases::write_part(rt, label, cases::word(head, 10));
+    cases::write_part(rt, b":", 1);
+    run_named(rt, head, plan, table);
+    cases::end_line(rt);
     true
 }
 
-fn main() {
+fn main(rt: HostRuntime) {
     let mut head = [0u8; 14];
     let mut label = [0u8; 80];
     let mut plan = [0u8; 49200];
     let mut entries = [0u8; 600];
     let mut table = [0u16; 300];
     let mut left = cases::MOST;
-    while 0 < left && run_case(&mut head, &mut label, &mut plan, &mut entries, &mut table) {
+    while 0 < left
+        && run_case(
+            &rt,
+            &mut head,
+            &mut label,
+            &mut plan,
+            &mut entries,
+            &mut table,
+        )
+    {
         left -= 1;
     }
 }

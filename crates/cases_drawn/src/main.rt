@@ -9,6 +9,7 @@
 // records and the work area after the call, each behind " |". A run of one value is written " i: x" or " i .. j: x"; entries of 0
 // are left out.
 #![tactic(auto)]
+
 ghost use Rattle.std.specs.Prelude.{◌<◌, ◌≤◌, length};
 
 use loads::LoadsAnswer;
@@ -43,21 +44,21 @@ fn wide(x: u8) -> u64 {
 }
 
 // Writes " |" and the runs of the records, but those of 0.
-fn write_records(records: &[u8]) {
-    cases::write_part(b" |", 2);
+fn write_records(rt: &impl Print, records: &[u8]) {
+    cases::write_part(rt, b" |", 2);
     let mut from = 0;
     while from < records.len() {
         let end = run_end_records(records, from);
-        cases::write_run(from, end - 1, wide(records[from]), 0);
+        cases::write_run(rt, from, end - 1, wide(records[from]), 0);
         from = end;
     }
 }
 
 // Writes the number of the answer.
-fn write_answer(answer: LoadsAnswer) {
+fn write_answer(rt: &impl Print, answer: LoadsAnswer) {
     match answer {
-        LoadsAnswer::Loaded => cases::write_number(0),
-        LoadsAnswer::Refused(fault) => cases::write_number(plan::fault_number(fault) as u64),
+        LoadsAnswer::Loaded => cases::write_number(rt, 0),
+        LoadsAnswer::Refused(fault) => cases::write_number(rt, plan::fault_number(fault) as u64),
     }
 }
 
@@ -79,6 +80,7 @@ fn call(
 
 // Makes the call on the lent parts, which hold the mark before it, and writes its answer.
 fn run_drawn(
+    rt: &impl Print,
     head: &[u8],
     plan: &[u8],
     pairs: &mut [u64],
@@ -91,15 +93,16 @@ fn run_drawn(
     cases::mark64(sums, mark as u64);
     mark_records(records, (mark % 256) as u8);
     cases::mark64(work, mark as u64);
-    write_answer(call(head, plan, pairs, sums, records, work));
-    cases::write64(pairs);
-    cases::write64(sums);
-    write_records(records);
-    cases::write64(work);
+    write_answer(rt, call(head, plan, pairs, sums, records, work));
+    cases::write64(rt, pairs);
+    cases::write64(rt, sums);
+    write_records(rt, records);
+    cases::write64(rt, work);
 }
 
 // Lends what the head names, and runs the case.
 fn run_named(
+    rt: &impl Print,
     head: &[u8],
     plan: &[u8],
     pairs: &mut [u64],
@@ -113,6 +116,7 @@ fn run_named(
     let c = cases::lent(head, 22, records.len());
     let d = cases::lent(head, 26, work.len());
     run_drawn(
+        rt,
         head,
         &plan[..size],
         &mut pairs[..a],
@@ -124,6 +128,7 @@ fn run_named(
 
 // One case; false where the input has no further one.
 fn run_case(
+    rt: &(impl Input + Print),
     head: &mut [u8],
     label: &mut [u8],
     plan: &mut [u8],
@@ -132,17 +137,17 @@ fn run_case(
     records: &mut [u8],
     work: &mut [u64],
 ) -> bool {
-    if !cases::read_case(head, label, plan, 10, 8) {
+    if !cases::read_case(rt, head, label, plan, 10, 8) {
         return false;
     }
-    cases::write_part(label, cases::word(head, 10));
-    cases::write_part(b":", 1);
-    run_named(head, plan, pairs, sums, records, work);
-    cases::end_line();
+    cases::write_part(rt, label, cases::word(head, 10));
+    cases::write_part(rt, b":", 1);
+    run_named(rt, head, plan, pairs, sums, records, work);
+    cases::end_line(rt);
     true
 }
 
-fn main() {
+fn main(rt: HostRuntime) {
     let mut head = [0u8; 30];
     let mut label = [0u8; 80];
     let mut plan = [0u8; 49200];
@@ -153,6 +158,7 @@ fn main() {
     let mut left = cases::MOST;
     while 0 < left
         && run_case(
+            &rt,
             &mut head,
             &mut label,
             &mut plan,

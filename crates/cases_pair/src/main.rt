@@ -9,43 +9,44 @@
 // pair: hops, count, the through table; loads: the table of pairs and the table of loads; busiest: the station, 0 where it
 // refuses; each then the work area. A run of one value is written " i: x" or " i .. j: x"; entries of 0 are left out.
 #![tactic(auto)]
+
 use loads::{BusiestAnswer, LoadsAnswer};
 use pair::PairAnswer;
 
 // Writes the number of pair's answer, the hops and the count; zeros beside a refusal.
-fn write_pair(answer: PairAnswer) {
+fn write_pair(rt: &impl Print, answer: PairAnswer) {
     match answer {
         PairAnswer::Counted(hops, count) => {
-            cases::write_number(0);
-            cases::write_number(hops);
-            cases::write_number(count);
+            cases::write_number(rt, 0);
+            cases::write_number(rt, hops);
+            cases::write_number(rt, count);
         }
         PairAnswer::Refused(fault) => {
-            cases::write_number(plan::fault_number(fault) as u64);
-            cases::write_number(0);
-            cases::write_number(0);
+            cases::write_number(rt, plan::fault_number(fault) as u64);
+            cases::write_number(rt, 0);
+            cases::write_number(rt, 0);
         }
     }
 }
 
 // Writes the number of loads' answer.
-fn write_loads(answer: LoadsAnswer) {
+fn write_loads(rt: &impl Print, answer: LoadsAnswer) {
     match answer {
-        LoadsAnswer::Loaded => cases::write_number(0),
-        LoadsAnswer::Refused(fault) => cases::write_number(plan::fault_number(fault) as u64),
+        LoadsAnswer::Loaded => cases::write_number(rt, 0),
+        LoadsAnswer::Refused(fault) => cases::write_number(rt, plan::fault_number(fault) as u64),
     }
 }
 
 // Writes the number of busiest's answer and the station; zero beside a refusal.
-fn write_busiest(answer: BusiestAnswer) {
+fn write_busiest(rt: &impl Print, answer: BusiestAnswer) {
     match answer {
         BusiestAnswer::Station(v) => {
-            cases::write_number(0);
-            cases::write_number(v as u64);
+            cases::write_number(rt, 0);
+            cases::write_number(rt, v as u64);
         }
         BusiestAnswer::Refused(fault) => {
-            cases::write_number(plan::fault_number(fault) as u64);
-            cases::write_number(0);
+            cases::write_number(rt, plan::fault_number(fault) as u64);
+            cases::write_number(rt, 0);
         }
     }
 }
@@ -56,7 +57,7 @@ fn mark(head: &[u8], table: &mut [u64]) {
 }
 
 // Calls pair on the lent parts, and writes its answer.
-fn run_pair(head: &[u8], plan: &[u8], through: &mut [u64], work: &mut [u64]) {
+fn run_pair(rt: &impl Print, head: &[u8], plan: &[u8], through: &mut [u64], work: &mut [u64]) {
     mark(head, through);
     mark(head, work);
     let n = cases::word(head, 2);
@@ -65,13 +66,20 @@ fn run_pair(head: &[u8], plan: &[u8], through: &mut [u64], work: &mut [u64]) {
     let h = cases::word(head, 8);
     let s = cases::word(head, 10);
     let z = cases::word(head, 12);
-    write_pair(pair::pair(plan, n, t, g, h, s, z, through, work));
-    cases::write64(through);
-    cases::write64(work);
+    write_pair(rt, pair::pair(plan, n, t, g, h, s, z, through, work));
+    cases::write64(rt, through);
+    cases::write64(rt, work);
 }
 
 // Calls loads on the lent parts, and writes its answer.
-fn run_loads(head: &[u8], plan: &[u8], pairs: &mut [u64], loads: &mut [u64], work: &mut [u64]) {
+fn run_loads(
+    rt: &impl Print,
+    head: &[u8],
+    plan: &[u8],
+    pairs: &mut [u64],
+    loads: &mut [u64],
+    work: &mut [u64],
+) {
     mark(head, pairs);
     mark(head, loads);
     mark(head, work);
@@ -79,33 +87,41 @@ fn run_loads(head: &[u8], plan: &[u8], pairs: &mut [u64], loads: &mut [u64], wor
     let t = cases::word(head, 4);
     let g = cases::word(head, 6);
     let h = cases::word(head, 8);
-    write_loads(loads::loads(plan, n, t, g, h, pairs, loads, work));
-    cases::write64(pairs);
-    cases::write64(loads);
-    cases::write64(work);
+    write_loads(rt, loads::loads(plan, n, t, g, h, pairs, loads, work));
+    cases::write64(rt, pairs);
+    cases::write64(rt, loads);
+    cases::write64(rt, work);
 }
 
 // Calls busiest on the lent part, and writes its answer.
-fn run_busiest(head: &[u8], plan: &[u8], work: &mut [u64]) {
+fn run_busiest(rt: &impl Print, head: &[u8], plan: &[u8], work: &mut [u64]) {
     mark(head, work);
     let n = cases::word(head, 2);
     let t = cases::word(head, 4);
     let g = cases::word(head, 6);
     let h = cases::word(head, 8);
-    write_busiest(loads::busiest(plan, n, t, g, h, work));
-    cases::write64(work);
+    write_busiest(rt, loads::busiest(plan, n, t, g, h, work));
+    cases::write64(rt, work);
 }
 
 // Lends what the head names, and runs the case.
-fn run_named(head: &[u8], plan: &[u8], first: &mut [u64], second: &mut [u64], work: &mut [u64]) {
+fn run_named(
+    rt: &impl Print,
+    head: &[u8],
+    plan: &[u8],
+    first: &mut [u64],
+    second: &mut [u64],
+    work: &mut [u64],
+) {
     let a = cases::lent(head, 20, first.len());
     let b = cases::lent(head, 24, second.len());
     let c = cases::lent(head, 28, work.len());
     let kind = cases::word(head, 0);
     if kind == 0 {
-        run_pair(head, plan, &mut first[..a], &mut work[..c]);
+        run_pair(rt, head, plan, &mut first[..a], &mut work[..c]);
     } else if kind == 1 {
         run_loads(
+            rt,
             head,
             plan,
             &mut first[..a],
@@ -113,12 +129,13 @@ fn run_named(head: &[u8], plan: &[u8], first: &mut [u64], second: &mut [u64], wo
             &mut work[..c],
         );
     } else {
-        run_busiest(head, plan, &mut work[..c]);
+        run_busiest(rt, head, plan, &mut work[..c]);
     }
 }
 
 // One case; false where the input has no further one.
 fn run_case(
+    rt: &(impl Input + Print),
     head: &mut [u8],
     label: &mut [u8],
     plan: &mut [u8],
@@ -126,18 +143,18 @@ fn run_case(
     second: &mut [u64],
     work: &mut [u64],
 ) -> bool {
-    if !cases::read_case(head, label, plan, 16, 14) {
+    if !cases::read_case(rt, head, label, plan, 16, 14) {
         return false;
     }
-    cases::write_part(label, cases::word(head, 16));
-    cases::write_part(b":", 1);
+    cases::write_part(rt, label, cases::word(head, 16));
+    cases::write_part(rt, b":", 1);
     let size = cases::least(cases::word(head, 14), plan.len());
-    run_named(head, &plan[..size], first, second, work);
-    cases::end_line();
+    run_named(rt, head, &plan[..size], first, second, work);
+    cases::end_line(rt);
     true
 }
 
-fn main() {
+fn main(rt: HostRuntime) {
     let mut head = [0u8; 32];
     let mut label = [0u8; 64];
     let mut plan = [0u8; 49200];
@@ -147,6 +164,7 @@ fn main() {
     let mut left = cases::MOST;
     while 0 < left
         && run_case(
+            &rt,
             &mut head,
             &mut label,
             &mut plan,

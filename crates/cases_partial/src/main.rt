@@ -7,13 +7,14 @@
 // For each case a line: the label, a colon, a space and the number of the answer; then the table of pairs, the table of loads and
 // the work area after the call, each behind " |". A run of one value is written " i: x" or " i .. j: x"; entries of 0 are left out.
 #![tactic(auto)]
+
 use loads::LoadsAnswer;
 
 // Writes the number of the answer.
-fn write_answer(answer: LoadsAnswer) {
+fn write_answer(rt: &impl Print, answer: LoadsAnswer) {
     match answer {
-        LoadsAnswer::Loaded => cases::write_number(0),
-        LoadsAnswer::Refused(fault) => cases::write_number(plan::fault_number(fault) as u64),
+        LoadsAnswer::Loaded => cases::write_number(rt, 0),
+        LoadsAnswer::Refused(fault) => cases::write_number(rt, plan::fault_number(fault) as u64),
     }
 }
 
@@ -34,24 +35,39 @@ fn call(
 }
 
 // Makes the call on the lent parts, which hold the mark before it, and writes its answer.
-fn run_partial(head: &[u8], plan: &[u8], pairs: &mut [u64], sums: &mut [u64], work: &mut [u64]) {
+fn run_partial(
+    rt: &impl Print,
+    head: &[u8],
+    plan: &[u8],
+    pairs: &mut [u64],
+    sums: &mut [u64],
+    work: &mut [u64],
+) {
     let mark = cases::word(head, 20) as u64;
     cases::mark64(pairs, mark);
     cases::mark64(sums, mark);
     cases::mark64(work, mark);
-    write_answer(call(head, plan, pairs, sums, work));
-    cases::write64(pairs);
-    cases::write64(sums);
-    cases::write64(work);
+    write_answer(rt, call(head, plan, pairs, sums, work));
+    cases::write64(rt, pairs);
+    cases::write64(rt, sums);
+    cases::write64(rt, work);
 }
 
 // Lends what the head names, and runs the case.
-fn run_named(head: &[u8], plan: &[u8], pairs: &mut [u64], sums: &mut [u64], work: &mut [u64]) {
+fn run_named(
+    rt: &impl Print,
+    head: &[u8],
+    plan: &[u8],
+    pairs: &mut [u64],
+    sums: &mut [u64],
+    work: &mut [u64],
+) {
     let size = cases::least(cases::word(head, 16), plan.len());
     let a = cases::lent(head, 22, pairs.len());
     let b = cases::lent(head, 26, sums.len());
     let c = cases::lent(head, 30, work.len());
     run_partial(
+        rt,
         head,
         &plan[..size],
         &mut pairs[..a],
@@ -62,6 +78,7 @@ fn run_named(head: &[u8], plan: &[u8], pairs: &mut [u64], sums: &mut [u64], work
 
 // One case; false where the input has no further one.
 fn run_case(
+    rt: &(impl Input + Print),
     head: &mut [u8],
     label: &mut [u8],
     plan: &mut [u8],
@@ -69,17 +86,17 @@ fn run_case(
     sums: &mut [u64],
     work: &mut [u64],
 ) -> bool {
-    if !cases::read_case(head, label, plan, 18, 16) {
+    if !cases::read_case(rt, head, label, plan, 18, 16) {
         return false;
     }
-    cases::write_part(label, cases::word(head, 18));
-    cases::write_part(b":", 1);
-    run_named(head, plan, pairs, sums, work);
-    cases::end_line();
+    cases::write_part(rt, label, cases::word(head, 18));
+    cases::write_part(rt, b":", 1);
+    run_named(rt, head, plan, pairs, sums, work);
+    cases::end_line(rt);
     true
 }
 
-fn main() {
+fn main(rt: HostRuntime) {
     let mut head = [0u8; 34];
     let mut label = [0u8; 64];
     let mut plan = [0u8; 49200];
@@ -89,7 +106,7 @@ fn main() {
     let mut left = cases::MOST;
     while 0 < left
         && run_case(
-            &mut head, &mut label, &mut plan, &mut pairs, &mut sums, &mut work,
+            &rt, &mut head, &mut label, &mut plan, &mut pairs, &mut sums, &mut work,
         )
     {
         left -= 1;

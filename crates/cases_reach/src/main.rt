@@ -10,6 +10,7 @@
 // " i: x" or " i .. j: x"; entries without a walk, 65535 hops or count 0, are left out. Entry i of row's table is
 // 3i + 1; behind the number stand the length of the part and, behind " |", its entries.
 #![tactic(auto)]
+
 ghost use Rattle.std.specs.Prelude.{◌<◌, ◌≤◌, length};
 
 use reach::ReachAnswer;
@@ -53,12 +54,12 @@ fn wide(x: u16) -> u64 {
 }
 
 // Writes " |" and the runs of a table of hops, but those of 65535.
-fn write16(table: &[u16]) {
-    cases::write_part(b" |", 2);
+fn write16(rt: &impl Print, table: &[u16]) {
+    cases::write_part(rt, b" |", 2);
     let mut from = 0;
     while from < table.len() {
         let end = run_end16(table, from);
-        cases::write_run(from, end - 1, wide(table[from]), 65535);
+        cases::write_run(rt, from, end - 1, wide(table[from]), 65535);
         from = end;
     }
 }
@@ -116,6 +117,7 @@ fn call_reach(
 
 // Calls reach on the lent parts, and writes its answer.
 fn run_reach(
+    rt: &impl Print,
     head: &[u8],
     plan: &[u8],
     hops: &mut [u16],
@@ -125,27 +127,28 @@ fn run_reach(
 ) {
     mark_tables(head, hops, counts, station_hops, station_counts);
     let answer = call_reach(head, plan, hops, counts, station_hops, station_counts);
-    cases::write_number(reach_number(answer) as u64);
-    write16(hops);
-    cases::write64(counts);
-    write16(station_hops);
-    cases::write64(station_counts);
+    cases::write_number(rt, reach_number(answer) as u64);
+    write16(rt, hops);
+    cases::write64(rt, counts);
+    write16(rt, station_hops);
+    cases::write64(rt, station_counts);
 }
 
 // Calls row and its sister on the lent part, and writes the answers.
-fn run_row(head: &[u8], table: &mut [u64]) {
+fn run_row(rt: &impl Print, head: &[u8], table: &mut [u64]) {
     number_entries(table);
     let n = cases::word(head, 2);
     let t = cases::word(head, 4);
     let station = cases::word(head, 10);
-    cases::write_number(rows::row_number(table, n, t, station) as u64);
+    cases::write_number(rt, rows::row_number(table, n, t, station) as u64);
     let part = rows::row(table, n, t, station);
-    cases::write_number(part.len() as u64);
-    cases::write64(part);
+    cases::write_number(rt, part.len() as u64);
+    cases::write64(rt, part);
 }
 
 // Lends what the head names, and runs the case.
 fn run_named(
+    rt: &impl Print,
     head: &[u8],
     plan: &[u8],
     hops: &mut [u16],
@@ -159,6 +162,7 @@ fn run_named(
     let d = cases::lent(head, 30, station_counts.len());
     if cases::word(head, 0) == 0 {
         run_reach(
+            rt,
             head,
             plan,
             &mut hops[..a],
@@ -167,12 +171,13 @@ fn run_named(
             &mut station_counts[..d],
         );
     } else {
-        run_row(head, &mut counts[..b]);
+        run_row(rt, head, &mut counts[..b]);
     }
 }
 
 // One case; false where the input has no further one.
 fn run_case(
+    rt: &(impl Input + Print),
     head: &mut [u8],
     label: &mut [u8],
     plan: &mut [u8],
@@ -181,13 +186,14 @@ fn run_case(
     station_hops: &mut [u16],
     station_counts: &mut [u64],
 ) -> bool {
-    if !cases::read_case(head, label, plan, 14, 12) {
+    if !cases::read_case(rt, head, label, plan, 14, 12) {
         return false;
     }
-    cases::write_part(label, cases::word(head, 14));
-    cases::write_part(b":", 1);
+    cases::write_part(rt, label, cases::word(head, 14));
+    cases::write_part(rt, b":", 1);
     let size = cases::least(cases::word(head, 12), plan.len());
     run_named(
+        rt,
         head,
         &plan[..size],
         hops,
@@ -195,11 +201,11 @@ fn run_case(
         station_hops,
         station_counts,
     );
-    cases::end_line();
+    cases::end_line(rt);
     true
 }
 
-fn main() {
+fn main(rt: HostRuntime) {
     let mut head = [0u8; 34];
     let mut label = [0u8; 64];
     let mut plan = [0u8; 49200];
@@ -210,6 +216,7 @@ fn main() {
     let mut left = cases::MOST;
     while 0 < left
         && run_case(
+            &rt,
             &mut head,
             &mut label,
             &mut plan,

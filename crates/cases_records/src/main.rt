@@ -5,44 +5,50 @@
 //
 // For each case a line: the label, a colon, then " foreign", or the station, its load and its pairs, each behind a space.
 #![tactic(auto)]
+
 use drawing::Reading;
 
 // Writes what is read.
-fn write_reading(reading: Reading) {
+fn write_reading(rt: &impl Print, reading: Reading) {
     match reading {
-        Reading::Foreign => cases::write_part(b" foreign", 8),
+        Reading::Foreign => cases::write_part(rt, b" foreign", 8),
         Reading::Station(station, load, pairs) => {
-            cases::write_number(station as u64);
-            cases::write_number(load);
-            cases::write_number(pairs);
+            cases::write_number(rt, station as u64);
+            cases::write_number(rt, load);
+            cases::write_number(rt, pairs);
         }
     }
 }
 
 // Reads the bytes that the head names.
-fn run_named(head: &[u8], bytes: &[u8]) {
+fn run_named(rt: &impl Print, head: &[u8], bytes: &[u8]) {
     let size = cases::least(cases::word(head, 0), bytes.len());
-    write_reading(drawing::read_record(&bytes[..size]));
+    write_reading(rt, drawing::read_record(&bytes[..size]));
 }
 
 // One case; false where the input has no further one.
-fn run_case(head: &mut [u8], label: &mut [u8], bytes: &mut [u8]) -> bool {
-    if !cases::read_case(head, label, bytes, 2, 0) {
+fn run_case(
+    rt: &(impl Input + Print),
+    head: &mut [u8],
+    label: &mut [u8],
+    bytes: &mut [u8],
+) -> bool {
+    if !cases::read_case(rt, head, label, bytes, 2, 0) {
         return false;
     }
-    cases::write_part(label, cases::word(head, 2));
-    cases::write_part(b":", 1);
-    run_named(head, bytes);
-    cases::end_line();
+    cases::write_part(rt, label, cases::word(head, 2));
+    cases::write_part(rt, b":", 1);
+    run_named(rt, head, bytes);
+    cases::end_line(rt);
     true
 }
 
-fn main() {
+fn main(rt: HostRuntime) {
     let mut head = [0u8; 4];
     let mut label = [0u8; 80];
     let mut bytes = [0u8; 64];
     let mut left = cases::MOST;
-    while 0 < left && run_case(&mut head, &mut label, &mut bytes) {
+    while 0 < left && run_case(&rt, &mut head, &mut label, &mut bytes) {
         left -= 1;
     }
 }

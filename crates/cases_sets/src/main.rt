@@ -7,24 +7,25 @@
 // For each case a line: the label, a colon, a space, the number of the answer and the count, 0 where it refuses; then, behind
 // " |", the work area after the call. A run of one value is written " i: x" or " i .. j: x"; entries of 0 are left out.
 #![tactic(auto)]
+
 use sets::SetAnswer;
 
 // Writes the number of the answer and the count; zero beside a refusal.
-fn write_answer(answer: SetAnswer) {
+fn write_answer(rt: &impl Print, answer: SetAnswer) {
     match answer {
         SetAnswer::Counted(count) => {
-            cases::write_number(0);
-            cases::write_number(count);
+            cases::write_number(rt, 0);
+            cases::write_number(rt, count);
         }
         SetAnswer::Refused(fault) => {
-            cases::write_number(plan::fault_number(fault) as u64);
-            cases::write_number(0);
+            cases::write_number(rt, plan::fault_number(fault) as u64);
+            cases::write_number(rt, 0);
         }
     }
 }
 
 // Calls the operation on the lent parts, and writes its answer.
-fn run_set(head: &[u8], plan: &[u8], set: &[u8], work: &mut [u64]) {
+fn run_set(rt: &impl Print, head: &[u8], plan: &[u8], set: &[u8], work: &mut [u64]) {
     cases::mark64(work, cases::word(head, 16) as u64);
     let n = cases::word(head, 0);
     let t = cases::word(head, 2);
@@ -32,47 +33,48 @@ fn run_set(head: &[u8], plan: &[u8], set: &[u8], work: &mut [u64]) {
     let h = cases::word(head, 6);
     let s = cases::word(head, 8);
     let z = cases::word(head, 10);
-    write_answer(sets::through_set(plan, n, t, g, h, s, z, set, work));
-    cases::write64(work);
+    write_answer(rt, sets::through_set(plan, n, t, g, h, s, z, set, work));
+    cases::write64(rt, work);
 }
 
 // Lends what the head names, and runs the case.
-fn run_named(head: &[u8], plan: &[u8], set: &[u8], work: &mut [u64]) {
+fn run_named(rt: &impl Print, head: &[u8], plan: &[u8], set: &[u8], work: &mut [u64]) {
     let size = cases::least(cases::word(head, 12), plan.len());
     let members = cases::least(cases::word(head, 18), set.len());
     let area = cases::lent(head, 20, work.len());
-    run_set(head, &plan[..size], &set[..members], &mut work[..area]);
+    run_set(rt, head, &plan[..size], &set[..members], &mut work[..area]);
 }
 
 // One case; false where the input has no further one.
 fn run_case(
+    rt: &(impl Input + Print),
     head: &mut [u8],
     label: &mut [u8],
     plan: &mut [u8],
     set: &mut [u8],
     work: &mut [u64],
 ) -> bool {
-    if !cases::read_case(head, label, plan, 14, 12) {
+    if !cases::read_case(rt, head, label, plan, 14, 12) {
         return false;
     }
-    if !cases::read_part(set, cases::word(head, 18)) {
+    if !cases::read_part(rt, set, cases::word(head, 18)) {
         return false;
     }
-    cases::write_part(label, cases::word(head, 14));
-    cases::write_part(b":", 1);
-    run_named(head, plan, set, work);
-    cases::end_line();
+    cases::write_part(rt, label, cases::word(head, 14));
+    cases::write_part(rt, b":", 1);
+    run_named(rt, head, plan, set, work);
+    cases::end_line(rt);
     true
 }
 
-fn main() {
+fn main(rt: HostRuntime) {
     let mut head = [0u8; 24];
     let mut label = [0u8; 80];
     let mut plan = [0u8; 49200];
     let mut set = [0u8; 320];
     let mut work = [0u64; 262200];
     let mut left = cases::MOST;
-    while 0 < left && run_case(&mut head, &mut label, &mut plan, &mut set, &mut work) {
+    while 0 < left && run_case(&rt, &mut head, &mut label, &mut plan, &mut set, &mut work) {
         left -= 1;
     }
 }

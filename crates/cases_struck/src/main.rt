@@ -8,6 +8,7 @@
 // table of changes and the work area after the call, each behind " |". A run of one value is written " i: x" or " i .. j: x"; entries
 // of 0 are left out, and a change below 0 has a minus sign.
 #![tactic(auto)]
+
 ghost use Rattle.std.specs.Prelude.{◌<◌, ◌≤◌, length};
 
 use struck::StruckAnswer;
@@ -38,34 +39,34 @@ fn run_end_changes(table: &[i64], from: usize) -> usize
 }
 
 // Writes the run of a change from one entry to another, unless it is 0.
-fn write_change(from: usize, last: usize, x: i64) {
+fn write_change(rt: &impl Print, from: usize, last: usize, x: i64) {
     if x != 0 {
-        cases::write_entries(from, last);
-        cases::write_signed(x);
+        cases::write_entries(rt, from, last);
+        cases::write_signed(rt, x);
     }
 }
 
 // Writes " |" and the runs of the table of changes, but those of 0.
-fn write_changes(table: &[i64]) {
-    cases::write_part(b" |", 2);
+fn write_changes(rt: &impl Print, table: &[i64]) {
+    cases::write_part(rt, b" |", 2);
     let mut from = 0;
     while from < table.len() {
         let end = run_end_changes(table, from);
-        write_change(from, end - 1, table[from]);
+        write_change(rt, from, end - 1, table[from]);
         from = end;
     }
 }
 
 // Writes the number of the answer and the number of pairs; zero beside a refusal.
-fn write_answer(answer: StruckAnswer) {
+fn write_answer(rt: &impl Print, answer: StruckAnswer) {
     match answer {
         StruckAnswer::Pairs(count) => {
-            cases::write_number(0);
-            cases::write_number(count);
+            cases::write_number(rt, 0);
+            cases::write_number(rt, count);
         }
         StruckAnswer::Refused(fault) => {
-            cases::write_number(plan::fault_number(fault) as u64);
-            cases::write_number(0);
+            cases::write_number(rt, plan::fault_number(fault) as u64);
+            cases::write_number(rt, 0);
         }
     }
 }
@@ -81,49 +82,59 @@ fn call(head: &[u8], plan: &[u8], changes: &mut [i64], work: &mut [u64]) -> Stru
 }
 
 // Makes the call on the lent parts, which hold the mark before it, and writes its answer.
-fn run_struck(head: &[u8], plan: &[u8], changes: &mut [i64], work: &mut [u64]) {
+fn run_struck(rt: &impl Print, head: &[u8], plan: &[u8], changes: &mut [i64], work: &mut [u64]) {
     let mark = cases::word(head, 20);
     mark_changes(changes, mark as i64);
     cases::mark64(work, mark as u64);
-    write_answer(call(head, plan, changes, work));
-    write_changes(changes);
-    cases::write64(work);
+    write_answer(rt, call(head, plan, changes, work));
+    write_changes(rt, changes);
+    cases::write64(rt, work);
 }
 
 // Lends what the head names, and runs the case.
-fn run_named(head: &[u8], plan: &[u8], changes: &mut [i64], work: &mut [u64]) {
+fn run_named(rt: &impl Print, head: &[u8], plan: &[u8], changes: &mut [i64], work: &mut [u64]) {
     let size = cases::least(cases::word(head, 16), plan.len());
     let a = cases::lent(head, 22, changes.len());
     let b = cases::lent(head, 26, work.len());
-    run_struck(head, &plan[..size], &mut changes[..a], &mut work[..b]);
+    run_struck(rt, head, &plan[..size], &mut changes[..a], &mut work[..b]);
 }
 
 // One case; false where the input has no further one.
 fn run_case(
+    rt: &(impl Input + Print),
     head: &mut [u8],
     label: &mut [u8],
     plan: &mut [u8],
     changes: &mut [i64],
     work: &mut [u64],
 ) -> bool {
-    if !cases::read_case(head, label, plan, 18, 16) {
+    if !cases::read_case(rt, head, label, plan, 18, 16) {
         return false;
     }
-    cases::write_part(label, cases::word(head, 18));
-    cases::write_part(b":", 1);
-    run_named(head, plan, changes, work);
-    cases::end_line();
+    cases::write_part(rt, label, cases::word(head, 18));
+    cases::write_part(rt, b":", 1);
+    run_named(rt, head, plan, changes, work);
+    cases::end_line(rt);
     true
 }
 
-fn main() {
+fn main(rt: HostRuntime) {
     let mut head = [0u8; 30];
     let mut label = [0u8; 80];
     let mut plan = [0u8; 49200];
     let mut changes = [0i64; 320];
     let mut work = [0u64; 262200];
     let mut left = cases::MOST;
-    while 0 < left && run_case(&mut head, &mut label, &mut plan, &mut changes, &mut work) {
+    while 0 < left
+        && run_case(
+            &rt,
+            &mut head,
+            &mut label,
+            &mut plan,
+            &mut changes,
+            &mut work,
+        )
+    {
         left -= 1;
     }
 }

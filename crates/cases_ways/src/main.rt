@@ -10,6 +10,7 @@
 // number; behind " |" all entries of the trace's way buffer; behind " |" the runs of the lent work area but those of 0. The
 // lent work area holds the mark before each call.
 #![tactic(auto)]
+
 use listing::WayAnswer;
 
 // Fills a way buffer from bytes.
@@ -26,27 +27,27 @@ fn wide(x: u16) -> u64 {
 }
 
 // Writes all entries of a way buffer.
-fn write_way(way: &[u16]) {
-    cases::write_part(b" |", 2);
+fn write_way(rt: &impl Print, way: &[u16]) {
+    cases::write_part(rt, b" |", 2);
     let mut i = 0;
     while i < way.len() {
-        cases::write_number(wide(way[i]));
+        cases::write_number(rt, wide(way[i]));
         i += 1;
     }
 }
 
 // Writes what a call answered.
-fn write_answer(answer: WayAnswer) {
+fn write_answer(rt: &impl Print, answer: WayAnswer) {
     match answer {
         WayAnswer::Path(hops) => {
-            cases::write_part(b"path", 4);
-            cases::write_number(hops as u64);
+            cases::write_part(rt, b"path", 4);
+            cases::write_number(rt, hops as u64);
         }
-        WayAnswer::NoPath => cases::write_part(b"none", 4),
-        WayAnswer::LastPath => cases::write_part(b"last", 4),
+        WayAnswer::NoPath => cases::write_part(rt, b"none", 4),
+        WayAnswer::LastPath => cases::write_part(rt, b"last", 4),
         WayAnswer::Refused(fault) => {
-            cases::write_part(b"refused", 7);
-            cases::write_number(plan::fault_number(fault) as u64);
+            cases::write_part(rt, b"refused", 7);
+            cases::write_number(rt, plan::fault_number(fault) as u64);
         }
     }
 }
@@ -66,16 +67,23 @@ fn call(step: &[u8], plan: &[u8], way: &mut [u16], work: &mut [u64]) -> WayAnswe
 }
 
 // Makes the call of a step on the lent work area, and writes its line.
-fn run_call(step: &[u8], mark: u64, plans: &[u8], way: &mut [u16], work: &mut [u64]) {
+fn run_call(
+    rt: &impl Print,
+    step: &[u8],
+    mark: u64,
+    plans: &[u8],
+    way: &mut [u16],
+    work: &mut [u64],
+) {
     let from = cases::least(cases::word(step, 14), plans.len());
     let end = from + cases::least(cases::word(step, 16), plans.len() - from);
     let size = cases::least(cases::word(step, 18), way.len());
     cases::mark64(work, mark);
     let answer = call(step, &plans[from..end], &mut way[..size], work);
-    write_answer(answer);
-    write_way(way);
-    cases::write64(work);
-    cases::end_line();
+    write_answer(rt, answer);
+    write_way(rt, way);
+    cases::write64(rt, work);
+    cases::end_line(rt);
 }
 
 // Writes the entry that a step names.
@@ -87,17 +95,25 @@ fn store(step: &[u8], way: &mut [u16]) {
 }
 
 // Runs one step.
-fn run_step(step: &[u8], mark: u64, plans: &[u8], way: &mut [u16], work: &mut [u64]) {
+fn run_step(
+    rt: &impl Print,
+    step: &[u8],
+    mark: u64,
+    plans: &[u8],
+    way: &mut [u16],
+    work: &mut [u64],
+) {
     if cases::word(step, 0) == 2 {
         store(step, way);
     } else {
         let area = cases::lent(step, 20, work.len());
-        run_call(step, mark, plans, way, &mut work[..area]);
+        run_call(rt, step, mark, plans, way, &mut work[..area]);
     }
 }
 
 // Fills the trace's way buffer, and reads and runs its steps.
 fn run_steps(
+    rt: &(impl Input + Print),
     head: &[u8],
     entries: &[u8],
     step: &mut [u8],
@@ -108,14 +124,15 @@ fn run_steps(
     fill(way, entries);
     let mark = cases::word(head, 8) as u64;
     let mut left = cases::word(head, 6);
-    while 0 < left && cases::read_part(step, 24) {
-        run_step(step, mark, plans, way, work);
+    while 0 < left && cases::read_part(rt, step, 24) {
+        run_step(rt, step, mark, plans, way, work);
         left -= 1;
     }
 }
 
 // Runs a trace on the bytes of plans and the way buffer that the head names.
 fn run_trace(
+    rt: &(impl Input + Print),
     head: &[u8],
     entries: &[u8],
     step: &mut [u8],
@@ -126,6 +143,7 @@ fn run_trace(
     let size = cases::least(cases::word(head, 2), plans.len());
     let length = cases::least(cases::word(head, 4), way.len());
     run_steps(
+        rt,
         head,
         entries,
         step,
@@ -136,15 +154,22 @@ fn run_trace(
 }
 
 // Reads a trace up to its steps; false where the input has no further one.
-fn read_trace(head: &mut [u8], label: &mut [u8], plans: &mut [u8], entries: &mut [u8]) -> bool {
-    if !cases::read_case(head, label, plans, 0, 2) {
+fn read_trace(
+    rt: &impl Input,
+    head: &mut [u8],
+    label: &mut [u8],
+    plans: &mut [u8],
+    entries: &mut [u8],
+) -> bool {
+    if !cases::read_case(rt, head, label, plans, 0, 2) {
         return false;
     }
-    cases::read_part(entries, cases::word(head, 4) * 2)
+    cases::read_part(rt, entries, cases::word(head, 4) * 2)
 }
 
 // One case; false where the input has no further one.
 fn run_case(
+    rt: &(impl Input + Print),
     head: &mut [u8],
     label: &mut [u8],
     plans: &mut [u8],
@@ -153,16 +178,16 @@ fn run_case(
     way: &mut [u16],
     work: &mut [u64],
 ) -> bool {
-    if !read_trace(head, label, plans, entries) {
+    if !read_trace(rt, head, label, plans, entries) {
         return false;
     }
-    cases::write_part(label, cases::word(head, 0));
-    cases::end_line();
-    run_trace(head, entries, step, plans, way, work);
+    cases::write_part(rt, label, cases::word(head, 0));
+    cases::end_line(rt);
+    run_trace(rt, head, entries, step, plans, way, work);
     true
 }
 
-fn main() {
+fn main(rt: HostRuntime) {
     let mut head = [0u8; 10];
     let mut label = [0u8; 64];
     let mut plans = [0u8; 49200];
@@ -173,6 +198,7 @@ fn main() {
     let mut left = cases::MOST;
     while 0 < left
         && run_case(
+            &rt,
             &mut head,
             &mut label,
             &mut plans,

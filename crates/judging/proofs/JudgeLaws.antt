@@ -1,21 +1,21 @@
 -- A list of entries against the ways of the complete list, way by way. Assumes nothing.
 use Prim.Native.Nat.{ℕ, zero, suc, ◌+◌, ◌-◌, ◌*◌, ◌/◌, ◌%◌, ◌≤◌, ◌<◌}
 use mathlib.Core.Path.{◌≡◌, refl, sym, ap, ap₂, ◌∙◌, subst}
-use mathlib.Core.Bool.{Bool, true, false}
-use mathlib.Core.List.{List, [], ◌∷◌, ◌++◌, flat_map, Memᴰ}
+use mathlib.Core.Bool.{Bool}
+use mathlib.Core.List.{List, [], ◌++◌, flat_map}
 use mathlib.Core.Logic.{◌≢◌, by_cases}
 use native.Mathlib.Omega.{arith}
 use native.Mathlib.Decide.{dec_le}
 use native.Mathlib.Nat.{suc-mul, mul-mod_left, div-add-mod', lt_of_mul-lt-mul_right, mul-le-mul_right}
 use lib.ListN.{length, get_or, take, drop, length-take, length-drop}
 use lib.Seq.{take_all, take-length, take-take, take-add, drop_at, get_or-take, length-take-le}
-use Rattle.temporal.specs.Verdict.{Verdict, complete, beginning, wrong, joined, verdict_on}
+use Rattle.temporal.specs.Verdict.{complete, beginning, wrong, joined, verdict_on}
 use Rattle.walks.proofs.VerdictLaws.{joined_suc, taken_length, way_there, verdict_complete, verdict_beginning, verdict_wrong}
 use Rattle.lists.proofs.ListLaws.{length_zero}
 use Rattle.ways.specs.declared.Pair.{Pair}
 use Rattle.ways.specs.Found.{list_in, begins}
 use Rattle.judging.specs.Legs.{FirstLegs, LastLegs, Follows}
-use Rattle.judging.specs.Judge.{Tells, Judgeable, WayJudgeable, WaysJudgeable, FirstWays, NoFirstWays, Continued}
+use Rattle.judging.specs.Judge.{Tells, Judgeable, WaysJudgeable, FirstWays, NoFirstWays}
 use Rattle.judging.proofs.WayLaws.{sized, some_way, first_is, first_legs_there, next_is, next_follows, last_is, last_legs_there}
 
 -- ---- parts of a list

@@ -3,7 +3,6 @@ use Prim.Native.Nat.{ℕ, zero, suc, ◌+◌, ◌-◌, ◌≤◌, ◌<◌}
 use mathlib.Core.Path.{◌≡◌, refl, sym, ap, ap₂, ◌∙◌}
 use mathlib.Core.Bool.{Bool, true, false}
 use mathlib.Core.List.{List, [], ◌∷◌, ◌++◌}
-use mathlib.Core.Option.{none, some}
 use mathlib.Core.Logic.{by_cases}
 use native.Mathlib.Omega.{arith}
 use native.Mathlib.Decide.{ℕ_discrete, dec_le}
@@ -16,7 +15,7 @@ use Rattle.lists.proofs.ListLaws.{not_both}
 use Rattle.ways.specs.declared.Pair.{Pair}
 use Rattle.ways.specs.declared.Found.{Found}
 use Rattle.ways.specs.declared.Found.TheVariants as found
-use Rattle.ways.specs.Found.{found_of, begins, found_at, Searchable, Placeable, Listable}
+use Rattle.ways.specs.Found.{found_of, begins, found_at, Placeable, Listable}
 use Rattle.ways.proofs.ListingLaws.{front, rise, found_some, found_none}
 use Rattle.judging.specs.Legs.{FirstLegs, LastLegs}
 use Rattle.judging.specs.Judge.{Tells, Judgeable, LegJudgeable, FirstBehind, NoneBehind, search_from, Alike}

@@ -1,18 +1,17 @@
 -- Ways of the complete list by their legs: the first one, the next one, the last one. Assumes nothing.
-use Prim.Native.Nat.{ℕ, zero, suc, ◌+◌, ◌≤◌, ◌<◌}
+use Prim.Native.Nat.{ℕ, ◌+◌, ◌≤◌, ◌<◌}
 use mathlib.Core.Path.{◌≡◌, refl, sym, ap, ◌∙◌, subst}
-use mathlib.Core.Bool.{Bool, true}
+use mathlib.Core.Bool.{true}
 use mathlib.Core.List.{List, [], ◌∷◌, ◌++◌, Memᴰ}
-use mathlib.Core.Logic.{◌⊎◌, inl, inr, ◌↔◌, by_cases}
+use mathlib.Core.Logic.{inl, inr, ◌↔◌, by_cases}
 use native.Mathlib.Omega.{arith}
 use native.Mathlib.Decide.{ℕ_discrete, dec_le}
-use lib.ListN.{length, get_or, take, replicate}
+use lib.ListN.{length, get_or, replicate}
 use Rattle.temporal.specs.Lists.{Before, Rising}
 use Rattle.temporal.specs.Shortest.{hops}
 use Rattle.lists.proofs.ListLaws.{before_irrefl, rising_get_d_law, mem_get_d_law}
 use Rattle.ways.specs.declared.Pair.{Pair}
 use Rattle.ways.specs.Found.{list_in, begins, terms_in}
-use Rattle.ways.specs.Prefix.{LeastOf, Later, NoneLater}
 use Rattle.ways.proofs.OrderLaws.{before_asym, place_of, first_place, next_place, last_place}
 use Rattle.ways.proofs.PrefixLaws.{completes_nil}
 use Rattle.ways.proofs.ListingLaws.{front, onward, rises, mem_list}

@@ -1,6 +1,7 @@
 // Judging a list of positions by the complete list of a pair: leg by leg, way by way. None of these is an operation: a caller has
 // excluded every cause of refusal before.
 #![tactic(auto)]
+
 ghost use Rattle.std.specs.Prelude.{◌≡◌, [], suc, ◌+◌, ◌-◌, ◌*◌, ◌<◌, ◌≤◌, eqb, length, get_or, take, drop};
 ghost use Rattle.temporal.specs.Verdict.{verdict_on};
 ghost use Rattle.ways.specs.Found.{list_in, begins};

@@ -2,6 +2,7 @@
 // input, loads on standard output. It reads no more than one byte over the largest input, which is enough to refuse. After a failed
 // read nothing is printed.
 #![tactic(auto)]
+
 ghost use Rattle.temporal.specs.Plan.{turning};
 ghost use Rattle.report.specs.Report.{Texted};
 
@@ -17,13 +18,23 @@ fn text_of(input: &[u8], out: &mut [u8; 697]) -> usize
     report::report(input, 2, out, &mut pairs, &mut sums, &mut work)
 }
 
-fn main() {
+fn main(rt: HostRuntime) {
     let mut bytes = [0u8; 6145];
     let mut out = [0u8; 697];
-    let Input::Read(got) = load::read_records(b"load: reading standard input failed\n", &mut bytes)
-    else {
+    let errors = rt.stderr();
+    let Input::Read(got) = load::read_records(
+        &mut rt.stdin(),
+        &errors,
+        b"load: reading standard input failed\n",
+        &mut bytes,
+    ) else {
         return;
     };
     let size = text_of(&bytes[..got], &mut out);
-    load::write_text(b"load: writing standard output failed\n", &out[..size]);
+    load::write_text(
+        &rt.stdout(),
+        &errors,
+        b"load: writing standard output failed\n",
+        &out[..size],
+    );
 }

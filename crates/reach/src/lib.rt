@@ -1,6 +1,7 @@
 // Operation 2, reach: fills the tables of hops and counts from a source.
 // The tables are the state. The crates reach_lasting and reach_window fill them, where nothing goes stale and where readings do.
 #![tactic(auto)]
+
 ghost use Rattle.std.specs.Prelude.{◌≡◌};
 ghost use Rattle.temporal.specs.Plan.{units};
 ghost use Rattle.temporal.specs.Bytes.{plan_of};

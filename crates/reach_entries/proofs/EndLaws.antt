@@ -11,7 +11,7 @@ use lib.ListN.{length-drop, length-set}
 use lib.Seq.{get_or-set_same, get_or-set_other, drop-set-lt, drop_at}
 use Rattle.temporal.specs.Plan.{start, Terms}
 use Rattle.temporal.specs.Walk.{is_at, is_appearance, is_walk}
-use Rattle.temporal.specs.Shortest.{shortest_walks, shortest_walks_to, hops, count}
+use Rattle.temporal.specs.Shortest.{shortest_walks, shortest_walks_to}
 use Rattle.temporal.specs.Bytes.{plan_of}
 use Rattle.temporal.specs.Cause.{plan_fault}
 use Rattle.temporal.specs.Outcome.{over}

@@ -99,14 +99,14 @@ module _ (width u : ℕ) (x : Table) where
   unfolding settled_table
   settled_before_hops y v zero w h = refl
   settled_before_hops y v (suc k) w h =
-      settled_before_hops _ (v + 1) k w (omega arith) ∙ merged_other_hops y v _ _ w (λ e. omega arith)
+      settled_before_hops (merged_table y v (get_or x.hops (v * width + u) 0) (get_or x.counts (v * width + u) 0)) (v + 1) k w (omega arith) ∙ merged_other_hops y v _ _ w (λ e. omega arith)
 
   settled_before_counts :
       (y : Table) (v k w : ℕ) → w < v → get_or (settled_table width u x y v k).counts w 0 ≡ get_or y.counts w 0
   unfolding settled_table
   settled_before_counts y v zero w h = refl
   settled_before_counts y v (suc k) w h =
-      settled_before_counts _ (v + 1) k w (omega arith) ∙ merged_other_counts y v _ _ w (λ e. omega arith)
+      settled_before_counts (merged_table y v (get_or x.hops (v * width + u) 0) (get_or x.counts (v * width + u) 0)) (v + 1) k w (omega arith) ∙ merged_other_counts y v _ _ w (λ e. omega arith)
 
   -- a station that is settled has its appearance of the slot taken in
   pub settled_taken :
@@ -140,4 +140,4 @@ module _ (width u : ℕ) (x : Table) where
   unfolding settled_table
   beyond_settled m z y v zero h b = b
   beyond_settled m z y v (suc k) h b =
-      beyond_settled m z _ (v + 1) k (omega arith) (beyond_merged m z y v _ _ (omega arith) b)
+      beyond_settled m z (merged_table y v (get_or x.hops (v * width + u) 0) (get_or x.counts (v * width + u) 0)) (v + 1) k (omega arith) (beyond_merged m z y v _ _ (omega arith) b)

@@ -1,6 +1,7 @@
 // The tables of reach, hops and counts of appearances and of stations: how an entry is merged, sent on and settled, how a record is folded
 // in, and how the tables begin, are cleared and searched for a count over 2^64 - 1. Both fillings of the tables use them.
 #![tactic(auto)]
+
 ghost use Rattle.std.specs.Prelude.{◌≡◌, ◌<◌, ◌≤◌, length, get_or};
 ghost use Rattle.temporal.specs.Lists.{any, below};
 ghost use Rattle.temporal.specs.Bytes.{contact_at};

@@ -2,6 +2,7 @@
 // brings. A slot is taken into the stations' tables, settled, when it has waited as long as the turnaround asks, for the hearers of its
 // records.
 #![tactic(auto)]
+
 ghost use Rattle.std.specs.Prelude.{◌≡◌, ◌*◌, ◌-◌, ◌<◌, ◌≤◌, min, length};
 ghost use Rattle.temporal.specs.Plan.{units, Keeps};
 ghost use Rattle.reach_entries.specs.Table.{table_of, Fits};

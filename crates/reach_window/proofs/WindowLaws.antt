@@ -10,18 +10,18 @@ use mathlib.Core.List.{List, ◌++◌}
 use lib.ListN.{length, get_or, set, drop, replicate, length-set, length-drop, length-append, length-replicate}
 use lib.ListN.{get_or-replicate, get_or-append}
 use lib.Seq.{get_or-set_same, drop-set-lt, drop_at}
-use Rattle.temporal.specs.Plan.{Contact, start, Terms, may_follow, window_first, window_end}
+use Rattle.temporal.specs.Plan.{Contact, Terms, may_follow, window_first, window_end}
 use Rattle.temporal.specs.Walk.{is_at}
 use Rattle.temporal.specs.Bytes.{contact_at, records, plan_of}
 use Rattle.temporal.specs.Cause.{plan_fault}
 use Rattle.temporal.specs.Outcome.{over}
 use Rattle.walks.proofs.Accepted.{accepted}
 use Rattle.walks.proofs.PlanLaws.{contact_there, contact_inv, contacts_length, slots_within, slots_sorted}
-use Rattle.counting.proofs.Weights.{total, everywhere}
-use Rattle.counting.proofs.Fewest.{Fewest, plus, delayed}
+use Rattle.counting.proofs.Weights.{everywhere}
+use Rattle.counting.proofs.Fewest.{Fewest, plus}
 use Rattle.counting.proofs.Recurrence.{before, arrivals_suc, arrivals_zero, arrivals_same, arrivals_all, inflow_other_slot}
 use Rattle.counting.proofs.WindowLaws.{in_slots, before_window, heard_slots}
-use Rattle.entries.proofs.EntryLaws.{Entry, entry_none, entry_ext}
+use Rattle.entries.proofs.EntryLaws.{entry_none, entry_ext}
 use Rattle.entries.proofs.HopLaws.{walks_few}
 use Rattle.reach_entries.proofs.EndLaws.{begin_state, holds_appearance, holds_station}
 use Rattle.reach_entries.specs.Table.{Table, table_of, merged_table, folded_table, settled_table, Fits, FoldableTables}
@@ -31,7 +31,7 @@ use Rattle.reach_entries.proofs.MergeLaws.{merged_hops_length, merged_counts_len
 use Rattle.reach_entries.proofs.PlaceLaws.{place_below}
 use Rattle.reach_entries.proofs.EntryLaws.{EntryAt, entry_merged}
 use Rattle.reach_entries.proofs.TableLaws.{slots_apart, stations_apart, entry_kept, beyond_refl, beyond_then, beyond_merged, entry_settled, beyond_settled}
-use Rattle.reach_entries.proofs.StateLaws.{TablesState, reaching, present, arriving, fits_beyond}
+use Rattle.reach_entries.proofs.StateLaws.{reaching, arriving, fits_beyond}
 use Rattle.reach_entries.proofs.FoldLaws.{ready, arrive_other, arrive_hearer, folded_other_hops, folded_other_counts, entry_folded, beyond_folded}
 
 -- ---- the loop that gathers
@@ -80,7 +80,7 @@ settled_lengths :
 unfolding settled_table
 settled_lengths width u x y v zero = (refl, refl)
 settled_lengths width u x y v (suc k) =
-    let (h, c) = settled_lengths width u x _ (v + 1) k in
+    let (h, c) = settled_lengths width u x (merged_table y v (get_or x.hops (v * width + u) 0) (get_or x.counts (v * width + u) 0)) (v + 1) k in
     (h ∙ merged_hops_length y v _ _, c ∙ merged_counts_length y v _ _)
 
 module _ (n width : ℕ) (x old : Table) where
@@ -115,7 +115,7 @@ module _ (width : ℕ) (x : Table) (v : ℕ) where
   pub gathered_beyond : (m : ℕ) (z y : Table) (t k : ℕ) → v < m → Beyond m z y → Beyond m z (gathered width x v y t k)
   unfolding gathered
   gathered_beyond m z y t zero h b = b
-  gathered_beyond m z y t (suc k) h b = gathered_beyond m z _ (t + 1) k h (beyond_merged m z y v _ _ h b)
+  gathered_beyond m z y t (suc k) h b = gathered_beyond m z (merged_table y v (get_or x.hops (v * width + t) 0) (get_or x.counts (v * width + t) 0)) (t + 1) k h (beyond_merged m z y v _ _ h b)
 
   -- the entry holds what it held, and the walks of the slots besides
   gathered_entry :
@@ -463,7 +463,7 @@ module _ (bs : List ℕ) (n t : ℕ) (terms : Terms) (s : ℕ) (x : Table) where
   unfolding settled_slots
   settled_slots_beyond z y u zero b = b
   settled_slots_beyond z y u (suc k) b =
-      settled_slots_beyond z _ (u + 1) k (beyond_settled (t + 1) u x n z y 0 n (omega arith) b)
+      settled_slots_beyond z (settled_table (t + 1) u x y 0 n) (u + 1) k (beyond_settled (t + 1) u x n z y 0 n (omega arith) b)
 
   -- a station's entry holds what it held, and the walks of the slots besides
   settled_slots_entry :
@@ -477,7 +477,7 @@ module _ (bs : List ℕ) (n t : ℕ) (terms : Terms) (s : ℕ) (x : Table) where
       entry_ext
       {N = plus (plus M (reaching bs n t terms s v u)) (in_slots (plan_of bs n t terms) s everywhere v (u + 1) k)}
       (λ i. omega arith)
-      (settled_slots_entry (plus M (reaching bs n t terms s v u)) _ v (u + 1) k h (rw p a) (rw q b)
+      (settled_slots_entry (plus M (reaching bs n t terms s v u)) (settled_table (t + 1) u x y 0 n) v (u + 1) k h (rw p a) (rw q b)
       (entry_settled (t + 1) u x M (reaching bs n t terms s v u) y 0 n v (omega arith) (omega arith) (omega arith) (omega arith) e
       (f u (omega arith) (omega arith)))
       (λ i low high. f i (omega arith) (omega arith)))

@@ -1,5 +1,6 @@
 // Fills the tables of reach where readings go stale: a station's entry is gathered anew for each record that it sends.
 #![tactic(auto)]
+
 ghost use Rattle.std.specs.Prelude.{◌≡◌, ◌-◌, ◌<◌, ◌≤◌, length};
 ghost use Rattle.temporal.specs.Plan.{units};
 ghost use Rattle.temporal.specs.Bytes.{contact_at};

@@ -1,5 +1,6 @@
 // Operation 3, row, and its sister. They read no plan.
 #![tactic(auto)]
+
 ghost use Rattle.std.specs.Prelude.{◌≡◌};
 ghost use Rattle.temporal.specs.Outcome.{row_number};
 ghost use Rattle.rows.specs.Part.{RowPart};

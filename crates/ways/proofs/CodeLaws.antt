@@ -4,7 +4,7 @@ use Prim.Native.Nat.{ℕ, suc, ◌+◌, ◌-◌, ◌*◌, ◌/◌, ◌≤◌, �
 use mathlib.Core.Path.{◌≡◌, refl, sym, ap, ◌∙◌}
 use mathlib.Core.Bool.{Bool, true, false}
 use mathlib.Core.List.{List, ◌++◌}
-use mathlib.Core.Logic.{◌⊎◌, inl, inr, ⊎_elim, ◌≢◌}
+use mathlib.Core.Logic.{inl, inr, ⊎_elim, ◌≢◌}
 use mathlib.Core.Option.{Option, none, some, map, bind}
 use native.Mathlib.Omega.{arith}
 use native.Mathlib.Numerals.{add-one}
@@ -18,7 +18,6 @@ use Rattle.temporal.specs.Walk.{step, run, last_or, holds}
 use Rattle.temporal.specs.Bytes.{contact_at, records, plan_of}
 use Rattle.lists.proofs.ListLaws.{not_both, not_true_false}
 use Rattle.walks.proofs.RuleLaws.{InTime, follows_later, follows_intro, follows_inv, leads_from_sender, leads_none}
-use Rattle.walks.proofs.Accepted.{accepted}
 use Rattle.walks.proofs.PlanLaws.{contact_there, contact_inv, contacts_length}
 use Rattle.walks.proofs.WalkLaws.{StepBy, step_inv, step_intro, step_position, run_append}
 use Rattle.plan.specs.declared.Contact as plan
@@ -27,7 +26,6 @@ use Rattle.ways.specs.declared.Pair.{Pair}
 use Rattle.ways.specs.declared.Spot.{Spot}
 use Rattle.ways.specs.declared.End.{End}
 use Rattle.ways.specs.declared.End.TheVariants as end
-use Rattle.ways.specs.declared.Found.{Found}
 use Rattle.ways.specs.declared.Found.TheVariants as found
 use Rattle.ways.specs.Prefix.{end_after}
 use Rattle.ways.specs.Found.{spot_of, end_of, found_of, terms_in, plan_in, serves_at, first_from, Searchable}

@@ -1,6 +1,7 @@
 // The completion table, and the shortest walks of a pair in lexicographic order: the first one, whether a buffer begins
 // with one, and the one after it. None of these is an operation: a caller has excluded every cause of refusal before.
 #![tactic(auto)]
+
 ghost use Rattle.std.specs.Prelude.{◌≡◌, [], ℕ, ◌+◌, ◌-◌, ◌*◌, ◌<◌, ◌≤◌, length, get_or, take};
 ghost use Rattle.temporal.specs.Plan.{Plan, units, Keeps, start, may_follow};
 ghost use Rattle.temporal.specs.Walk.{step};

@@ -31,18 +31,30 @@ fn text_of(input: &[u8], station: usize, walks: usize, out: &mut [u8; 2598088]) 
     )
 }
 
-fn main() {
+fn main(rt: HostRuntime) {
+    let errors = rt.stderr();
     let Request::Account(station, walks) = asked::arguments(
+        &rt,
+        &errors,
         b"why: the arguments are a station and a number of walks, 0 to 8\n",
     ) else {
         return;
     };
     let mut bytes = [0u8; 6145];
     let mut out = [0u8; 2598088];
-    let Input::Read(got) = load::read_records(b"why: reading standard input failed\n", &mut bytes)
-    else {
+    let Input::Read(got) = load::read_records(
+        &mut rt.stdin(),
+        &errors,
+        b"why: reading standard input failed\n",
+        &mut bytes,
+    ) else {
         return;
     };
     let size = text_of(&bytes[..got], station, walks, &mut out);
-    load::write_text(b"why: writing standard output failed\n", &out[..size]);
+    load::write_text(
+        &rt.stdout(),
+        &errors,
+        b"why: writing standard output failed\n",
+        &out[..size],
+    );
 }

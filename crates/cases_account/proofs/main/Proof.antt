@@ -7,11 +7,11 @@ use Rattle.cases_account.proofs.main.Statement.{statement}
 use Rattle.cases_account.proofs.main.Tie as tie
 
 abbrev invariant-loop : tie.invariant-loop
-invariant-loop head₀ label₀ input₀ out₀ left₀ head label input out left =
+invariant-loop rt head₀ label₀ input₀ out₀ left₀ head label input out left =
     (10 ≡ length head) × (64 ≡ length label) × (6200 ≡ length input)
 
 abbrev decreases-loop : tie.decreases-loop
-decreases-loop head₀ label₀ input₀ out₀ left₀ head label input out left = left
+decreases-loop rt head₀ label₀ input₀ out₀ left₀ head label input out left = left
 
 loop-holds : tie.Need-loop-init invariant-loop decreases-loop
 loop-holds c = search rules

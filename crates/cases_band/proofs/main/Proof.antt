@@ -7,11 +7,11 @@ use Rattle.cases_band.proofs.main.Statement.{statement}
 use Rattle.cases_band.proofs.main.Tie as tie
 
 abbrev invariant-loop : tie.invariant-loop
-invariant-loop head₀ label₀ plan₀ entries₀ table₀ left₀ head label plan entries table left =
+invariant-loop rt head₀ label₀ plan₀ entries₀ table₀ left₀ head label plan entries table left =
     (14 ≡ length head) × (80 ≡ length label) × (49200 ≡ length plan) × (600 ≡ length entries) × (300 ≡ length table)
 
 abbrev decreases-loop : tie.decreases-loop
-decreases-loop head₀ label₀ plan₀ entries₀ table₀ left₀ head label plan entries table left = left
+decreases-loop rt head₀ label₀ plan₀ entries₀ table₀ left₀ head label plan entries table left = left
 
 loop-holds : tie.Need-loop-init invariant-loop decreases-loop
 loop-holds c = search rules

@@ -7,11 +7,11 @@ use Rattle.cases_drawn.proofs.main.Statement.{statement}
 use Rattle.cases_drawn.proofs.main.Tie as tie
 
 abbrev invariant-loop : tie.invariant-loop
-invariant-loop head₀ label₀ plan₀ pairs₀ sums₀ records₀ work₀ left₀ head label plan pairs sums records work left =
+invariant-loop rt head₀ label₀ plan₀ pairs₀ sums₀ records₀ work₀ left₀ head label plan pairs sums records work left =
     (30 ≡ length head) × (80 ≡ length label) × (49200 ≡ length plan) × (320 ≡ length pairs) × (320 ≡ length sums) × (4700 ≡ length records) × (262200 ≡ length work)
 
 abbrev decreases-loop : tie.decreases-loop
-decreases-loop head₀ label₀ plan₀ pairs₀ sums₀ records₀ work₀ left₀ head label plan pairs sums records work left = left
+decreases-loop rt head₀ label₀ plan₀ pairs₀ sums₀ records₀ work₀ left₀ head label plan pairs sums records work left = left
 
 loop-holds : tie.Need-loop-init invariant-loop decreases-loop
 loop-holds c = search rules

@@ -7,10 +7,10 @@ use Rattle.cases_drawn.proofs.write_records.Statement.{statement}
 use Rattle.cases_drawn.proofs.write_records.Tie as tie
 
 abbrev invariant-loop : tie.invariant-loop
-invariant-loop records from₀ from = from ≤ length records
+invariant-loop rt records from₀ from = from ≤ length records
 
 abbrev decreases-loop : tie.decreases-loop
-decreases-loop records from₀ from = length records - from
+decreases-loop rt records from₀ from = length records - from
 
 slice-aggregate-write-part : tie.Need-slice-aggregate-write-part invariant-loop decreases-loop
 slice-aggregate-write-part c = search rules

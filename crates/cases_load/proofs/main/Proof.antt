@@ -7,10 +7,10 @@ use Rattle.cases_load.proofs.main.Statement.{statement}
 use Rattle.cases_load.proofs.main.Tie as tie
 
 abbrev invariant-loop : tie.invariant-loop
-invariant-loop head₀ label₀ input₀ left₀ head label input left = (6 ≡ length head) × (64 ≡ length label) × (6200 ≡ length input)
+invariant-loop rt head₀ label₀ input₀ left₀ head label input left = (6 ≡ length head) × (64 ≡ length label) × (6200 ≡ length input)
 
 abbrev decreases-loop : tie.decreases-loop
-decreases-loop head₀ label₀ input₀ left₀ head label input left = left
+decreases-loop rt head₀ label₀ input₀ left₀ head label input left = left
 
 loop-holds : tie.Need-loop-init invariant-loop decreases-loop
 loop-holds c = search rules

@@ -7,12 +7,12 @@ use Rattle.cases_pair.proofs.main.Statement.{statement}
 use Rattle.cases_pair.proofs.main.Tie as tie
 
 abbrev invariant-loop : tie.invariant-loop
-invariant-loop head₀ label₀ plan₀ first₀ second₀ work₀ left₀ head label plan first second work left =
+invariant-loop rt head₀ label₀ plan₀ first₀ second₀ work₀ left₀ head label plan first second work left =
     (32 ≡ length head) × (64 ≡ length label) × (49200 ≡ length plan) × (320 ≡ length first)
     × (320 ≡ length second) × (262200 ≡ length work)
 
 abbrev decreases-loop : tie.decreases-loop
-decreases-loop head₀ label₀ plan₀ first₀ second₀ work₀ left₀ head label plan first second work left = left
+decreases-loop rt head₀ label₀ plan₀ first₀ second₀ work₀ left₀ head label plan first second work left = left
 
 loop-holds : tie.Need-loop-init invariant-loop decreases-loop
 loop-holds c = search rules

@@ -7,11 +7,11 @@ use Rattle.cases_partial.proofs.main.Statement.{statement}
 use Rattle.cases_partial.proofs.main.Tie as tie
 
 abbrev invariant-loop : tie.invariant-loop
-invariant-loop head₀ label₀ plan₀ pairs₀ sums₀ work₀ left₀ head label plan pairs sums work left =
+invariant-loop rt head₀ label₀ plan₀ pairs₀ sums₀ work₀ left₀ head label plan pairs sums work left =
     (34 ≡ length head) × (64 ≡ length label) × (49200 ≡ length plan) × (320 ≡ length pairs) × (320 ≡ length sums) × (262200 ≡ length work)
 
 abbrev decreases-loop : tie.decreases-loop
-decreases-loop head₀ label₀ plan₀ pairs₀ sums₀ work₀ left₀ head label plan pairs sums work left = left
+decreases-loop rt head₀ label₀ plan₀ pairs₀ sums₀ work₀ left₀ head label plan pairs sums work left = left
 
 loop-holds : tie.Need-loop-init invariant-loop decreases-loop
 loop-holds c = search rules

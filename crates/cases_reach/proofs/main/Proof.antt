@@ -7,12 +7,12 @@ use Rattle.cases_reach.proofs.main.Statement.{statement}
 use Rattle.cases_reach.proofs.main.Tie as tie
 
 abbrev invariant-loop : tie.invariant-loop
-invariant-loop head₀ label₀ plan₀ hops₀ counts₀ sh₀ sc₀ left₀ head label plan hops counts sh sc left =
+invariant-loop rt head₀ label₀ plan₀ hops₀ counts₀ sh₀ sc₀ left₀ head label plan hops counts sh sc left =
     (34 ≡ length head) × (64 ≡ length label) × (49200 ≡ length plan) × (65600 ≡ length hops)
     × (65600 ≡ length counts) × (320 ≡ length sh) × (320 ≡ length sc)
 
 abbrev decreases-loop : tie.decreases-loop
-decreases-loop head₀ label₀ plan₀ hops₀ counts₀ sh₀ sc₀ left₀ head label plan hops counts sh sc left =
+decreases-loop rt head₀ label₀ plan₀ hops₀ counts₀ sh₀ sc₀ left₀ head label plan hops counts sh sc left =
     left
 
 loop-holds : tie.Need-loop-init invariant-loop decreases-loop

@@ -7,10 +7,10 @@ use Rattle.cases_reach.proofs.write16.Statement.{statement}
 use Rattle.cases_reach.proofs.write16.Tie as tie
 
 abbrev invariant-loop : tie.invariant-loop
-invariant-loop table from₀ from = from ≤ length table
+invariant-loop rt table from₀ from = from ≤ length table
 
 abbrev decreases-loop : tie.decreases-loop
-decreases-loop table from₀ from = length table - from
+decreases-loop rt table from₀ from = length table - from
 
 slice-aggregate-write-part : tie.Need-slice-aggregate-write-part invariant-loop decreases-loop
 slice-aggregate-write-part c = search rules

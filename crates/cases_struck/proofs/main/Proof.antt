@@ -7,11 +7,11 @@ use Rattle.cases_struck.proofs.main.Statement.{statement}
 use Rattle.cases_struck.proofs.main.Tie as tie
 
 abbrev invariant-loop : tie.invariant-loop
-invariant-loop head₀ label₀ plan₀ changes₀ work₀ left₀ head label plan changes work left =
+invariant-loop rt head₀ label₀ plan₀ changes₀ work₀ left₀ head label plan changes work left =
     (30 ≡ length head) × (80 ≡ length label) × (49200 ≡ length plan) × (320 ≡ length changes) × (262200 ≡ length work)
 
 abbrev decreases-loop : tie.decreases-loop
-decreases-loop head₀ label₀ plan₀ changes₀ work₀ left₀ head label plan changes work left = left
+decreases-loop rt head₀ label₀ plan₀ changes₀ work₀ left₀ head label plan changes work left = left
 
 loop-holds : tie.Need-loop-init invariant-loop decreases-loop
 loop-holds c = search rules

@@ -7,11 +7,11 @@ use Rattle.cases_verdicts.proofs.main.Statement.{statement}
 use Rattle.cases_verdicts.proofs.main.Tie as tie
 
 abbrev invariant-loop : tie.invariant-loop
-invariant-loop head₀ label₀ plan₀ entries₀ list₀ work₀ left₀ head label plan entries list work left =
+invariant-loop rt head₀ label₀ plan₀ entries₀ list₀ work₀ left₀ head label plan entries list work left =
     (22 ≡ length head) × (80 ≡ length label) × (49200 ≡ length plan) × (131070 ≡ length entries) × (65535 ≡ length list) × (262200 ≡ length work)
 
 abbrev decreases-loop : tie.decreases-loop
-decreases-loop head₀ label₀ plan₀ entries₀ list₀ work₀ left₀ head label plan entries list work left = left
+decreases-loop rt head₀ label₀ plan₀ entries₀ list₀ work₀ left₀ head label plan entries list work left = left
 
 loop-holds : tie.Need-loop-init invariant-loop decreases-loop
 loop-holds c =

@@ -7,12 +7,12 @@ use Rattle.cases_ways.proofs.main.Statement.{statement}
 use Rattle.cases_ways.proofs.main.Tie as tie
 
 abbrev invariant-loop : tie.invariant-loop
-invariant-loop head₀ label₀ plans₀ entries₀ step₀ way₀ work₀ left₀ head label plans entries step way work left =
+invariant-loop rt head₀ label₀ plans₀ entries₀ step₀ way₀ work₀ left₀ head label plans entries step way work left =
     (10 ≡ length head) × (64 ≡ length label) × (49200 ≡ length plans) × (600 ≡ length entries)
     × (24 ≡ length step) × (300 ≡ length way) × (262200 ≡ length work)
 
 abbrev decreases-loop : tie.decreases-loop
-decreases-loop head₀ label₀ plans₀ entries₀ step₀ way₀ work₀ left₀ head label plans entries step way work left =
+decreases-loop rt head₀ label₀ plans₀ entries₀ step₀ way₀ work₀ left₀ head label plans entries step way work left =
     left
 
 loop-holds : tie.Need-loop-init invariant-loop decreases-loop

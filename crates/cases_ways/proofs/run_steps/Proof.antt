@@ -7,11 +7,11 @@ use Rattle.cases_ways.proofs.run_steps.Statement.{statement}
 use Rattle.cases_ways.proofs.run_steps.Tie as tie
 
 abbrev invariant-loop : tie.invariant-loop
-invariant-loop head entries step₀ plans way₀ work₀ mark left₀ step way work left =
+invariant-loop rt head entries step₀ plans way₀ work₀ mark left₀ step way work left =
     (length step₀ ≡ length step) × (length way₀ ≡ length way) × (length work₀ ≡ length work)
 
 abbrev decreases-loop : tie.decreases-loop
-decreases-loop head entries step₀ plans way₀ work₀ mark left₀ step way work left = left
+decreases-loop rt head entries step₀ plans way₀ work₀ mark left₀ step way work left = left
 
 fill-requires : tie.Need-fill-requires invariant-loop decreases-loop
 fill-requires c κs = search rules

@@ -7,10 +7,10 @@ use Rattle.cases_ways.proofs.write_way.Statement.{statement}
 use Rattle.cases_ways.proofs.write_way.Tie as tie
 
 abbrev invariant-loop : tie.invariant-loop
-invariant-loop way i₀ i = i ≤ length way
+invariant-loop rt way i₀ i = i ≤ length way
 
 abbrev decreases-loop : tie.decreases-loop
-decreases-loop way i₀ i = length way - i
+decreases-loop rt way i₀ i = length way - i
 
 slice-aggregate-write-part : tie.Need-slice-aggregate-write-part invariant-loop decreases-loop
 slice-aggregate-write-part c = search rules

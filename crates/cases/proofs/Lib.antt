@@ -1,2 +1,0 @@
--- a number's sign and size
-mod SignedLaws

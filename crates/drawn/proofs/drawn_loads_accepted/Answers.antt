@@ -1,0 +1,11 @@
+-- `drawn::drawn_loads_accepted` meets its contract: a refusal for 12 or 14 is passed on, else the rest decides.
+-- Assumes nothing.
+use Rattle.calls.proofs.CallLaws.{terms_free_by}
+use Rattle.drawn.proofs.DrawnLaws.{drawn_terms}
+use Rattle.drawn.proofs.drawn_loads_accepted.Goals as goal
+
+pub drawn_loads_asked-requires : goal.drawn_loads_asked-requires
+drawn_loads_asked-requires c = (c.requires, terms_free_by _ _ c.terms_call.ensures c.in_default.is)
+
+pub returns : goal.returns
+returns c = drawn_terms _ _ _ _ _ _ _ _ c.requires _ c.terms_call.ensures _ c.in-Refused.is

@@ -1,0 +1,24 @@
+-- `foremost::foremost_work` meets its contract: too many clears both buffers; else the counts stand in the table and in the work
+-- area, which is then cleared.
+-- Assumes nothing.
+use Rattle.foremost.proofs.WorkLaws.{foremost_refused, foremost_counted}
+use Rattle.walks.proofs.Accepted.{accepted}
+use mathlib.Core.Path.{refl}
+use native.Mathlib.Omega.{arith}
+use Rattle.foremost.proofs.foremost_work.Goals as goal
+
+pub overflow_add-t : goal.overflow_add-t
+overflow_add-t c = omega (arith, (accepted _ _ _ c.requires.accepted).slots)
+
+pub returns-then-slot-eq0 : goal.returns-then-slot-eq0
+returns-then-slot-eq0 c =
+    foremost_refused _ _ _ _ _ _ _ _ c.requires _ _ _ c.foremost_throughs-slot.ensures (omega arith) _ _ c.clear.ensures
+    c.clear-then-slot-eq0.ensures
+
+pub overflow_add-t-2 : goal.overflow_add-t-2
+overflow_add-t-2 c = omega (arith, (accepted _ _ _ c.requires.accepted).slots)
+
+pub returns : goal.returns
+returns c =
+    foremost_counted _ _ _ _ _ _ _ _ c.requires _ _ _ c.foremost_throughs-slot.ensures (λ q. omega arith) _ _ _ _
+    c.slot_value.ensures refl refl c.clear-2.ensures

@@ -1,0 +1,21 @@
+-- `forward::over` meets its contract.
+-- Assumes nothing.
+use borrow.Author.Rules.{rules}
+use Rattle.pass.specs.PassedColumns.{over_of}
+use Rattle.forward.proofs.over.Goals as goal
+
+pub returns-in-Settled : goal.returns-in-Settled
+unfolding over_of
+returns-in-Settled c = search rules
+
+pub returns-in-StationTooMany : goal.returns-in-StationTooMany
+unfolding over_of
+returns-in-StationTooMany c = search rules
+
+pub returns-in-AppearanceTooMany : goal.returns-in-AppearanceTooMany
+unfolding over_of
+returns-in-AppearanceTooMany c = search rules
+
+pub returns-in-TooWide : goal.returns-in-TooWide
+unfolding over_of
+returns-in-TooWide c = search rules

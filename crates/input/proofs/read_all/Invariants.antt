@@ -1,0 +1,10 @@
+-- The loop's invariant: what was read lies within the buffer, which keeps its length. The measure: the bytes that are still
+-- wanted and the interruptions that are still borne.
+use Rattle.std.proofs.Common.{length, ◌-◌, ◌≡◌, ◌+◌, ◌≤◌}
+use Rattle.input.proofs.read_all.Given as goal
+
+abbrev pub invariant-loop-done : goal.invariant-loop-done
+invariant-loop-done g l = (l.done ≤ length l.buf) × (length l.buf ≡ length l.initial.buf)
+
+abbrev pub decreases-loop-done : goal.decreases-loop-done
+decreases-loop-done g l = (length l.buf - l.done) + l.left

@@ -1,0 +1,6 @@
+-- `judging::next_leg` meets its contract: what is found behind the leg of a is that of b.
+-- Assumes nothing.
+use Rattle.judging.proofs.next_leg.Goals as goal
+
+pub returns : goal.returns
+returns c = rw (c.wide-from.ensures.0, c.wide-i.ensures.0) at c.is_found.ensures

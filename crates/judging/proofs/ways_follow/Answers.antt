@@ -1,0 +1,52 @@
+-- `judging::ways_follow` meets its contract. The loop's invariant: the entries before the place are the first ways. The measure is
+-- the number of entries left.
+-- Assumes nothing.
+use native.Mathlib.Omega.{arith}
+use mathlib.Core.Path.{refl}
+use Rattle.lists.proofs.ListLaws.{not_both}
+use Rattle.judging.proofs.JudgeLaws.{one_way, way_before, way_behind, through_first, through_next, no_next, through_all}
+use Rattle.judging.proofs.ways_follow.Goals as goal
+
+pub loop-at-init : goal.loop-at-init
+loop-at-init c =
+    let pre = c.requires in
+    through_first _ _ _ pre.0.pair _ (one_way _ _ _ _ pre.0) pre.1
+
+pub follows_at-requires : goal.follows_at-requires
+follows_at-requires c =
+    let pre = c.requires in
+    let inv = c.loop-at.invariant in
+    (pre.0.pair, way_before _ _ _ _ pre.0 _ inv, way_behind _ _ _ _ pre.0 _ inv (omega arith))
+
+pub overflow_add-at : goal.overflow_add-at
+overflow_add-at c =
+    let more = way_behind _ _ _ _ c.requires.0 _ c.loop-at.invariant (omega arith) in
+    omega arith
+
+pub loop-at-smaller : goal.loop-at-smaller
+loop-at-smaller c = let some = c.requires.0.pair.some_hops in omega arith
+
+pub loop-at-preserved : goal.loop-at-preserved
+loop-at-preserved c =
+    let pre = c.requires in
+    let inv = c.loop-at.invariant in
+    through_next _ _ _ pre.0.pair _ _ inv (way_behind _ _ _ _ pre.0 _ inv (omega arith))
+    (c.follows_at.ensures.yes c.if-follows_at.true)
+
+pub returns-else-follows_at : goal.returns-else-follows_at
+returns-else-follows_at c =
+    let pre = c.requires in
+    let inv = c.loop-at.invariant in
+    record {
+      yes = λ h. absurd (not_both h refl);
+      no = λ h.
+          no_next _ _ _ pre.0.pair _ _ inv (way_behind _ _ _ _ pre.0 _ inv (omega arith))
+          (c.follows_at.ensures.no c.if-follows_at.false);
+    }
+
+pub returns : goal.returns
+returns c =
+    record {
+      yes = λ h. through_all _ _ _ c.requires.0.pair _ _ c.loop-at.invariant (omega arith);
+      no = λ h. absurd (not_both refl h);
+    }

@@ -1,0 +1,38 @@
+-- `loads::partial_loads_asked` meets its contract: the tests of k and of the lengths decide 13 and 8.
+-- Assumes nothing.
+use native.Mathlib.Omega.{arith}
+use mathlib.Core.Path.{sym, ◌∙◌}
+use Rattle.walks.proofs.Accepted.{accepted}
+use Rattle.plan.proofs.LimitLaws.{limited_places}
+use Rattle.loads.proofs.LoadLaws.{loads_sources, loads_short_pairs, loads_short_loads, loads_short_area}
+use Rattle.loads.proofs.LoadLaws.{loads_works, loads_ready}
+use Rattle.loads.proofs.partial_loads_asked.Goals as goal
+
+pub returns-then-n-k : goal.returns-then-n-k
+returns-then-n-k c = loads_sources _ _ _ _ _ _ _ _ c.requires.0 c.requires.1 (omega arith)
+
+pub returns-then-pairs-n : goal.returns-then-pairs-n
+returns-then-pairs-n c = loads_short_pairs _ _ _ _ _ _ _ _ c.requires.0 c.requires.1 (omega arith) (omega arith)
+
+pub returns-then-sums-n : goal.returns-then-sums-n
+returns-then-sums-n c = loads_short_loads _ _ _ _ _ _ _ _ c.requires.0 c.requires.1 (omega arith) (omega arith) (omega arith)
+
+pub overflow_add-t : goal.overflow_add-t
+overflow_add-t c = omega (arith, (accepted _ _ _ c.requires.0).slots)
+
+pub overflow_mul-n : goal.overflow_mul-n
+overflow_mul-n c = let a = accepted _ _ _ c.requires.0 in omega (arith, limited_places _ _ a.stations a.slots)
+
+pub overflow_mul-n-2 : goal.overflow_mul-n-2
+overflow_mul-n-2 c = let a = accepted _ _ _ c.requires.0 in omega (arith, limited_places _ _ a.stations a.slots)
+
+pub returns-then-work-n : goal.returns-then-work-n
+returns-then-work-n c = loads_short_area _ _ _ _ _ _ _ _ c.requires.0 c.requires.1 (omega arith) (omega arith) (omega arith) (omega arith)
+
+pub partial_loads_work-requires : goal.partial_loads_work-requires
+partial_loads_work-requires c = loads_ready _ _ _ _ _ _ _ _ c.requires.0 c.requires.1 (omega arith) (omega arith) (omega arith) (omega arith)
+
+pub returns : goal.returns
+returns c =
+    c.partial_loads_work.ensures ∙
+    sym (loads_works _ _ _ _ _ _ _ _ c.requires.0 c.requires.1 (omega arith) (omega arith) (omega arith) (omega arith))

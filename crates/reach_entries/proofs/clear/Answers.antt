@@ -1,0 +1,9 @@
+-- `reach_entries::clear` meets its contract: four fills.
+-- Assumes nothing.
+use Rattle.reach_entries.proofs.PassLaws.{emptied_by}
+use Rattle.reach_entries.proofs.clear.Goals as goal
+
+pub returns : goal.returns
+returns c =
+    emptied_by _ _ _ _ _ _ _ c.fill16.ensures c.fill64.ensures c.fill16-2.ensures
+    c.fill64-2.ensures

@@ -1,0 +1,63 @@
+-- `tallies::add_entry` meets its contract. The loop's invariant: the stations of the entry before j are added (Running). The
+-- measure is the number of stations left.
+-- Assumes nothing.
+use Prim.Native.Nat.{◌-◌}
+use native.Mathlib.Omega.{arith}
+use Rattle.tallies.proofs.LaneLaws.{entry_small, fewer_left}
+use Rattle.tallies.proofs.LoopLaws.{entry_place, entry_skipped, running_none, running_addable, running_more, running_length}
+use Rattle.tallies.proofs.LoopLaws.{running_all}
+use Rattle.tallies.proofs.add_entry.Goals as goal
+
+pub overflow_mul-z : goal.overflow_mul-z
+overflow_mul-z c = omega (arith, entry_place _ _ _ _ _ _ _ _ _ c.requires, c.well_formed.0.0)
+
+pub overflow_add-n : goal.overflow_add-n
+overflow_add-n c = omega (arith, entry_place _ _ _ _ _ _ _ _ _ c.requires, c.well_formed.0.0)
+
+pub overflow_add-n-2 : goal.overflow_add-n-2
+overflow_add-n-2 c = omega (arith, entry_place _ _ _ _ _ _ _ _ _ c.requires, c.well_formed.0.0)
+
+pub offset_bounds-work-n : goal.offset_bounds-work-n
+offset_bounds-work-n c = omega (arith, entry_place _ _ _ _ _ _ _ _ _ c.requires, c.well_formed.0)
+
+pub bounds-work-n : goal.bounds-work-n
+bounds-work-n c = entry_place _ _ _ _ _ _ _ _ _ c.requires
+
+pub returns-then-work-n : goal.returns-then-work-n
+returns-then-work-n c = entry_skipped _ _ _ _ _ _ _ _ _ c.requires (omega arith)
+
+pub overflow_add-e : goal.overflow_add-e
+overflow_add-e c = omega (arith, entry_small c.requires (omega (arith, c.well_formed.0)))
+
+pub columns_of-requires : goal.columns_of-requires
+columns_of-requires c = (c.requires.working.few, omega (arith, entry_small c.requires (omega (arith, c.well_formed.0))))
+
+pub columns_of-j-requires : goal.columns_of-j-requires
+columns_of-j-requires c =
+    (c.requires.working.few, omega (arith, entry_small c.requires (omega (arith, c.well_formed.0))))
+
+pub loop-j-init : goal.loop-j-init
+loop-j-init c =
+    running_none _ _ _ _ _ _ _ _ _ c.requires _ _ (rw c.columns_of.ensures at c.smaller-end.ensures) c.columns_of-j.ensures
+
+pub add_pair-requires : goal.add_pair-requires
+add_pair-requires c =
+    running_addable _ _ _ _ _ _ _ _ _ c.requires _ _ _ c.loop-j.invariant (omega arith)
+
+pub overflow_add-j : goal.overflow_add-j
+overflow_add-j c = omega arith
+
+pub loop-j-smaller : goal.loop-j-smaller
+loop-j-smaller c = fewer_left _ _ (omega arith)
+
+pub loop-j-preserved : goal.loop-j-preserved
+loop-j-preserved c =
+    rw c.add_pair.ensures (running_more _ _ _ _ _ _ _ _ _ c.requires _ _ _ c.loop-j.invariant (omega arith))
+
+pub shape_of-work : goal.shape_of-work
+shape_of-work c =
+    running_length _ _ _ _ _ _ _ _ _ c.requires _ _ _ c.loop-j.invariant
+
+pub returns : goal.returns
+returns c =
+    running_all _ _ _ _ _ _ _ _ _ c.requires _ _ _ c.loop-j.invariant (omega arith)

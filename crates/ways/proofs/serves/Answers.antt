@@ -1,0 +1,27 @@
+-- `ways::serves` meets its contract: the entry of where the position leads is compared.
+-- Assumes nothing.
+use native.Mathlib.Omega.{arith}
+use Rattle.walks.proofs.Accepted.{accepted}
+use Rattle.ways.proofs.CodeLaws.{serves_nowhere, serves_there, serves_room}
+use Rattle.ways.proofs.serves.Goals as goal
+
+pub returns-in_default : goal.returns-in_default
+returns-in_default c = serves_nowhere _ c.args.q _ _ _ _ _ c.step_on-end.ensures c.in_default.is
+
+pub overflow_add-at : goal.overflow_add-at
+overflow_add-at c = omega (arith, (accepted _ _ _ c.requires.accepted).slots)
+
+pub overflow_mul-at : goal.overflow_mul-at
+overflow_mul-at c = omega (arith, serves_room _ _ _ _ c.args.need _ _ c.step_on-end.ensures _ c.in-At.is c.requires, c.well_formed.0.0)
+
+pub overflow_add-at-2 : goal.overflow_add-at-2
+overflow_add-at-2 c = omega (arith, serves_room _ _ _ _ c.args.need _ _ c.step_on-end.ensures _ c.in-At.is c.requires, c.well_formed.0.0)
+
+pub offset_bounds-work-at : goal.offset_bounds-work-at
+offset_bounds-work-at c = omega (arith, serves_room _ _ _ _ c.args.need _ _ c.step_on-end.ensures _ c.in-At.is c.requires, c.well_formed.0.1)
+
+pub bounds-work-at : goal.bounds-work-at
+bounds-work-at c = omega (arith, serves_room _ _ _ _ c.args.need _ _ c.step_on-end.ensures _ c.in-At.is c.requires)
+
+pub returns : goal.returns
+returns c = serves_there _ c.args.q _ _ _ _ _ c.step_on-end.ensures _ c.in-At.is
