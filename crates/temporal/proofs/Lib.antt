@@ -16,3 +16,5 @@ pub mod BandFigures
 pub mod StruckFigures
 -- the first cause of a list, which a figure about any plan cites
 pub mod CauseLaws
+-- lists in order, strictly later slots, stations visited twice, and causes 2 and 3
+pub mod RuleFigures
