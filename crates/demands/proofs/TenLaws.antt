@@ -12,7 +12,7 @@ use lib.ListN.{length, take, get_or}
 use Rattle.temporal.specs.Walk.{holds}
 use Rattle.temporal.specs.Shortest.{hops}
 use Rattle.temporal.specs.Cause.{first, unless, plan_fault, plan_causes}
-use Rattle.temporal.specs.Cursor.{last_path, refused, index_in, stay, give, go_next, next_Way, go, move}
+use Rattle.temporal.specs.Cursor.{last_path, refused, index_in, stay, give, go_next, next_way, go, move}
 use Rattle.temporal.specs.FirstNext.{Question, list_of, way_causes, overflow}
 use Rattle.temporal.specs.Trace.{cause_of}
 use Rattle.temporal.proofs.CauseLaws.{first_append_left}
@@ -25,7 +25,7 @@ use Rattle.walks.proofs.NumberLaws.{OtherThanTen, causes_other}
 
 -- the cursor's move at a next way answers 10 exactly where no other cause holds and the cursor is on none
 move_ten : (k : ℕ) (l : List (List ℕ)) (at : Option ℕ) (b : List ℕ) → OtherThanTen k
-    → ((move next_Way k l at b).reply ≡ refused 10) ↔ ((k ≡ 0) × (at ≡ none))
+    → ((move next_way k l at b).reply ≡ refused 10) ↔ ((k ≡ 0) × (at ≡ none))
 unfolding move unless go go_next stay give
 move_ten (suc k) l at b small = (
   λ e. let same : suc k ≡ 10 = cc in absurd (small.not_ten same),
@@ -77,8 +77,8 @@ pub ten_where_not_offered : TenWhereNotOffered
 unfolding cause_of
 ten_where_not_offered q way work r wayAfter work_after e =
     let number = first (way_causes q (length way) (length work) ++ overflow q ∷ []) in
-    let reply : r ≡ (move next_Way number (list_of q) (index_in (list_of q) way) way).reply =
-    ap (λ a. a.reply) e ∙ (answer_moves next_Way q way work).reply in
+    let reply : r ≡ (move next_way number (list_of q) (index_in (list_of q) way) way).reply =
+    ap (λ a. a.reply) e ∙ (answer_moves next_way q way work).reply in
     let moves = move_ten number (list_of q) (index_in (list_of q) way) way (causes_other q (length way) (length work)) in (
       λ ten.
           let (free, off) = moves.0 (sym reply ∙ ten) in

@@ -22,7 +22,7 @@ use Rattle.temporal.specs.Cursor.{
   go_next,
   Operation,
   first_way,
-  next_Way,
+  next_way,
   go,
   move,
 }
@@ -81,7 +81,7 @@ module _ (old : WayBuffers) (after : List ℕ) where
 
   next_move : (many : Bool) (l : List (List ℕ)) (at : Option ℕ)
       → Judged (cause 9 many ∷ cause 10 (is_none at) ∷ []) 0 old emptied
-      (moved (move next_Way (cause 9 many) l at old.way))
+      (moved (move next_way (cause 9 many) l at old.way))
   unfolding cause first unless move go go_next stay give reply_number reply_hops is_none
   next_move true l at = judged_too_many 0 old emptied _ refl
   next_move false l none = judged_unoffered 0 old emptied (0 ∷ 10 ∷ []) refl
@@ -120,10 +120,10 @@ module _ (q : Question) (old : WayBuffers) where
       (first_move old area (is_too_many (plan_of q.bytes q.stations q.slots q.terms) q.source) (list_of q)
       (index_in (list_of q) old.way)))
 
-  pub next_way_judged : Judged (next_way_causes q old) 0 old (way_emptied q.stations q.slots old) (answer next_Way)
+  pub next_way_judged : Judged (next_way_causes q old) 0 old (way_emptied q.stations q.slots old) (answer next_way)
   unfolding next_way_causes way_emptied way_work overflow offers_none
   next_way_judged =
-      subst (Judged (next_way_causes q old) 0 old (way_emptied q.stations q.slots old)) (entered_way next_Way)
+      subst (Judged (next_way_causes q old) 0 old (way_emptied q.stations q.slots old)) (entered_way next_way)
       (judged_entered 0 old (way_emptied q.stations q.slots old) _ (overflow q ∷ cause 10 (offers_none q old.way) ∷ [])
       _ plain_way
       (rw (index_none (list_of q) old.way)

@@ -15,7 +15,7 @@ use Rattle.temporal.specs.OutcomeVerdict.{verdict}
 use Rattle.temporal.specs.OutcomeDrawn.{DrawnBuffers, drawn_loads}
 use Rattle.temporal.specs.OutcomeStruck.{StruckBuffers, struck}
 use Rattle.temporal.specs.Band.{take_in, take_out}
-use Rattle.temporal.specs.Cursor.{Reply, path, no_path, last_path, refused, first_way, next_Way}
+use Rattle.temporal.specs.Cursor.{Reply, path, no_path, last_path, refused, first_way, next_way}
 use Rattle.temporal.specs.FirstNext.{WayContract}
 use Rattle.plan.specs.Fault.{check_number}
 use Rattle.plan.specs.declared.CheckAnswer.{CheckAnswer}
@@ -161,5 +161,5 @@ pub record Demand1 : Type 0 where
       → WayContract first_way (question bs n t g h s z) old.way old.work (reply_of r) x.way x.work
       → Judged (first_way_causes (question bs n t g h s z) old) 0 old (way_emptied n t old) (way_result r x)
   pub of_next_way : (bs : List ℕ) (n t g h s z : ℕ) (old x : WayBuffers) (r : WayAnswer)
-      → WayContract next_Way (question bs n t g h s z) old.way old.work (reply_of r) x.way x.work
+      → WayContract next_way (question bs n t g h s z) old.way old.work (reply_of r) x.way x.work
       → Judged (next_way_causes (question bs n t g h s z) old) 0 old (way_emptied n t old) (way_result r x)

@@ -6,7 +6,7 @@ use mathlib.Core.List.{List, [], ◌∷◌, Memᴰ}
 use Rattle.temporal.specs.Lists.{any}
 use Rattle.temporal.specs.Shortest.{hops}
 use Rattle.temporal.specs.OutcomePair.{PairBuffers}
-use Rattle.temporal.specs.Cursor.{Reply, path, no_path, last_path, refused, next_Way}
+use Rattle.temporal.specs.Cursor.{Reply, path, no_path, last_path, refused, next_way}
 use Rattle.temporal.specs.FirstNext.{Question, list_of, WayContract}
 use Rattle.temporal.specs.Trace.{cause_of, Event, called, wrote, Asked, EveryTraceFollows}
 use Rattle.temporal.specs.TraceGiven.{given, FromFirstWay, EveryTraceGives}
@@ -39,9 +39,9 @@ NotOffered q way = (Memᴰ (take (hops (list_of q)) way) (list_of q) → ⊥) �
 abbrev pub TenWhereNotOffered : Type 0
 TenWhereNotOffered =
     (q : Question) (way work : List ℕ) (r : Reply) (wayAfter work_after : List ℕ) →
-    WayContract next_Way q way work r wayAfter work_after →
+    WayContract next_way q way work r wayAfter work_after →
     (r ≡ refused 10) ↔
-    ((cause_of (record { operation = next_Way; question = q; lent = length way; work = length work }) ≡ 0) ×
+    ((cause_of (record { operation = next_way; question = q; lent = length way; work = length work }) ≡ 0) ×
     NotOffered q way)
 
 -- Demand 3.

@@ -20,7 +20,7 @@ use Rattle.temporal.specs.Cursor.{same_numbers, index_in, stay, give, go_first, 
 use Rattle.temporal.specs.FirstNext.{way_causes, way_answer}
 use Rattle.walks.proofs.FewLaws.{most_lists}
 use Rattle.walks.proofs.GrownLaws.{grown, grown_shortest, onward, grown_walks, grown_walks_to}
-use Rattle.temporal.specs.Cursor.{path, no_path, last_path, refused, first_way, next_Way}
+use Rattle.temporal.specs.Cursor.{path, no_path, last_path, refused, first_way, next_way}
 use Rattle.examples.specs.Questions.{plan_a, empty_plan, repeated, with_itself, same_slot, single, slow_a, slowest, without, too_slow, terms_of}
 use Rattle.examples.specs.Questions.{Example, checks, station, appearance}
 use Rattle.examples.specs.Questions.{walks, complete, throughs, gives, loads_of, same_lists, same_reply}
@@ -88,13 +88,13 @@ first_given : right (gives first_way plan_a 0 4 (9 ∷ 9 ∷ 9 ∷ 9 ∷ []) (pa
 unfolding from below sum select any member distinct leads_to may_follow along step run last_or holds ends_in is_walk is_path is_interior or_else first_nonempty hops ends_below word_at contact_at records plan_of cause first outside wrong_length wrong_slot wrong_ends is_above wrong_order record_causes plan_causes plan_fault wrong_turnaround wrong_keeping terms_causes ends_causes pair_causes station_causes unless over same_numbers index_in stay give go_first go_next go move way_causes same_lists same_reply flat_map bind grown grown_shortest onward grown_walks grown_walks_to pairs_by load_by
 first_given = gives_right plan_a few_a first_way 0 4 (9 ∷ 9 ∷ 9 ∷ 9 ∷ []) (path 3) (0 ∷ 4 ∷ 10 ∷ 9 ∷ []) refl refl
 
-second_given : right (gives next_Way plan_a 0 4 (0 ∷ 4 ∷ 10 ∷ 9 ∷ []) (path 3) (1 ∷ 5 ∷ 10 ∷ 9 ∷ [])) ≡ true
+second_given : right (gives next_way plan_a 0 4 (0 ∷ 4 ∷ 10 ∷ 9 ∷ []) (path 3) (1 ∷ 5 ∷ 10 ∷ 9 ∷ [])) ≡ true
 unfolding from below sum select any member distinct leads_to may_follow along step run last_or holds ends_in is_walk is_path is_interior or_else first_nonempty hops ends_below word_at contact_at records plan_of cause first outside wrong_length wrong_slot wrong_ends is_above wrong_order record_causes plan_causes plan_fault wrong_turnaround wrong_keeping terms_causes ends_causes pair_causes station_causes unless over same_numbers index_in stay give go_first go_next go move way_causes same_lists same_reply flat_map bind grown grown_shortest onward grown_walks grown_walks_to pairs_by load_by
-second_given = gives_right plan_a few_a next_Way 0 4 (0 ∷ 4 ∷ 10 ∷ 9 ∷ []) (path 3) (1 ∷ 5 ∷ 10 ∷ 9 ∷ []) refl refl
+second_given = gives_right plan_a few_a next_way 0 4 (0 ∷ 4 ∷ 10 ∷ 9 ∷ []) (path 3) (1 ∷ 5 ∷ 10 ∷ 9 ∷ []) refl refl
 
-third_given : right (gives next_Way plan_a 0 4 (1 ∷ 5 ∷ 10 ∷ 9 ∷ []) (path 3) (1 ∷ 8 ∷ 10 ∷ 9 ∷ [])) ≡ true
+third_given : right (gives next_way plan_a 0 4 (1 ∷ 5 ∷ 10 ∷ 9 ∷ []) (path 3) (1 ∷ 8 ∷ 10 ∷ 9 ∷ [])) ≡ true
 unfolding from below sum select any member distinct leads_to may_follow along step run last_or holds ends_in is_walk is_path is_interior or_else first_nonempty hops ends_below word_at contact_at records plan_of cause first outside wrong_length wrong_slot wrong_ends is_above wrong_order record_causes plan_causes plan_fault wrong_turnaround wrong_keeping terms_causes ends_causes pair_causes station_causes unless over same_numbers index_in stay give go_first go_next go move way_causes same_lists same_reply flat_map bind grown grown_shortest onward grown_walks grown_walks_to pairs_by load_by
-third_given = gives_right plan_a few_a next_Way 0 4 (1 ∷ 5 ∷ 10 ∷ 9 ∷ []) (path 3) (1 ∷ 8 ∷ 10 ∷ 9 ∷ []) refl refl
+third_given = gives_right plan_a few_a next_way 0 4 (1 ∷ 5 ∷ 10 ∷ 9 ∷ []) (path 3) (1 ∷ 8 ∷ 10 ∷ 9 ∷ []) refl refl
 
 through_table_law : right (throughs plan_a 0 4 (0 ∷ 1 ∷ 2 ∷ 3 ∷ 0 ∷ [])) ≡ true
 unfolding from below sum select any member distinct leads_to may_follow along step run last_or holds ends_in is_walk is_path is_interior or_else first_nonempty hops ends_below word_at contact_at records plan_of cause first outside wrong_length wrong_slot wrong_ends is_above wrong_order record_causes plan_causes plan_fault wrong_turnaround wrong_keeping terms_causes ends_causes pair_causes station_causes unless over same_numbers index_in stay give go_first go_next go move way_causes same_lists same_reply flat_map bind grown grown_shortest onward grown_walks grown_walks_to pairs_by load_by
@@ -104,13 +104,13 @@ none_given : right (gives first_way plan_a 2 1 (9 ∷ 9 ∷ 9 ∷ 9 ∷ []) no_p
 unfolding from below sum select any member distinct leads_to may_follow along step run last_or holds ends_in is_walk is_path is_interior or_else first_nonempty hops ends_below word_at contact_at records plan_of cause first outside wrong_length wrong_slot wrong_ends is_above wrong_order record_causes plan_causes plan_fault wrong_turnaround wrong_keeping terms_causes ends_causes pair_causes station_causes unless over same_numbers index_in stay give go_first go_next go move way_causes same_lists same_reply flat_map bind grown grown_shortest onward grown_walks grown_walks_to pairs_by load_by
 none_given = gives_right plan_a few_a first_way 2 1 (9 ∷ 9 ∷ 9 ∷ 9 ∷ []) no_path (9 ∷ 9 ∷ 9 ∷ 9 ∷ []) refl refl
 
-last_told : right (gives next_Way plan_a 0 4 (1 ∷ 8 ∷ 10 ∷ 9 ∷ []) last_path (1 ∷ 8 ∷ 10 ∷ 9 ∷ [])) ≡ true
+last_told : right (gives next_way plan_a 0 4 (1 ∷ 8 ∷ 10 ∷ 9 ∷ []) last_path (1 ∷ 8 ∷ 10 ∷ 9 ∷ [])) ≡ true
 unfolding from below sum select any member distinct leads_to may_follow along step run last_or holds ends_in is_walk is_path is_interior or_else first_nonempty hops ends_below word_at contact_at records plan_of cause first outside wrong_length wrong_slot wrong_ends is_above wrong_order record_causes plan_causes plan_fault wrong_turnaround wrong_keeping terms_causes ends_causes pair_causes station_causes unless over same_numbers index_in stay give go_first go_next go move way_causes same_lists same_reply flat_map bind grown grown_shortest onward grown_walks grown_walks_to pairs_by load_by
-last_told = gives_right plan_a few_a next_Way 0 4 (1 ∷ 8 ∷ 10 ∷ 9 ∷ []) last_path (1 ∷ 8 ∷ 10 ∷ 9 ∷ []) refl refl
+last_told = gives_right plan_a few_a next_way 0 4 (1 ∷ 8 ∷ 10 ∷ 9 ∷ []) last_path (1 ∷ 8 ∷ 10 ∷ 9 ∷ []) refl refl
 
-ten_told : right (gives next_Way plan_a 0 4 (0 ∷ 5 ∷ 10 ∷ 9 ∷ []) (refused 10) (0 ∷ 5 ∷ 10 ∷ 9 ∷ [])) ≡ true
+ten_told : right (gives next_way plan_a 0 4 (0 ∷ 5 ∷ 10 ∷ 9 ∷ []) (refused 10) (0 ∷ 5 ∷ 10 ∷ 9 ∷ [])) ≡ true
 unfolding from below sum select any member distinct leads_to may_follow along step run last_or holds ends_in is_walk is_path is_interior or_else first_nonempty hops ends_below word_at contact_at records plan_of cause first outside wrong_length wrong_slot wrong_ends is_above wrong_order record_causes plan_causes plan_fault wrong_turnaround wrong_keeping terms_causes ends_causes pair_causes station_causes unless over same_numbers index_in stay give go_first go_next go move way_causes same_lists same_reply flat_map bind grown grown_shortest onward grown_walks grown_walks_to pairs_by load_by
-ten_told = gives_right plan_a few_a next_Way 0 4 (0 ∷ 5 ∷ 10 ∷ 9 ∷ []) (refused 10) (0 ∷ 5 ∷ 10 ∷ 9 ∷ []) refl refl
+ten_told = gives_right plan_a few_a next_way 0 4 (0 ∷ 5 ∷ 10 ∷ 9 ∷ []) (refused 10) (0 ∷ 5 ∷ 10 ∷ 9 ∷ []) refl refl
 
 accepted : right (checks plan_a 0) ≡ true
 unfolding from below sum select any member distinct leads_to may_follow along step run last_or holds ends_in is_walk is_path is_interior or_else first_nonempty hops ends_below word_at contact_at records plan_of cause first outside wrong_length wrong_slot wrong_ends is_above wrong_order record_causes plan_causes plan_fault wrong_turnaround wrong_keeping terms_causes ends_causes pair_causes station_causes unless over same_numbers index_in stay give go_first go_next go move way_causes same_lists same_reply flat_map bind grown grown_shortest onward grown_walks grown_walks_to pairs_by load_by right
@@ -160,7 +160,7 @@ none_refused : right (gives first_way without 0 9 [] (refused 12) []) ≡ true
 unfolding from below sum select any member distinct leads_to may_follow along step run last_or holds ends_in is_walk is_path is_interior or_else first_nonempty hops ends_below word_at contact_at records plan_of cause first outside wrong_length wrong_slot wrong_ends is_above wrong_order record_causes plan_causes plan_fault wrong_turnaround wrong_keeping terms_causes ends_causes pair_causes station_causes unless over same_numbers index_in stay give go_first go_next go move way_causes same_lists same_reply flat_map bind grown grown_shortest onward grown_walks grown_walks_to pairs_by load_by right way_answer
 none_refused = refl
 
-seventeen_refused : right (gives next_Way too_slow 0 9 [] (refused 12) []) ≡ true
+seventeen_refused : right (gives next_way too_slow 0 9 [] (refused 12) []) ≡ true
 unfolding from below sum select any member distinct leads_to may_follow along step run last_or holds ends_in is_walk is_path is_interior or_else first_nonempty hops ends_below word_at contact_at records plan_of cause first outside wrong_length wrong_slot wrong_ends is_above wrong_order record_causes plan_causes plan_fault wrong_turnaround wrong_keeping terms_causes ends_causes pair_causes station_causes unless over same_numbers index_in stay give go_first go_next go move way_causes same_lists same_reply flat_map bind grown grown_shortest onward grown_walks grown_walks_to pairs_by load_by right way_answer
 seventeen_refused = refl
 

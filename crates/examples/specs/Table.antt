@@ -9,7 +9,7 @@ use Rattle.temporal.specs.Bytes.{plan_of}
 use Rattle.temporal.specs.Cause.{plan_fault}
 use Rattle.temporal.specs.Outcome.{work_size}
 use Rattle.temporal.specs.OutcomePair.{pair, loads}
-use Rattle.temporal.specs.Cursor.{path, no_path, last_path, refused, same_numbers, first_way, next_Way}
+use Rattle.temporal.specs.Cursor.{path, no_path, last_path, refused, same_numbers, first_way, next_way}
 use Rattle.temporal.specs.FirstNext.{list_of, way_answer}
 use Rattle.examples.specs.Questions.{
   plan_a,
@@ -85,12 +85,12 @@ table =
     station plan_a 0 2 1 1 ∷
     complete plan_a 0 4 ((0 ∷ 4 ∷ 10 ∷ []) ∷ (1 ∷ 5 ∷ 10 ∷ []) ∷ (1 ∷ 8 ∷ 10 ∷ []) ∷ []) ∷  -- P4
     gives first_way plan_a 0 4 (9 ∷ 9 ∷ 9 ∷ 9 ∷ []) (path 3) (0 ∷ 4 ∷ 10 ∷ 9 ∷ []) ∷
-    gives next_Way plan_a 0 4 (0 ∷ 4 ∷ 10 ∷ 9 ∷ []) (path 3) (1 ∷ 5 ∷ 10 ∷ 9 ∷ []) ∷
-    gives next_Way plan_a 0 4 (1 ∷ 5 ∷ 10 ∷ 9 ∷ []) (path 3) (1 ∷ 8 ∷ 10 ∷ 9 ∷ []) ∷
+    gives next_way plan_a 0 4 (0 ∷ 4 ∷ 10 ∷ 9 ∷ []) (path 3) (1 ∷ 5 ∷ 10 ∷ 9 ∷ []) ∷
+    gives next_way plan_a 0 4 (1 ∷ 5 ∷ 10 ∷ 9 ∷ []) (path 3) (1 ∷ 8 ∷ 10 ∷ 9 ∷ []) ∷
     throughs plan_a 0 4 (0 ∷ 1 ∷ 2 ∷ 3 ∷ 0 ∷ []) ∷  -- P5
     gives first_way plan_a 2 1 (9 ∷ 9 ∷ 9 ∷ 9 ∷ []) no_path (9 ∷ 9 ∷ 9 ∷ 9 ∷ []) ∷  -- P6
-    gives next_Way plan_a 0 4 (1 ∷ 8 ∷ 10 ∷ 9 ∷ []) last_path (1 ∷ 8 ∷ 10 ∷ 9 ∷ []) ∷  -- P7
-    gives next_Way plan_a 0 4 (0 ∷ 5 ∷ 10 ∷ 9 ∷ []) (refused 10) (0 ∷ 5 ∷ 10 ∷ 9 ∷ []) ∷
+    gives next_way plan_a 0 4 (1 ∷ 8 ∷ 10 ∷ 9 ∷ []) last_path (1 ∷ 8 ∷ 10 ∷ 9 ∷ []) ∷  -- P7
+    gives next_way plan_a 0 4 (0 ∷ 5 ∷ 10 ∷ 9 ∷ []) (refused 10) (0 ∷ 5 ∷ 10 ∷ 9 ∷ []) ∷
     checks plan_a 0 ∷
     checks repeated 5 ∷  -- P8
     checks with_itself 4 ∷
@@ -103,4 +103,4 @@ table =
     loads_of slow_a (0 ∷ 0 ∷ 1 ∷ 2 ∷ 0 ∷ []) (0 ∷ 0 ∷ 4294967296 ∷ 8589934592 ∷ 0 ∷ []) ∷  -- C-20, g = 2
     gives first_way slowest 0 1 (9 ∷ []) (path 1) (0 ∷ []) ∷
     gives first_way without 0 9 [] (refused 12) [] ∷
-    gives next_Way too_slow 0 9 [] (refused 12) [] ∷ []
+    gives next_way too_slow 0 9 [] (refused 12) [] ∷ []

@@ -17,7 +17,7 @@ use Rattle.temporal.specs.Cursor.{
   refused,
   Operation,
   first_way,
-  next_Way,
+  next_way,
   index_in,
   stay,
   give,
@@ -100,7 +100,7 @@ next_numbered l (some i) b = either (ltb (i + 1) (length l))
 go_numbered : (o : Operation) (l : List (List ℕ)) (at : Option ℕ) (b : List ℕ) → Numbered (go o l at b).reply
 unfolding go
 go_numbered first_way l at b = first_numbered l at b
-go_numbered next_Way l at b = next_numbered l at b
+go_numbered next_way l at b = next_numbered l at b
 
 move_numbered :
     (o : Operation) (k : ℕ) (l : List (List ℕ)) (at : Option ℕ) (b : List ℕ) → k ≤ 17 → Numbered (move o k l at b).reply

@@ -13,7 +13,7 @@ ghost use Rattle.temporal.specs.OutcomeDrawn.{drawn_loads};
 ghost use Rattle.temporal.specs.OutcomeStruck.{struck};
 ghost use Rattle.temporal.specs.OutcomeVerdict.{verdict};
 ghost use Rattle.temporal.specs.Band.{take_in, take_out};
-ghost use Rattle.temporal.specs.Cursor.{first_way, next_Way};
+ghost use Rattle.temporal.specs.Cursor.{first_way, next_way};
 ghost use Rattle.temporal.specs.FirstNext.{way_answer};
 ghost use Rattle.plan.specs.Fault.{fault_number};
 ghost use Rattle.reach.specs.Answer.{lent_tables};
@@ -477,7 +477,7 @@ pub extern "C" fn joftaki_next_way(
     work: &mut [u64],
 ) -> u32
     ensures { way_given result hops.new way.new work.new ≡
-        way_exit (way_answer next_Way (question plan.now n t g h s z) way.old work.old) }
+        way_exit (way_answer next_way (question plan.now n t g h s z) way.old work.old) }
 {
     let answer = listing::next_way(plan, n, t, g, h, s, z, way, work);
     *hops = way_hops(answer);

@@ -28,7 +28,7 @@ use Rattle.temporal.specs.Cursor.{
   go_next,
   Operation,
   first_way,
-  next_Way,
+  next_way,
   go,
   move,
 }
@@ -188,11 +188,11 @@ module _ (q : Question) (way work : List ℕ) (ready : WayReady q way work) wher
             same = passed.same_length;
           }
 
-      pub worked_no_offer : h ≡ 65535 → Worked next_Way q way work (refused 10) way mid
+      pub worked_no_offer : h ≡ 65535 → Worked next_way q way work (refused 10) way mid
       unfolding go go_next stay index_in
       worked_no_offer e =
           let none = list_empty e in
-          let m = goes next_Way in
+          let m = goes next_way in
           record {
             reply = rw (m, none) refl;
             buffer = rw (m, none) refl;
@@ -219,11 +219,11 @@ module _ (q : Question) (way work : List ℕ) (ready : WayReady q way work) wher
             }
 
         -- a buffer that begins with no shortest walk
-        pub worked_not_offered : is_offered q.bytes (pair_of q h) way ≡ false → Worked next_Way q way work (refused 10) way mid
+        pub worked_not_offered : is_offered q.bytes (pair_of q h) way ≡ false → Worked next_way q way work (refused 10) way mid
         unfolding go go_next stay list_of
         worked_not_offered e =
             let none = unoffered_index (index_in (list_of q) way) e in
-            let m = goes next_Way in
+            let m = goes next_way in
             record {
               reply = rw (m, none) refl;
               buffer = rw (m, none) refl;
@@ -262,14 +262,14 @@ module _ (q : Question) (way work : List ℕ) (ready : WayReady q way work) wher
           module _ (offer : is_offered q.bytes (pair_of q h) way ≡ true) (more : Bool) (new : List ℕ)
               (stepped : Stepped (list_in q.bytes (pair_of q h)) way more new) where
             -- the next walk
-            pub worked_next : more ≡ true → Worked next_Way q way work (path h) new done
+            pub worked_next : more ≡ true → Worked next_way q way work (path h) new done
             unfolding go go_next give list_of
             worked_next e =
                 let found = offered_index (index_in (list_of q) way) offer in
                 let moves = stepped.next found.0 found.1 in
                 let inside = sym moves.0 ∙ e in
                 let lower = ltb-true (found.0 + 1) (length (list_of q)) inside in
-                let m = goes next_Way in
+                let m = goes next_way in
                 let place = found.1 in
                 record {
                   reply = rw (m, place, inside) (ap path (read_hops ∙ sym (one_length (found.0 + 1) lower)));
@@ -279,13 +279,13 @@ module _ (q : Question) (way work : List ℕ) (ready : WayReady q way work) wher
                 }
 
             -- the last walk
-            pub worked_last : more ≡ false → Worked next_Way q way work last_path new done
+            pub worked_last : more ≡ false → Worked next_way q way work last_path new done
             unfolding go go_next stay list_of
             worked_last e =
                 let found = offered_index (index_in (list_of q) way) offer in
                 let moves = stepped.next found.0 found.1 in
                 let outside = sym moves.0 ∙ e in
-                let m = goes next_Way in
+                let m = goes next_way in
                 let place = found.1 in
                 record {
                   reply = rw (m, place, outside) refl;

@@ -5,7 +5,7 @@
 ghost use Rattle.std.specs.Prelude.{◌≡◌, ◌≤◌, length, replicate};
 ghost use Rattle.temporal.specs.Cause.{plan_fault};
 ghost use Rattle.temporal.specs.Outcome.{over, work_size};
-ghost use Rattle.temporal.specs.Cursor.{first_way, next_Way};
+ghost use Rattle.temporal.specs.Cursor.{first_way, next_way};
 ghost use Rattle.temporal.specs.FirstNext.{way_work, WayContract};
 ghost use Rattle.listing.specs.Answer.{reply_of, question};
 ghost use Rattle.listing.specs.Work.{WayReady, Worked, way_outcome};
@@ -155,7 +155,7 @@ fn next_work(
     work: &mut [u64],
 ) -> WayAnswer
     requires { WayReady (question plan.now n t g h source destination) way.old work.old }
-    ensures { Worked next_Way (question plan.now n t g h source destination) way.old work.old
+    ensures { Worked next_way (question plan.now n t g h source destination) way.old work.old
         (reply_of result) way.new work.new }
 {
     if forward::pass(work, plan, n, t, g, h, h, source, 0, 0) {
@@ -198,7 +198,7 @@ fn next_cleared(
 ) -> WayAnswer
     requires { WayReady (question plan.now n t g h source destination) way.old work.old }
     ensures { way_outcome (reply_of result) way.new work.new ≡
-        way_work next_Way (question plan.now n t g h source destination) way.old work.old }
+        way_work next_way (question plan.now n t g h source destination) way.old work.old }
 {
     let answer = next_work(plan, n, t, g, h, source, destination, way, work);
     clear_area(work, n, t);
@@ -218,7 +218,7 @@ fn next_accepted(
     work: &mut [u64],
 ) -> WayAnswer
     requires { plan_fault plan.now n t ≡ 0 }
-    ensures { WayContract next_Way (question plan.now n t g h source destination) way.old work.old
+    ensures { WayContract next_way (question plan.now n t g h source destination) way.old work.old
         (reply_of result) way.new work.new }
 {
     let CallCheck::Refused(fault) = calls::pair_call(
@@ -249,7 +249,7 @@ pub fn next_way(
     way: &mut [u16],
     work: &mut [u64],
 ) -> WayAnswer
-    ensures { WayContract next_Way (question plan.now n t g h source destination) way.old work.old
+    ensures { WayContract next_way (question plan.now n t g h source destination) way.old work.old
         (reply_of result) way.new work.new }
 {
     let CheckAnswer::Refused(fault) = plan::check(plan, n, t) else {

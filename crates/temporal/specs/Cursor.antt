@@ -50,11 +50,11 @@ go_next l (some i) b = cond (ltb (i + 1) (length l)) (give l (i + 1) b) (stay la
 
 -- operations 7 and 8
 pub data Operation : Type 0 where
-  first_way next_Way : Operation
+  first_way next_way : Operation
 
 unfoldable pub go : Operation → List (List ℕ) → Option ℕ → List ℕ → Moved
 go first_way = go_first
-go next_Way = go_next
+go next_way = go_next
 
 -- the cursor's move at a call whose first cause other than 10 has the given number; 0 where it has none
 unfoldable pub move : Operation → ℕ → List (List ℕ) → Option ℕ → List ℕ → Moved

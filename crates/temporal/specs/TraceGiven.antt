@@ -3,13 +3,13 @@
 -- Assumes nothing.
 use Rattle.std.specs.Prelude.{ℕ, ◌+◌, ◌<◌, ◌≡◌, Bool, true, false, ◌&&◌, List, [], ◌∷◌, ◌++◌, eqb, length, take}
 use Rattle.temporal.specs.Lists.{any, Rising, NoneTwice}
-use Rattle.temporal.specs.Cursor.{path, no_path, last_path, refused, Operation, first_way, next_Way}
+use Rattle.temporal.specs.Cursor.{path, no_path, last_path, refused, Operation, first_way, next_way}
 use Rattle.temporal.specs.FirstNext.{Question, list_of}
 use Rattle.temporal.specs.Trace.{cause_of, Event, called, wrote, Trace, Asked}
 
 unfoldable pub is_first_way : Operation → Bool
 is_first_way first_way = true
-is_first_way next_Way = false
+is_first_way next_way = false
 
 -- whether an event is an accepted first way
 unfoldable pub starts_over : Event → Bool

@@ -29,7 +29,7 @@ use Rattle.temporal.specs.Cursor.{
   go_next,
   Operation,
   first_way,
-  next_Way,
+  next_way,
   go,
   move,
 }
@@ -183,7 +183,7 @@ go_agrees : {h : ℕ} {l : List (List ℕ)} → RisingPaths h l → (o : Operati
     → Agrees l b k (go o l (index_in l b) (take k b)) (go o l (index_in l b) b)
 unfolding go
 go_agrees p first_way b k inside fits = first_agrees p b k inside fits
-go_agrees {l} p next_Way b k inside fits = next_agrees p b k inside fits (index_in l b) refl
+go_agrees {l} p next_way b k inside fits = next_agrees p b k inside fits (index_in l b) refl
 
 -- A move at cause n, on a lent beginning that is read anew, agrees with the move on the whole buffer; where n is 0 the
 -- lists are one, and at least h entries are lent.

@@ -9,7 +9,7 @@ use borrow.Author.Tests.{ltb-true}
 use lib.Dec.{ltb}
 use lib.ListN.{length, get_or}
 use Rattle.temporal.specs.Cause.{unless}
-use Rattle.temporal.specs.Cursor.{last_path, stay, give, go_first, go_next, Operation, first_way, next_Way, go, move}
+use Rattle.temporal.specs.Cursor.{last_path, stay, give, go_first, go_next, Operation, first_way, next_way, go, move}
 use Rattle.lists.proofs.ListLaws.{mem_get_d_law}
 use Rattle.lists.proofs.BufferLaws.{length_over}
 use Rattle.trace.proofs.CursorLaws.{RisingPaths}
@@ -40,7 +40,7 @@ go_length : {h : ℕ} {l : List (List ℕ)} → RisingPaths h l → (b : List �
     → length (go o l at b).buffer ≡ length b
 unfolding go
 go_length p b fits first_way at = first_length p b fits at
-go_length p b fits next_Way at = next_length p b fits at
+go_length p b fits next_way at = next_length p b fits at
 
 -- a move at cause n; where n is 0 it is on such a list, and its walks fit the buffer
 pub move_length : {h : ℕ} {l : List (List ℕ)} → RisingPaths h l

@@ -31,7 +31,7 @@ use Rattle.temporal.specs.Cursor.{
   go_next,
   Operation,
   first_way,
-  next_Way,
+  next_way,
   go,
   move,
 }
@@ -76,8 +76,8 @@ move_goes : (l : List (List ℕ)) (k : ℕ) (at : Option ℕ) (b : List ℕ) →
 unfolding move unless go go_next Stands is_first_way
 move_goes l k at b s o (suc n) e = refuses (suc n) at s
 move_goes l k at b s first_way zero e = absurd (not_both refl e)
-move_goes l k none b s next_Way zero e = refuses 10 none s
-move_goes l k (some i) b s next_Way zero e = rw (← s.0) (pick (ltb k (length l)) refl)
+move_goes l k none b s next_way zero e = refuses 10 none s
+move_goes l k (some i) b s next_way zero e = rw (← s.0) (pick (ltb k (length l)) refl)
   where
     pick : (c : Bool) → ltb k (length l) ≡ c → Goes l k b (cond c (give l k b) (stay last_path (some i) b))
     pick true t = gives (ltb-true k (length l) t)
@@ -87,7 +87,7 @@ move_goes l k (some i) b s next_Way zero e = rw (← s.0) (pick (ltb k (length l
 first_goes : (l : List (List ℕ)) (b : List ℕ) (o : Operation) (n : ℕ) → (is_first_way o && eqb n 0) ≡ true
     → Goes l 0 b (move o n l (index_in l b) b)
 unfolding move unless go go_first Stands is_first_way index_in
-first_goes l b next_Way n e = absurd (not_both e refl)
+first_goes l b next_way n e = absurd (not_both e refl)
 first_goes l b first_way (suc n) e = absurd (not_both e (ne_eqb (suc n) 0 (λ z. omega arith)))
 first_goes [] b first_way zero e = says_none none tt refl
 first_goes (w ∷ l) b first_way zero e = gives (omega arith)

@@ -22,7 +22,7 @@ same-length-2 c = search rules
 returns : tie.Need-returns
 returns c =
     let at = c.before.before.before.before.before.before in
-    rw (← at.next_Way.ensures, c.way-code.ensures, c.before.way-hops.ensures)
+    rw (← at.next_way.ensures, c.way-code.ensures, c.before.way-hops.ensures)
 
 pub joftaki-next-way-spec : {M : Type 1} → statement M
 joftaki-next-way-spec =
