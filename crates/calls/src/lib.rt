@@ -1,6 +1,7 @@
 // What the operations share of a call's own causes: 12 and 14 of every one that takes the units' terms; 12, 14, 6, 7 and 8 of one on a
 // pair.
 #![tactic(auto)]
+
 ghost use Rattle.std.specs.Prelude.{◌≡◌, ℕ, ◌≤◌};
 ghost use Rattle.temporal.specs.Plan.{units};
 ghost use Rattle.temporal.specs.Cause.{first, wrong_turnaround, wrong_keeping, terms_causes};

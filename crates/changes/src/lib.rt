@@ -1,6 +1,7 @@
 // Changes of load as numbers with sign: loads written to a table, later loads less the written ones, and the table cleared. None of
 // these is an operation: a caller has tested the lengths before.
 #![tactic(auto)]
+
 ghost use Rattle.std.specs.Prelude.{◌≡◌, ◌≤◌, length};
 ghost use Rattle.changes.specs.Changes.{Writable, Subtractable, with_loads, with_differences, with_zeros};
 

@@ -16,7 +16,7 @@ use Rattle.temporal.specs.Lists.{below, sum, product, select}
 use Rattle.temporal.specs.Plan.{Plan}
 use Rattle.temporal.specs.Shortest.{shortest_walks_to, through}
 use Rattle.temporal.specs.Walk.{is_interior}
-use Rattle.temporal.specs.Load.{Ends, ends_below, count_of, through_of, is_pair_of, pairs_below, pairs_of, partial_pairs, pairs, share, partial_load, load}
+use Rattle.temporal.specs.Load.{Ends, ends_below, count_of, through_of, is_pair_of, pairs_below, pairs_of, partial_pairs, share, partial_load}
 use Rattle.temporal.specs.Load.{common_count, exact_sum, WithinExactSum}
 use Rattle.lists.proofs.ListLaws.{length_zero, length_below, mem_select}
 

@@ -3,18 +3,17 @@
 -- Assumes nothing.
 use Prim.Native.Nat.{ℕ, zero, suc, ◌+◌, ◌-◌, ◌*◌, ◌^◌, ◌≤◌, ◌<◌}
 use mathlib.Core.Path.{◌≡◌, refl, sym, ap, ◌∙◌}
-use mathlib.Core.Bool.{Bool, true, false, not, cond, ◌&&◌}
-use mathlib.Core.List.{List, map, map-map}
+use mathlib.Core.Bool.{Bool, true, false, cond}
+use mathlib.Core.List.{map, map-map}
 use mathlib.Core.Logic.{by_cases}
 use native.Mathlib.Omega.{arith}
 use native.Mathlib.Decide.{ℕ_discrete}
 use native.Mathlib.Nat.{suc-mul, add-mul, mul_assoc}
 use borrow.Author.Tests.{eq-eqb, ne_eqb}
-use lib.Dec.{ltb, eqb}
-use lib.ListN.{length}
-use Rattle.temporal.specs.Lists.{from, below, sum, select}
+use lib.Dec.{eqb}
+use Rattle.temporal.specs.Lists.{below, sum}
 use Rattle.temporal.specs.Plan.{Plan}
-use Rattle.temporal.specs.Load.{Ends, ends_below, through_of, is_pair_of, pairs_below, partial_pairs, share, partial_load}
+use Rattle.temporal.specs.Load.{Ends, ends_below, is_pair_of, pairs_below, partial_pairs, share, partial_load}
 use Rattle.temporal.specs.Load.{rest_of_pairs, rest_of_load}
 use Rattle.lists.proofs.ListLaws.{sum_ext, sum_map_add, sum_point, length_select, length_below}
 use Rattle.counting.proofs.ExactSum.{sum_at_most, share_at_most}

@@ -1,9 +1,9 @@
 -- The kinds of foreign records: a station from 256 on, a minus sign, an infinity or a not-a-number, a value finer than 2^-32, a high below
 -- its low, and a high equal to a low that is not 0.
 -- Assumes nothing.
-use Rattle.std.proofs.Common.{◌≡◌, ℕ, ◌+◌, ◌*◌, ◌^◌, ◌<◌, ◌≤◌, ◌≢◌, sym, ap, ◌∙◌, mul-le-mul_right, arith, pow_pos}
+use Rattle.std.proofs.Common.{◌≡◌, ℕ, ◌+◌, ◌*◌, ◌^◌, ◌<◌, ◌≤◌, sym, ap, ◌∙◌, mul-le-mul_right, arith, pow_pos}
 use native.Mathlib.Nat.{eq_of_mul-eq-mul_right}
-use Rattle.temporal.specs.Drawing.{multiple, share_bits, record_of, CouldWrite, foreign, Reads, ForeignKinds}
+use Rattle.temporal.specs.Drawing.{multiple, record_of, CouldWrite, Reads, ForeignKinds}
 use Rattle.drawing.proofs.ShareLaws.{share_below, share_is_exact}
 use Rattle.drawing.proofs.RecordLaws.{Holds, could_hold}
 

@@ -1,5 +1,6 @@
 // The arithmetic of entries, hops and a count, that reach and the forward pass share. None of these is an operation.
 #![tactic(auto)]
+
 ghost use Rattle.std.specs.Prelude.{◌≡◌};
 ghost use Rattle.entries.specs.Entry.{add_counts, overflows};
 

@@ -1,5 +1,6 @@
 // Several counts in one 64-bit entry: lane l of width w has the bits from w × l on.
 #![tactic(auto)]
+
 ghost use Rattle.std.specs.Prelude.{◌≡◌, ◌+◌, ◌-◌, ◌*◌, ◌/◌, ◌%◌, ◌^◌, ◌<◌, ◌≤◌};
 ghost use Rattle.lanes.specs.Lane.{lane, without_lane, ones, lanes_of, width_of};
 

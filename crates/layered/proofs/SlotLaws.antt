@@ -12,7 +12,7 @@ use lib.Seq.{sets}
 use Rattle.temporal.specs.Plan.{Contact}
 use Rattle.temporal.specs.Bytes.{contact_at, records}
 use Rattle.layered.specs.Layered.{in_layer, heard_in, raised, slot_at, shift, layer_of, down, layered_contact}
-use Rattle.layered.specs.Layered.{record_bytes, bytes_from, layered}
+use Rattle.layered.specs.Layered.{record_bytes, bytes_from}
 use Rattle.layered.specs.Writing.{Small, Layerable, Placeable, SlotBounds}
 use Rattle.layered.proofs.PositionLaws.{up, placed_down, shift_inside}
 use Rattle.layered.proofs.AcceptedLaws.{station_below}

@@ -1,6 +1,7 @@
 // The layered plan of a station: written from a plan, slot by slot, and read back as the plan's contacts. These are no operations: the
 // crates above list the walks that have a station inside by them.
 #![tactic(auto)]
+
 ghost use Rattle.std.specs.Prelude.{◌≡◌, ◌+◌, ◌-◌, ◌*◌, ◌<◌, ◌≤◌, length};
 ghost use Rattle.std.proofs.lemmas.List.Edits.{sets};
 ghost use Rattle.temporal.specs.Bytes.{contact_at};

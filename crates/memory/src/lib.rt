@@ -1,5 +1,6 @@
 // Filling, clearing and copying a part of a lent slice. None of these is an operation: a caller has tested the lengths before.
 #![tactic(auto)]
+
 ghost use Rattle.std.specs.Prelude.{◌≡◌, ◌+◌, ◌≤◌, length, replicate};
 ghost use Rattle.temporal.specs.Outcome.{over};
 ghost use Rattle.memory.specs.Fill.{filled};

@@ -1,6 +1,7 @@
 // Plan bytes: the faults with their numbers, reading a record, operation 1, `check`, which rests on these, and the slots that a contact may
 // follow.
 #![tactic(auto)]
+
 ghost use Rattle.std.specs.Prelude.{◌≡◌, ◌+◌, ◌*◌, ◌<◌, ◌≤◌, length};
 ghost use Rattle.temporal.specs.Plan.{window_first, window_end};
 ghost use Rattle.temporal.specs.Bytes.{word_at, contact_at};

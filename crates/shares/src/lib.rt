@@ -1,5 +1,6 @@
 // The share of a pair, in 64-bit words. 2^32 × through has up to 96 bits; it is formed only where it fits a word.
 #![tactic(auto)]
+
 ghost use Rattle.std.specs.Prelude.{◌≡◌, ◌+◌, ◌*◌, ◌/◌, ◌^◌, ◌<◌, ◌≤◌};
 ghost use Rattle.shares.specs.Division.{Divided};
 

@@ -1,13 +1,12 @@
 -- What the through counts of pairs of small plans add up to, by computation from the definitions: count × (hops - 1), as C-15 says, where
 -- nothing goes stale.
 -- Assumes nothing.
-use Prim.Native.Nat.{ℕ}
 use mathlib.Core.Path.{◌≡◌, refl}
 use mathlib.Core.List.{map, flat_map}
 use mathlib.Core.Option.{bind}
 use Rattle.temporal.specs.Lists.{from, below, sum, select, any, first_where, member, distinct, tuples}
 use Rattle.temporal.specs.Plan.{leads_to, may_follow}
-use Rattle.temporal.specs.Walk.{along, step, run, last_or, holds, ends_in, is_walk, is_path, is_interior}
+use Rattle.temporal.specs.Walk.{along, step, run, last_or, holds, ends_in, is_walk, is_interior}
 use Rattle.temporal.specs.Shortest.{or_else, first_nonempty, of_hops, shortest, shortest_walks, shortest_walks_to, through}
 use Rattle.temporal.specs.Foremost.{arrival, foremost_paths}
 use Rattle.temporal.specs.OutcomeForemost.{foremost_through}

@@ -1,12 +1,12 @@
 -- The busiest station of small plans, by computation from the definitions (document 02, C-11).
 -- Assumes nothing.
-use Prim.Native.Nat.{ℕ, ◌<◌}
+use Prim.Native.Nat.{◌<◌}
 use mathlib.Core.Path.{◌≡◌, refl}
-use mathlib.Core.List.{List, [], ◌∷◌, map, flat_map}
+use mathlib.Core.List.{[], ◌∷◌, map, flat_map}
 use mathlib.Core.Option.{bind}
 use native.Mathlib.Omega.{arith}
 use Rattle.temporal.specs.Lists.{from, below, sum, select, any, first_where, member, distinct, tuples}
-use Rattle.temporal.specs.Plan.{Contact, Plan, turning, leads_to, may_follow}
+use Rattle.temporal.specs.Plan.{Plan, turning, leads_to, may_follow}
 use Rattle.temporal.specs.Walk.{along, step, run, last_or, holds, ends_in, is_interior}
 use Rattle.temporal.specs.Shortest.{or_else, first_nonempty, of_hops, shortest, shortest_walks_to, through}
 use Rattle.temporal.specs.Load.{ends_below, pairs_below, share, partial_load, load, is_largest, busiest_of, Busiest}

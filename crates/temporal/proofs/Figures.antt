@@ -9,8 +9,8 @@ use mathlib.Core.List.{List, [], ◌∷◌, map, flat_map}
 use mathlib.Core.Option.{bind}
 use lib.Dec.{leb, ltb, eqb}
 use Rattle.temporal.specs.Lists.{from, below, sum, product, select, any, first_where, member, distinct, tuples}
-use Rattle.temporal.specs.Plan.{Contact, Plan, Terms, turning, leads_to, may_follow}
-use Rattle.temporal.specs.Walk.{along, step, run, last_or, holds, ends_in, is_walk, is_path, is_interior}
+use Rattle.temporal.specs.Plan.{Plan, Terms, turning, leads_to, may_follow}
+use Rattle.temporal.specs.Walk.{along, step, run, last_or, holds, ends_in, is_walk, is_interior}
 use Rattle.temporal.specs.Shortest.{or_else, first_nonempty, of_hops, shortest, shortest_walks, shortest_walks_to}
 use Rattle.temporal.specs.Shortest.{hops, count, through}
 use Rattle.temporal.specs.Foremost.{arrival, foremost_paths}

@@ -4,7 +4,7 @@
 use Prim.Native.Nat.{ℕ}
 use mathlib.Core.Path.{◌≡◌, refl}
 use mathlib.Core.Bool.{true}
-use mathlib.Core.List.{List, [], ◌∷◌, map, flat_map}
+use mathlib.Core.List.{[], ◌∷◌, map, flat_map}
 use mathlib.Core.Option.{bind}
 use Rattle.temporal.specs.Lists.{from, below, select, any, member, distinct, tuples}
 use Rattle.temporal.specs.Plan.{Contact, Plan, units, leads_to, may_follow}

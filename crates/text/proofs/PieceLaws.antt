@@ -1,13 +1,13 @@
 -- Numbered pieces of a text, written one after the other by a loop. Assumes nothing.
 use Prim.Native.Nat.{ℕ, suc, ◌+◌, ◌-◌, ◌<◌, ◌≤◌}
 use native.Mathlib.Omega.{arith}
-use mathlib.Core.Path.{◌≡◌, refl, sym, ap, subst, ◌∙◌}
+use mathlib.Core.Path.{◌≡◌, refl}
 use mathlib.Core.List.{List, [], ◌++◌, flat_map}
 use lib.ListN.{length}
 use Rattle.temporal.specs.Lists.{from, below}
 use Rattle.text.specs.Written.{Put}
 use Rattle.text.specs.Pieces.{pieces}
-use Rattle.text.proofs.GoingLaws.{Going, going_begin, going_room, going_next, going_all}
+use Rattle.text.proofs.GoingLaws.{Going, going_room, going_next, going_all}
 
 -- piece i and those behind it
 pub pieces_cons : (f : ℕ → List ℕ) (i n : ℕ) → i < n → pieces f i n ≡ f i ++ pieces f (i + 1) n

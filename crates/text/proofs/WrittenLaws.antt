@@ -5,9 +5,9 @@ use Prim.Native.Nat.{ℕ, suc, ◌+◌, ◌<◌, ◌≤◌}
 use native.Mathlib.Omega.{arith}
 use native.Mathlib.Numerals.{add-one}
 use mathlib.Core.Path.{◌≡◌, refl, sym, ap, ◌∙◌}
-use mathlib.Core.List.{List, [], ◌∷◌, ◌++◌}
-use lib.ListN.{length, drop, get_or, set, length-append, length-drop, length-set}
-use lib.Seq.{sets, sets-eq, length-sets, take-append_seam, drop-append-add, drop-drop, drop-cons}
+use mathlib.Core.List.{List, [], ◌∷◌}
+use lib.ListN.{length, drop, get_or, set, length-set}
+use lib.Seq.{sets, sets-eq, length-sets, drop-cons}
 use Rattle.text.specs.Written.{written, Put}
 
 -- bytes written within a buffer are its stores, one after the other

@@ -1,5 +1,6 @@
 // Bytes and decimal numbers, written into a lent buffer at a place. Each function answers the place behind what it wrote.
 #![tactic(auto)]
+
 ghost use Rattle.std.specs.Prelude.{◌+◌, ◌≤◌, length};
 ghost use Rattle.text.specs.Written.{Put};
 ghost use Rattle.text.specs.Decimal.{decimal};

@@ -1,30 +1,17 @@
 -- What acceptance gives: a plan without a cause of refusal keeps every rule of the plan bytes. Assumes nothing.
 use Prim.Native.Nat.{ℕ, zero, suc, ◌+◌, ◌-◌, ◌*◌, ◌/◌, ◌%◌, ◌≤◌, ◌<◌}
 use native.Mathlib.Omega.{arith}
-use native.Mathlib.Nat.{div-add-mod'}
-use mathlib.Core.Path.{◌≡◌, refl, sym, ap, subst, ◌∙◌}
-use mathlib.Core.Bool.{Bool, true, false, not, cond, ◌&&◌, ◌||◌}
-use mathlib.Core.List.{List, [], ◌∷◌, ◌++◌, flat_map}
+use mathlib.Core.Path.{◌≡◌, refl, subst}
+use mathlib.Core.Bool.{Bool, true, false, not, ◌||◌}
+use mathlib.Core.List.{List, flat_map}
 use mathlib.Core.Logic.{◌≢◌}
-use borrow.Author.Tests.{ltb-true, ltb-false, leb-false, eqb-true, eqb-false, not-false, lt-ltb}
+use borrow.Author.Tests.{ltb-false, leb-false, eqb-true, eqb-false, not-false, lt-ltb}
 use lib.Dec.{leb, ltb, eqb}
 use lib.ListN.{length}
 use Rattle.temporal.specs.Lists.{from, below}
 use Rattle.temporal.specs.Plan.{Contact}
 use Rattle.temporal.specs.Bytes.{contact_at, records}
-use Rattle.temporal.specs.Cause.{
-  cause,
-  first,
-  outside,
-  wrong_length,
-  wrong_slot,
-  wrong_ends,
-  is_above,
-  wrong_order,
-  record_causes,
-  plan_causes,
-  plan_fault,
-}
+use Rattle.temporal.specs.Cause.{first, outside, wrong_length, wrong_slot, wrong_ends, is_above, wrong_order, record_causes, plan_causes, plan_fault}
 use Rattle.temporal.proofs.CauseLaws.{
   first_append_left,
   first_append_right,

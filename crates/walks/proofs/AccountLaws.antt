@@ -13,7 +13,7 @@ use mathlib.Core.Option.{some}
 use borrow.Author.Tests.{eqb-false, ne_eqb, not-true}
 use lib.Dec.{eqb}
 use lib.ListN.{length, length-map, get_elem?}
-use Rattle.temporal.specs.Lists.{below, sum, select, member, distinct}
+use Rattle.temporal.specs.Lists.{below, sum, select, member}
 use Rattle.temporal.specs.Plan.{Contact, Plan, Terms, Keeps, Appearance, start, leads_to}
 use Rattle.temporal.specs.Walk.{run, last_or, stations_of, is_path, is_interior, HasInside}
 use Rattle.temporal.specs.Shortest.{shortest_walks_to, hops, count, through}

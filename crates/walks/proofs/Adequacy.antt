@@ -3,25 +3,25 @@
 -- Assumes nothing.
 use Prim.Native.Nat.{ℕ, ◌+◌, ◌≤◌, ◌<◌}
 use native.Mathlib.Omega.{arith}
-use mathlib.Core.Path.{◌≡◌, refl, sym, ap, subst, ◌∙◌}
+use mathlib.Core.Path.{◌≡◌, sym, ap, subst, ◌∙◌}
 use mathlib.Core.Bool.{Bool, true, cond}
 use mathlib.Core.List.{List, [], map, Memᴰ}
 use mathlib.Core.Logic.{◌⊎◌, inl, inr, ⊎_elim, ◌↔◌, ◌≢◌}
 use mathlib.Core.Option.{some}
 use borrow.Author.Tests.{eqb-true}
 use lib.Dec.{eqb}
-use lib.ListN.{length, get_elem?}
+use lib.ListN.{length}
 use Rattle.temporal.specs.Lists.{sum, below, Rising}
-use Rattle.temporal.specs.Plan.{Contact, Plan, Terms, Keeps, Appearance, start}
+use Rattle.temporal.specs.Plan.{Plan, Terms, Keeps, Appearance, start}
 use Rattle.temporal.specs.Walk.{run, last_or, ends_in, is_at, is_walk_to, is_appearance, is_walk, is_path}
 use Rattle.temporal.specs.Walk.{stations_of}
 use Rattle.temporal.specs.Shortest.{shortest, shortest_walks, shortest_walks_to, shortest_paths, hops, count}
 use Rattle.temporal.specs.Definition3.{starting_points, is_path000}
-use Rattle.temporal.specs.Bytes.{contact_at, records, plan_of}
+use Rattle.temporal.specs.Bytes.{plan_of}
 use Rattle.temporal.specs.Cause.{plan_fault}
 use Rattle.walks.proofs.Accepted.{accepted}
 use Rattle.walks.proofs.PlanLaws.{kept_plan, contact_within, slots_within}
-use Rattle.lists.proofs.ListLaws.{mem_below, length_below}
+use Rattle.lists.proofs.ListLaws.{mem_below}
 use Rattle.walks.proofs.ShortestLaws.{
   Bounded,
   bounded_implies,
@@ -43,14 +43,7 @@ use Rattle.walks.proofs.WalkLaws.{
   ends_at,
 }
 use Rattle.walks.proofs.ReturnLaws.{start_over, cut_short}
-use Rattle.walks.proofs.PathLaws.{
-  Shorter,
-  path_is_walk,
-  walk_or_shorter,
-  path_definition3,
-  walk_to_station,
-  walk_one_slot,
-}
+use Rattle.walks.proofs.PathLaws.{Shorter, path_is_walk, walk_or_shorter, path_definition3, walk_one_slot}
 
 -- walks of a plan whose contacts lie within its slots are bounded
 pub bounded_ends : (p : Plan) → SlotsWithin p → (s : ℕ) (t : Appearance → Bool) → Bounded p (ends_in p (start s) t)

@@ -1,14 +1,13 @@
 -- The busiest station: there always is one, and it is the one that is defined. Assumes nothing.
-use Prim.Native.Nat.{ℕ, zero, suc, ◌+◌, ◌<◌, ◌≤◌}
+use Prim.Native.Nat.{ℕ, zero, suc, ◌<◌, ◌≤◌}
 use native.Mathlib.Omega.{arith}
 use native.Mathlib.Decide.{dec_lt, ℕ_discrete}
-use native.Mathlib.Numerals.{add-one}
-use mathlib.Core.Path.{◌≡◌, refl, sym, ap, subst, ◌∙◌}
-use mathlib.Core.Bool.{Bool, true, false, not}
+use mathlib.Core.Path.{◌≡◌, refl, sym, ap, subst}
+use mathlib.Core.Bool.{true, false, not}
 use mathlib.Core.Logic.{by_cases}
 use borrow.Author.Tests.{lt-ltb, le-ltb}
 use lib.Dec.{ltb}
-use Rattle.temporal.specs.Lists.{below, any}
+use Rattle.temporal.specs.Lists.{below}
 use Rattle.temporal.specs.Plan.{Plan}
 use Rattle.temporal.specs.Load.{load, is_largest, busiest_of, Busiest}
 use Rattle.lists.proofs.ListLaws.{any_true, any_false, mem_below, first_where_law}

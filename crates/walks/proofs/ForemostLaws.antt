@@ -9,7 +9,7 @@ use mathlib.Core.Bool.{Bool, true, false, ◌&&◌, and-eq-true_iff}
 use mathlib.Core.List.{List, [], Memᴰ}
 use mathlib.Core.Logic.{⊎_elim, ◌↔◌, ◌≢◌, by_cases}
 use mathlib.Core.Option.{Option, none, some}
-use borrow.Author.Tests.{eqb-true, eq-eqb, ne_eqb, leb-true, le-leb, lt-leb, ltb-true, ltb-false, lt-ltb}
+use borrow.Author.Tests.{eqb-true, eq-eqb, ne_eqb, leb-true, le-leb, lt-leb, ltb-true, lt-ltb}
 use lib.Dec.{eqb, leb, ltb}
 use lib.ListN.{length}
 use Rattle.temporal.specs.Lists.{below, first_where, Rising}
@@ -22,7 +22,7 @@ use Rattle.temporal.specs.Cause.{plan_fault}
 use Rattle.walks.proofs.Accepted.{accepted}
 use Rattle.walks.proofs.Adequacy.{bounded_ends, in_complete_list, in_shortest_walks}
 use Rattle.walks.proofs.Adequacy.{appearance_walk_at_least, shortest_walks_rise, walk_ends_within}
-use Rattle.lists.proofs.ListLaws.{not_both, true_or_false, empty_or_member, length_zero, FirstBelow}
+use Rattle.lists.proofs.ListLaws.{not_both, empty_or_member, length_zero, FirstBelow}
 use Rattle.lists.proofs.ListLaws.{passes_nowhere, passes_first, first_below, member_not_empty}
 use Rattle.walks.proofs.RuleLaws.{Kept}
 use Rattle.walks.proofs.PathLaws.{walk_or_shorter}

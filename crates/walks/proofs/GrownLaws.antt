@@ -1,19 +1,18 @@
 -- The shortest lists grown hop by hop: only walks are gone on with, so that figures of small plans can be computed. They are the
 -- shortest lists of the definitions.
 -- Assumes nothing.
-use Prim.Native.Nat.{ℕ, zero, suc, ◌+◌, ◌*◌, ◌/◌, ◌^◌}
+use Prim.Native.Nat.{ℕ, zero, suc, ◌+◌}
 use mathlib.Core.Path.{◌≡◌, refl, sym, ap, ◌∙◌, fun_ext}
 use mathlib.Core.Bool.{Bool, true, false, ◌&&◌}
 use mathlib.Core.List.{List, [], ◌∷◌, map, flat_map}
 use mathlib.Core.Option.{Option, none, some}
-use lib.Dec.{ltb, eqb}
 use lib.ListN.{length}
-use Rattle.temporal.specs.Lists.{below, sum, select, tuples}
+use Rattle.temporal.specs.Lists.{below, select, tuples}
 use Rattle.temporal.specs.Plan.{Plan, Appearance, start}
 use Rattle.temporal.specs.Walk.{step, holds, ends_in, is_at, is_walk_to, is_appearance, is_walk}
 use Rattle.temporal.specs.Shortest.{first_nonempty, of_hops, shortest, shortest_walks, shortest_walks_to}
-use Rattle.temporal.specs.Shortest.{count, through_in, through}
-use Rattle.temporal.specs.Load.{Ends, ends_below, pairs_below, partial_pairs, pairs, share, partial_load, load, pairs_by, load_by}
+use Rattle.temporal.specs.Shortest.{through}
+use Rattle.temporal.specs.Load.{pairs_below, partial_pairs, pairs, share, partial_load, load, pairs_by, load_by}
 use Rattle.lists.proofs.ListLaws.{select_none, select_select, select_map, select_flat_map_law}
 use Rattle.walks.proofs.WalkLaws.{ends_cons, ends_inv, ends_intro, ends_nil}
 

@@ -5,15 +5,15 @@ use mathlib.Core.Bool.{true, false, false≢true}
 use mathlib.Core.Logic.{by_cases}
 use borrow.Author.Tests.{le-ltb, ne_eqb}
 use native.Mathlib.Omega.{arith}
-use mathlib.Core.Path.{◌≡◌, refl, sym, ap, subst, ◌∙◌}
-use mathlib.Core.List.{List, [], ◌∷◌, map}
-use mathlib.Core.Option.{Option, some}
+use mathlib.Core.Path.{◌≡◌, sym, ap, subst, ◌∙◌}
+use mathlib.Core.List.{List, map}
+use mathlib.Core.Option.{some}
 use lib.ListN.{length, length-map, get_elem?}
 use Rattle.temporal.specs.Lists.{from, below}
 use Rattle.temporal.specs.Plan.{Contact, Terms, Keeps}
 use Rattle.temporal.specs.Bytes.{contact_at, records, plan_of}
 use Rattle.temporal.specs.Cause.{is_above, plan_fault}
-use Rattle.walks.proofs.Accepted.{Accepted, ContactWithin, accepted}
+use Rattle.walks.proofs.Accepted.{ContactWithin, accepted}
 use Rattle.lists.proofs.ListLaws.{length_below}
 use Rattle.lists.proofs.OptionLaws.{position_below}
 use Rattle.walks.proofs.RuleLaws.{Kept}

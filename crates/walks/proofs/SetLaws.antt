@@ -1,41 +1,26 @@
 -- How many shortest walks have a station of a set inside: against one station's through count, no station, all stations, the
 -- members' through counts, and a larger set. Assumes nothing.
-use Prim.Native.Nat.{ℕ, zero, suc, ◌+◌, ◌≤◌, ◌<◌}
+use Prim.Native.Nat.{ℕ, ◌≤◌, ◌<◌}
 use native.Mathlib.Omega.{arith}
 use native.Mathlib.Decide.{ℕ_discrete}
 use mathlib.Core.Path.{◌≡◌, refl, sym, ap, subst, ◌∙◌, fun_ext}
 use mathlib.Core.Bool.{Bool, true, false, cond, ◌&&◌, and-eq-true_iff}
 use mathlib.Core.List.Memᴰ
 use mathlib.Core.List.{List, [], ◌∷◌, map, Memᴰ}
-use mathlib.Core.Logic.{◌≢◌, by_cases, ⊎_elim}
-use mathlib.Core.Option.{some, bind}
-use borrow.Author.Tests.{eq-eqb, ne_eqb, eqb-true}
+use mathlib.Core.Logic.{by_cases, ⊎_elim}
+use mathlib.Core.Option.{bind}
+use borrow.Author.Tests.{eq-eqb, ne_eqb}
 use lib.Dec.{eqb}
 use lib.ListN.{length}
 use Rattle.temporal.specs.Lists.{below, sum, select, any}
-use Rattle.temporal.specs.Plan.{Plan, Terms, Appearance, start}
+use Rattle.temporal.specs.Plan.{Plan, Terms, start}
 use Rattle.temporal.specs.Walk.{run, last_or, stations_of, is_at, is_interior}
 use Rattle.temporal.specs.Definition3.{starting_points}
 use Rattle.temporal.specs.Shortest.{shortest_walks_to, hops, count, through_in, through}
 use Rattle.temporal.specs.Set.{touches, touched_in, touched}
 use Rattle.temporal.specs.Bytes.{plan_of}
 use Rattle.temporal.specs.Cause.{plan_fault}
-use Rattle.lists.proofs.ListLaws.{
-  true_or_false,
-  not_both,
-  any_ext,
-  any_true,
-  any_false,
-  mem_below,
-  mem_select,
-  select_ext,
-  select_none,
-  length_select,
-  sum_member,
-  sum_zero,
-  sum_exchange,
-  length_zero,
-}
+use Rattle.lists.proofs.ListLaws.{true_or_false, not_both, any_ext, any_true, any_false, mem_below, select_ext, select_none, length_select, sum_member, sum_zero, sum_exchange}
 use Rattle.walks.proofs.PathLaws.{interior_intro}
 use Rattle.walks.proofs.WalkLaws.{run_cons, ends_inv}
 use Rattle.walks.proofs.Adequacy.{in_complete_list, no_return, walk_ends_within}

@@ -1,17 +1,16 @@
 -- The three verdicts: when each is given, and that no list gets two. Assumes nothing.
-use Prim.Native.Nat.{ℕ, zero, suc, ◌+◌, ◌*◌, ◌≤◌, ◌<◌}
+use Prim.Native.Nat.{ℕ, suc, ◌*◌, ◌≤◌, ◌<◌}
 use mathlib.Core.Path.{◌≡◌, refl, sym, ap, ◌∙◌, subst}
-use mathlib.Core.Bool.{Bool, true, false, cond}
+use mathlib.Core.Bool.{true, false}
 use mathlib.Core.List.Memᴰ
 use mathlib.Core.List.{List, [], ◌∷◌, ◌++◌, flat_map, append-nil, append_assoc, Memᴰ}
-use mathlib.Core.Logic.{◌↔◌, ⊎_elim}
 use native.Mathlib.Omega.{arith}
 use native.Mathlib.Nat.{suc-mul, mul-lt-mul_of_pos_right}
 use lib.ListN.{length, get_or, take, drop, length-append, take-append-drop}
 use lib.Seq.{take-suc, take-length, take-take, take_at, drop_at, split_at, get_or-take, length-take-le}
 use Rattle.temporal.specs.Lists.{below, any}
 use Rattle.temporal.specs.Cursor.{same_numbers}
-use Rattle.temporal.specs.Verdict.{Verdict, complete, beginning, wrong, joined, verdict_on, IsComplete, IsBeginning}
+use Rattle.temporal.specs.Verdict.{complete, beginning, wrong, joined, verdict_on, IsComplete, IsBeginning}
 use Rattle.lists.proofs.ListLaws.{any_true, any_false, mem_below, mem_get_d_law, not_true_false}
 use Rattle.lists.proofs.BufferLaws.{same_numbers_law}
 

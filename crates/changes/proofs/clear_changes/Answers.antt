@@ -1,7 +1,6 @@
 -- `changes::clear_changes` meets its contract. The loop's invariant: the entries before v are 0, the others untouched. The measure is
 -- the number of entries left.
 -- Assumes nothing.
-use Prim.Native.Nat.{◌-◌}
 use native.Mathlib.Omega.{arith}
 use Rattle.changes.proofs.WritingLaws.{writing_none, writing_more}
 use Rattle.changes.proofs.ChangeLaws.{zeros_all}

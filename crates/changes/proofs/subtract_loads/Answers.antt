@@ -1,7 +1,6 @@
 -- `changes::subtract_loads` meets its contract. The loop's invariant: the entries before v are differences, the others untouched. The
 -- measure is the number of entries left.
 -- Assumes nothing.
-use Prim.Native.Nat.{◌-◌}
 use native.Mathlib.Omega.{arith}
 use Rattle.changes.specs.Changes.{with_differences}
 use Rattle.changes.proofs.WritingLaws.{writing_none, writing_all}

@@ -1,7 +1,6 @@
 -- `changes::write_loads` meets its contract. The loop's invariant: the entries before v are loads, the others untouched. The measure is
 -- the number of entries left.
 -- Assumes nothing.
-use Prim.Native.Nat.{◌-◌}
 use native.Mathlib.Omega.{arith}
 use Rattle.changes.specs.Changes.{with_loads}
 use Rattle.changes.proofs.WritingLaws.{writing_none, writing_all}

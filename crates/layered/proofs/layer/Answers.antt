@@ -1,7 +1,6 @@
 -- `layered::layer` meets its contract. The loop's invariant: the slots before position lo are written. The measure is the number of
 -- records left.
 -- Assumes nothing.
-use Prim.Native.Nat.{◌-◌}
 use native.Mathlib.Omega.{arith}
 use Rattle.temporal.specs.Bytes.{records}
 use Rattle.layered.proofs.SlotLaws.{layerable_kept}

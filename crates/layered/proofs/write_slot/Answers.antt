@@ -1,7 +1,7 @@
 -- `layered::write_slot` meets its contract. The loop's invariant: the places of the slot before q are written. The measure is the number
 -- of places left.
 -- Assumes nothing.
-use Prim.Native.Nat.{◌-◌, ◌*◌, ◌<◌}
+use Prim.Native.Nat.{◌*◌, ◌<◌}
 use native.Mathlib.Omega.{arith}
 use Rattle.layered.proofs.WritingLaws.{written_none, written_next}
 use Rattle.layered.proofs.SlotLaws.{layerable_kept, bounds_end, slot_wrote}

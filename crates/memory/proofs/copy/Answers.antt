@@ -1,6 +1,5 @@
 -- `memory::copy` meets its contract. The loop's invariant: the first i entries are copied. The measure is the number left.
 -- Assumes nothing.
-use Prim.Native.Nat.{◌-◌}
 use native.Mathlib.Omega.{arith}
 use Rattle.memory.proofs.CopyLaws.{copying_none, copying_more, copying_all}
 use Rattle.memory.proofs.copy.Goals as goal

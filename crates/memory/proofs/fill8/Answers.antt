@@ -1,7 +1,6 @@
 -- `memory::fill8` meets its contract. The loop's invariant: writing the entries from i on gives what writing all gives. The
 -- measure is the number of entries left.
 -- Assumes nothing.
-use Prim.Native.Nat.{◌-◌}
 use native.Mathlib.Omega.{arith}
 use mathlib.Core.Path.{◌∙◌}
 use Rattle.memory.proofs.FillLaws.{filling_none, filling_next, filling_all, filled_start}

@@ -1,7 +1,6 @@
 -- `memory::fill_part` meets its contract. The loop's invariant: writing the entries from i on gives what writing all gives. The
 -- measure is the number of entries left.
 -- Assumes nothing.
-use Prim.Native.Nat.{◌-◌}
 use native.Mathlib.Omega.{arith}
 use Rattle.memory.proofs.FillLaws.{filling_none, filling_more, filling_all}
 use Rattle.memory.proofs.fill_part.Goals as goal

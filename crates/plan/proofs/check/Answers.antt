@@ -1,7 +1,6 @@
 -- `plan::check` meets its contract. The loop's invariant: the plan's first cause is the first cause of the records from i
 -- on. The measure is the number of records left.
 -- Assumes nothing.
-use Prim.Native.Nat.{◌-◌}
 use native.Mathlib.Omega.{arith}
 use mathlib.Core.Path.{sym, ◌∙◌}
 use Rattle.temporal.specs.Bytes.{records}

@@ -2,7 +2,6 @@
 -- records left.
 -- Assumes nothing.
 use native.Mathlib.Omega.{arith}
-use Prim.Native.Nat.{◌-◌}
 use mathlib.Core.Path.{sym, ◌∙◌}
 use Rattle.plan.proofs.SlotLaws.{in_slot_inv, counting_none, counting_more, counting_all, kept_small}
 use Rattle.plan.proofs.kept_slot_end.Goals as goal

@@ -1,7 +1,6 @@
 -- `shares::long_share` meets its contract. The loop's invariant: 2^i × through is divided by count. The measure is the
 -- number of steps left.
 -- Assumes nothing.
-use Prim.Native.Nat.{◌-◌}
 use mathlib.Core.Path.{◌≡◌}
 use native.Mathlib.Omega.{arith}
 use Rattle.shares.proofs.DivisionLaws.{divided_whole, doubled_none, doubled_more, doubled_below}

@@ -1,7 +1,7 @@
 -- `text::put_bytes` meets its contract. The loop's invariant: the bytes from i on are still to be written. The measure is
 -- their number.
 -- Assumes nothing.
-use Prim.Native.Nat.{◌+◌, ◌-◌}
+use Prim.Native.Nat.{◌+◌}
 use mathlib.Core.Path.{◌≡◌}
 use native.Mathlib.Omega.{arith}
 use lib.ListN.{drop_of_length-le}
