@@ -295,13 +295,13 @@ run_holds c ins table (took_in k r after ∷ es) right (e, rest) = (
   right,
   fifteen c ins table right k after r e,
   in_not_sixteen c ins table right k after r e,
-  run_holds c _ after es (used_in c ins table right k after r e) rest,
+  run_holds c (in_after_in k.bytes r ins) after es (used_in c ins table right k after r e) rest,
 )
 run_holds c ins table (took_out k r after ∷ es) right (there, e, rest) = (
   right,
   out_not_fifteen c ins table right k after there r e,
   sixteen_never c ins table right k after there r e,
-  run_holds c _ after es (used_out c ins table right k after there r e) rest,
+  run_holds c (in_after_out k.bytes r ins) after es (used_out c ins table right k after there r e) rest,
 )
 
 zeros : (size j : ℕ) → ◌≡◌ {A = ℕ} (get_or (replicate size 0) j 0) 0

@@ -3,7 +3,7 @@ use Prim.Native.Nat.{ℕ, suc, ◌-◌}
 use native.Mathlib.Omega.{arith}
 use native.Mathlib.Decide.{ℕ_discrete}
 use mathlib.Core.Path.{◌≡◌, refl, sym, ap, ◌∙◌}
-use mathlib.Core.Bool.{true, not, ◌&&◌, and-false}
+use mathlib.Core.Bool.{true, false, not, ◌&&◌, and-false}
 use mathlib.Core.List.Memᴰ
 use mathlib.Core.List.{List, [], ◌∷◌, Memᴰ}
 use mathlib.Core.Option.{some}
@@ -38,7 +38,11 @@ between_inside s z v (y ∷ l) ends home before =
     ap (member v) (ap (λ k. take k (stations_of (y ∷ l))) fewer ∙ without_last y l) ∙
     starts_visited v y l (λ m. before (Memᴰ.tail (Memᴰ.cast (sym ends) m))) ∙
     by_cases (ℕ_discrete v s)
-    (λ e. rw (e, eq-eqb s s refl, (member_false s (stations_of (y ∷ l))).1 home, and-false))
+    (λ e.
+    let out : member v (stations_of (y ∷ l)) ≡ false =
+        ap (λ x. member x (stations_of (y ∷ l))) e ∙ (member_false s (stations_of (y ∷ l))).1 home in
+    ap (λ b. not (eqb v (last_or y l).station) && b) out ∙ and-false (not (eqb v (last_or y l).station)) ∙
+    sym (ap (λ b. not b && (not (eqb v z) && member v (stations_of (y ∷ l)))) (eq-eqb v s e)))
     (λ d. rw (ne_eqb v s d, ends))
 
 -- the same of the walk

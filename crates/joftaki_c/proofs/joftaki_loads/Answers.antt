@@ -1,0 +1,6 @@
+-- `joftaki_c::joftaki_loads` meets its contract: the answer gives the number, and the tables are as `loads::loads` leaves them.
+-- Assumes nothing.
+use Rattle.joftaki_c.proofs.joftaki_loads.Goals as goal
+
+pub returns : goal.returns
+returns c = rw c.loads_code.ensures c.loads.ensures
