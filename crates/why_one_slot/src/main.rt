@@ -3,6 +3,7 @@
 // no more than one byte over the largest input, which is enough to refuse. Wrong arguments are told before anything is read; after that or
 // a failed read nothing is printed.
 #![tactic(auto)]
+
 ghost use Rattle.temporal.specs.Plan.{turning};
 ghost use Rattle.account.specs.Account.{Accounted};
 
