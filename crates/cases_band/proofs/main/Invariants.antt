@@ -1,0 +1,12 @@
+-- `cases_band::main` is safe and ends: the buffers keep their lengths, and the number of cases left falls.
+-- Assumes nothing.
+use mathlib.Core.Path.{◌≡◌}
+use lib.ListN.{length}
+use Rattle.cases_band.proofs.main.Given as goal
+
+abbrev pub invariant-loop-left : goal.invariant-loop-left
+invariant-loop-left l =
+    (14 ≡ length l.head) × (80 ≡ length l.label) × (49200 ≡ length l.plan) × (600 ≡ length l.entries) × (300 ≡ length l.table)
+
+abbrev pub decreases-loop-left : goal.decreases-loop-left
+decreases-loop-left l = l.left

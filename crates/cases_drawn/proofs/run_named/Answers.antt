@@ -1,0 +1,21 @@
+-- `cases_drawn::run_named` is safe and ends: each lent part is as long as the head says, or the whole buffer.
+-- Assumes nothing.
+use mathlib.Core.Path.{sym}
+use native.Mathlib.Omega.{arith}
+use lib.Seq.{length-take-le}
+use Rattle.cases_drawn.proofs.run_named.Goals as goal
+
+pub slice_bounds-run_drawn-end : goal.slice_bounds-run_drawn-end
+slice_bounds-run_drawn-end g c = sym (length-take-le _ _ (omega arith))
+
+pub slice_bounds-run_drawn-end-3 : goal.slice_bounds-run_drawn-end-3
+slice_bounds-run_drawn-end-3 g c = sym (length-take-le _ _ (omega arith))
+
+pub slice_bounds-run_drawn-end-5 : goal.slice_bounds-run_drawn-end-5
+slice_bounds-run_drawn-end-5 g c = sym (length-take-le _ _ (omega arith))
+
+pub slice_bounds-run_drawn-end-7 : goal.slice_bounds-run_drawn-end-7
+slice_bounds-run_drawn-end-7 g c = sym (length-take-le _ _ (omega arith))
+
+pub slice_bounds-run_drawn-end-9 : goal.slice_bounds-run_drawn-end-9
+slice_bounds-run_drawn-end-9 g c = sym (length-take-le _ _ (omega arith))

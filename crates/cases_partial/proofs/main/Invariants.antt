@@ -1,0 +1,12 @@
+-- `cases_partial::main` is safe and ends: buffers and tables keep their lengths, and the number of cases left falls.
+-- Assumes nothing.
+use mathlib.Core.Path.{◌≡◌}
+use lib.ListN.{length}
+use Rattle.cases_partial.proofs.main.Given as goal
+
+abbrev pub invariant-loop-left : goal.invariant-loop-left
+invariant-loop-left l =
+    (34 ≡ length l.head) × (64 ≡ length l.label) × (49200 ≡ length l.plan) × (320 ≡ length l.pairs) × (320 ≡ length l.sums) × (262200 ≡ length l.work)
+
+abbrev pub decreases-loop-left : goal.decreases-loop-left
+decreases-loop-left l = l.left
