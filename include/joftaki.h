@@ -44,7 +44,7 @@
  * (crates/joftaki_c/proofs/Told.antt).
  *
  * Not proved. That these prototypes, the numbers behind the names and the macros, written by hand, fit the archive and the
- * definitions; how long a call takes; how much stack it takes (measured: docs/MEMORY.md). The archive is for x86-64.
+ * definitions; how long a call takes; how much stack it takes (measured: docs/MEMORY.md). The archive is for x86-64-v2.
  *
  * What no contract can cover at this boundary, and nothing tests; a call that breaks one of these rules is undefined. The
  * first four are said again at each prototype:
@@ -371,7 +371,7 @@ uint32_t joftaki_struck_out(const uint8_t *plan, size_t plan_length, size_t n, s
  * Lend: work JOFTAKI_WORK_LENGTH(n, t) entries.
  * Gives 0, or the first of 1, 2, 3, 4, 5, 12, 14, 8, 9; every source is worked on. 9 sets the named part of work to 0.
  * Proved: the number, the slot, and every entry of work at exit. No load exceeds the load of the station given, and every
- * lower-numbered station's is smaller (crates/temporal/proofs/BusiestLaws.antt).
+ * lower-numbered station's is smaller (crates/walks/proofs/BusiestLaws.antt).
  * Not covered: each pointer is valid for its length, aligned and not null, also where its length is 0; station is valid,
  * aligned and not null; the slot, work and the plan do not overlap.
  */

@@ -1,4 +1,4 @@
-//! Links libjoftaki_c.a, from the folder that JOFTAKI_LIB names or from target/staticlib.
+//! Links libjoftaki_c.a, from the folder that JOFTAKI_LIB names or from crates/joftaki_c/out.
 
 use std::path::PathBuf;
 use std::{env, fs};
@@ -6,11 +6,11 @@ use std::{env, fs};
 fn main() {
     let manifest = env::var("CARGO_MANIFEST_DIR").expect("cargo names the crate's folder");
     let folder = env::var("JOFTAKI_LIB").map(PathBuf::from);
-    let folder = folder.unwrap_or_else(|_| PathBuf::from(manifest).join("../../target/staticlib"));
+    let folder = folder.unwrap_or_else(|_| PathBuf::from(manifest).join("../../crates/joftaki_c/out"));
     let archive = folder.join("libjoftaki_c.a");
     if fs::metadata(&archive).is_err() {
         panic!(
-            "{} is missing: rt staticlib joftaki_c writes it",
+            "{} is missing: rt lib in crates/joftaki_c writes it",
             archive.display()
         );
     }
