@@ -77,7 +77,7 @@ fn write_double(records: &mut [u8], at: usize, bits: u64)
 // Writes a record from a place on: the station in 16 bits, then both doubles.
 pub fn write_record(records: &mut [u8], at: usize, drawn: Drawn)
     requires at_in_bounds { at + 18 ≤ length records.old }
-    requires t { T (not (is_nan drawn.low)) × T (not (is_nan drawn.high)) }
+    requires no_nan { T (not (is_nan drawn.low)) × T (not (is_nan drawn.high)) }
     ensures { records.new ≡ sets records.old at (drawn_bytes drawn) }
 {
     let station = drawn.station;

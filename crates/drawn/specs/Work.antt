@@ -1,6 +1,6 @@
 -- What the parts of the operation ask and leave. Definitions only.
 -- Assumes nothing.
-use Rattle.std.specs.Prelude.{ℕ, zero, suc, ◌+◌, ◌*◌, ◌^◌, ◌<◌, ◌≤◌, ◌≡◌, List, [], ◌∷◌, ◌++◌, length, get_or}
+use Rattle.std.specs.Prelude.{ℕ, zero, suc, ◌^◌, ◌<◌, ◌≤◌, List, [], ◌++◌, length, get_or}
 use Rattle.temporal.specs.Plan.{Terms}
 use Rattle.temporal.specs.OutcomeDrawn.{records_size}
 use Rattle.temporal.specs.Drawing.{drawn_record}

@@ -1,5 +1,6 @@
 // Document 02's loads for the drawing program (C-24): the loads call, and behind it the record of each station.
 #![tactic(auto)]
+
 ghost use Rattle.std.specs.Prelude.{◌≡◌, ◌*◌, ◌<◌};
 ghost use Rattle.std.proofs.lemmas.List.Edits.{sets};
 ghost use Rattle.temporal.specs.Plan.{units};

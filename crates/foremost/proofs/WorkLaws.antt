@@ -1,14 +1,11 @@
 -- The operation on shortest foremost paths, from what the pass and the through counts leave. Assumes nothing.
-use Prim.Native.Nat.{ℕ, ◌+◌, ◌*◌, ◌<◌, ◌≤◌, min}
+use Prim.Native.Nat.{ℕ, ◌+◌, ◌≤◌}
 use native.Mathlib.Omega.{arith}
-use native.Mathlib.Nat.{mul-le-mul_left}
 use mathlib.Core.Path.{◌≡◌, refl, sym, ap, subst, ◌∙◌}
-use mathlib.Core.Bool.{Bool, true, false, cond}
+use mathlib.Core.Bool.{Bool, true, false}
 use mathlib.Core.List.{List, [], map}
-use mathlib.Core.Logic.{◌≢◌, ◌⊎◌, inl, inr, ⊎_elim, by_cases}
-use native.Mathlib.Decide.{ℕ_discrete}
+use mathlib.Core.Logic.{◌≢◌, inl, inr, ⊎_elim}
 use borrow.Author.Tests.{eq-eqb, ne_eqb}
-use lib.Dec.{eqb}
 use lib.ListN.{length, get_or, drop, replicate}
 use Rattle.temporal.specs.Plan.{Terms, Keeps}
 use Rattle.temporal.specs.Lists.{below}
@@ -24,9 +21,8 @@ use Rattle.walks.proofs.Accepted.{accepted}
 use Rattle.walks.proofs.LackingLaws.{lacking_nothing}
 use Rattle.lists.proofs.BufferLaws.{over_by, fill_beyond, get_d_made_law, length_made, later_drop}
 use Rattle.walks.proofs.ForemostLaws.{Arrival, never, arrives, arrival_or_never, foremost_by_arrival, foremost_none, foremost_few}
-use Rattle.lists.proofs.ListLaws.{not_both}
 use Rattle.walks.proofs.PlanLaws.{slots_within}
-use Rattle.walks.proofs.ShortestLaws.{hops_empty, count_zero}
+use Rattle.walks.proofs.ShortestLaws.{hops_empty}
 use Rattle.plan.specs.Fault.{plan_number, call_number, check_number}
 use Rattle.plan.specs.declared.PlanFault.{PlanFault}
 use Rattle.plan.specs.declared.CallFault.{CallFault}
@@ -38,7 +34,7 @@ use Rattle.calls.specs.declared.CallCheck.TheVariants as call-check
 use Rattle.pass.specs.Column.{block_column, whole}
 use Rattle.pass.specs.declared.Ended.{Ended}
 use Rattle.pass.specs.declared.Ended.TheVariants as ended
-use Rattle.pass.specs.PassedColumns.{waiting, area_size, ColumnsReady, StationMet, EndedAs, ColumnsPassed, Overfull}
+use Rattle.pass.specs.PassedColumns.{waiting, area_size, ColumnsReady, EndedAs, ColumnsPassed}
 use Rattle.forward.proofs.SizeLaws.{size_kept, small_fits}
 use Rattle.forward.proofs.UseLaws.{whole_appearances}
 use Rattle.pair.specs.Answer.{pair_buffers}

@@ -1,6 +1,6 @@
 -- What the inner functions of the operation on shortest foremost paths ask and leave. Definitions only.
 -- Assumes nothing.
-use Rattle.std.specs.Prelude.{ℕ, ◌+◌, ◌*◌, ◌<◌, ◌≤◌, min, ◌≡◌, Bool, true, false, cond, List, ◌≢◌, eqb, length, get_or, drop}
+use Rattle.std.specs.Prelude.{ℕ, ◌+◌, ◌<◌, ◌≤◌, min, ◌≡◌, Bool, true, false, cond, List, ◌≢◌, eqb, length, get_or, drop}
 use Rattle.temporal.specs.Plan.{Terms, Lasting}
 use Rattle.temporal.specs.Bytes.{plan_of}
 use Rattle.temporal.specs.Shortest.{hops, count}

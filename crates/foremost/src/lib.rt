@@ -1,6 +1,7 @@
 // Document 02's operation on the shortest foremost paths of a pair (C-14), over the pass: the earliest slot in which a reading
 // arrives, the fewest hops of a path that arrives then, how many there are, and how many have each station inside.
 #![tactic(auto)]
+
 ghost use Rattle.std.specs.Prelude.{◌≡◌};
 ghost use Rattle.temporal.specs.Plan.{turning};
 ghost use Rattle.temporal.specs.Bytes.{plan_of};

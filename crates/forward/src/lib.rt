@@ -1,6 +1,7 @@
 // The forward pass, as the operations call it: where nothing goes stale in the slots of the plan, the pass that carries what may be sent
 // on; else the pass that gathers a sender's window. What either leaves in the work area is read in one way.
 #![tactic(auto)]
+
 ghost use Rattle.std.specs.Prelude.{◌≡◌, true, false, ◌+◌, ◌*◌, ◌^◌, ◌<◌, ◌≤◌};
 ghost use Rattle.temporal.specs.Plan.{units};
 ghost use Rattle.temporal.specs.Bytes.{plan_of};

@@ -2,18 +2,17 @@
 use Prim.Native.Nat.{ℕ, ◌+◌, ◌<◌, ◌≤◌}
 use native.Mathlib.Omega.{arith}
 use mathlib.Core.Path.{◌≡◌, sym, ap, ap₂, ◌∙◌}
-use mathlib.Core.Bool.{Bool, true, false, cond, ◌||◌}
-use mathlib.Core.List.{List, [], ◌∷◌, map}
+use mathlib.Core.Bool.{Bool, true, false, ◌||◌}
+use mathlib.Core.List.{List, [], map}
 use borrow.Author.Tests.{lt-ltb, le-ltb}
-use lib.ListN.{length, get_or, drop, replicate}
+use lib.ListN.{length, get_or, replicate}
 use Rattle.temporal.specs.Plan.{Terms}
 use Rattle.temporal.specs.Lists.{below}
 use Rattle.temporal.specs.Load.{partial_pairs, partial_load, load, Busiest}
 use Rattle.temporal.specs.Bytes.{plan_of}
-use Rattle.temporal.specs.Cause.{plan_fault, first, terms_causes, wrong_sources}
+use Rattle.temporal.specs.Cause.{plan_fault, first, terms_causes}
 use Rattle.temporal.specs.Outcome.{Outcome, over, cleared, short, work_size}
 use Rattle.temporal.specs.OutcomePair.{LoadBuffers, partly_loaded, partial_loads, compared, busiest}
-use Rattle.walks.proofs.Accepted.{accepted}
 use Rattle.walks.proofs.BusiestLaws.{busiest_unique}
 use Rattle.lists.proofs.BufferLaws.{over_by, fill_beyond, get_d_made_law, length_made}
 use Rattle.walks.proofs.EnteredLaws.{

@@ -1,8 +1,7 @@
 -- The through counts of a pair, block after block: what one block gives, what the loop keeps, and what it gives at its end.
 -- Assumes nothing.
-use Prim.Native.Nat.{ℕ, zero, suc, ◌+◌, ◌-◌, ◌*◌, ◌<◌, ◌≤◌, min}
+use Prim.Native.Nat.{ℕ, ◌+◌, ◌-◌, ◌*◌, ◌<◌, ◌≤◌, min}
 use native.Mathlib.Omega.{arith}
-use native.Mathlib.Numerals.{add-one}
 use native.Mathlib.Decide.{dec_lt, ℕ_discrete}
 use native.Mathlib.Nat.{mul-le-mul_left}
 use mathlib.Core.Path.{◌≡◌, refl, sym, ap, subst, ◌∙◌}
@@ -34,7 +33,7 @@ use Rattle.stale.specs.Depth.{DepthOf}
 use Rattle.forward.specs.Passed.{pass_size, most_columns, Lent, DepthReady, UntilReady}
 use Rattle.forward.proofs.SizeLaws.{first_part, some_column, whole_lent, area_fits}
 use Rattle.forward.proofs.UseLaws.{block_row, settled_in, not_settled, whole_few}
-use Rattle.pair.specs.Throughs.{through_entry, Storing, StoredBlock, PairReady, Asks, last_slot, BlockReady}
+use Rattle.pair.specs.Throughs.{through_entry, Storing, StoredBlock, PairReady, last_slot, BlockReady}
 use Rattle.pair.specs.Throughs.{PairBy, BlockDone, ThroughsReady, BlocksReady, Throughs}
 use Rattle.pair.proofs.ThroughLaws.{entry_itself, entry_no_path, entry_rest}
 

@@ -4,10 +4,10 @@ use Rattle.std.proofs.Common.{◌≡◌, ℕ, zero, suc, ◌+◌, ◌*◌, ◌%�
 use native.Mathlib.Decide.{ℕ_discrete}
 use mathlib.Core.Logic.{by_cases}
 use lib.Pow.{pow-lt}
-use Rattle.temporal.specs.Plan.{Plan, start}
-use Rattle.counting.proofs.Weights.{total, everywhere}
+use Rattle.temporal.specs.Plan.{Plan}
+use Rattle.counting.proofs.Weights.{everywhere}
 use Rattle.counting.proofs.Fewest.{fewest_intro}
-use Rattle.counting.proofs.Recurrence.{heard, at_appearance, arrivals_zero, heard_zero, start_here}
+use Rattle.counting.proofs.Recurrence.{arrivals_zero, heard_zero, start_here}
 use Rattle.counting.proofs.Recurrence.{start_other}
 use Rattle.entries.specs.Entry.{stored}
 use Rattle.entries.proofs.CountLaws.{stored_small}

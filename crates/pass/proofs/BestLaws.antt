@@ -2,7 +2,7 @@
 -- them that avoid the stations of column j: the fewest hops with the count there, and the row of avoiding counts, several to an entry.
 -- Laws of merging and of one hop more.
 -- Assumes nothing.
-use Rattle.std.proofs.Common.{◌≡◌, ℕ, ◌+◌, ◌*◌, ◌%◌, ◌^◌, ◌<◌, ◌≤◌, min, sym, refl, ap, ◌∙◌, ⊎_elim, arith, le-ltb, lt-ltb, eq-eqb, ne_eqb}
+use Rattle.std.proofs.Common.{◌≡◌, ℕ, ◌+◌, ◌*◌, ◌%◌, ◌^◌, ◌<◌, ◌≤◌, min, sym, ap, ◌∙◌, ⊎_elim, arith, le-ltb, lt-ltb, eq-eqb, ne_eqb}
 use Rattle.counting.proofs.Fewest.{Fewest, plus, delayed, fewest_none, fewest_unique, plus_first, plus_second}
 use Rattle.entries.specs.Entry.{merged_count}
 use Rattle.entries.proofs.EntryLaws.{Entry, entry_none, entry_ext, entry_merge, entry_later, compare, delayed_at}

@@ -1,9 +1,8 @@
 -- The station that a pass waits for: what its settled entry says of the slot in which it is reached. Assumes nothing.
-use Rattle.std.proofs.Common.{◌≡◌, ℕ, ◌+◌, ◌<◌, ◌≤◌, Bool, true, false, cond, ltb, ◌⊎◌, List, [], get_or, sym, refl, ◌∙◌, ⊎_elim, arith, ltb-false, ltb-true, le-ltb, lt-ltb}
-use mathlib.Core.List.{Memᴰ}
+use Rattle.std.proofs.Common.{◌≡◌, ℕ, ◌<◌, ◌≤◌, Bool, true, false, cond, ltb, ◌⊎◌, List, [], get_or, sym, refl, ◌∙◌, ⊎_elim, arith, ltb-false, ltb-true, le-ltb, lt-ltb}
 use Rattle.temporal.specs.Plan.{Terms}
 use Rattle.temporal.specs.Lists.{below, any}
-use Rattle.temporal.specs.Shortest.{shortest_walks_to, hops, count}
+use Rattle.temporal.specs.Shortest.{hops, count}
 use Rattle.temporal.specs.Foremost.{arrival, arrives_by, walks_by}
 use Rattle.temporal.specs.Bytes.{plan_of}
 use Rattle.temporal.specs.Cause.{plan_fault, station_too_many}

@@ -1,6 +1,6 @@
 -- What stands in every place of the work area after an entry and its row took walks in, after a mask, and after a
 -- station is settled. Assumes nothing.
-use Rattle.std.proofs.Common.{◌≡◌, ℕ, ◌+◌, ◌*◌, ◌/◌, ◌%◌, ◌<◌, ◌≤◌, min, Bool, true, false, cond, not, ◌&&◌, eqb, ltb, ◌≢◌, ◌⊎◌, List, length, get_or, set, sym, refl, ap, ◌∙◌, inl, inr, ⊎_elim, div-lt_iff_lt-mul, arith, length-set, get_or-set_other, get_or-set_same, lt-length-set, ltb-true, le-ltb, lt-ltb, eqb-true}
+use Rattle.std.proofs.Common.{◌≡◌, ℕ, ◌+◌, ◌*◌, ◌/◌, ◌%◌, ◌<◌, ◌≤◌, min, Bool, true, false, cond, not, ◌&&◌, eqb, ltb, ◌≢◌, ◌⊎◌, List, length, get_or, set, refl, ap, ◌∙◌, inl, inr, ⊎_elim, div-lt_iff_lt-mul, arith, length-set, get_or-set_other, get_or-set_same, lt-length-set, ltb-true, le-ltb, lt-ltb, eqb-true}
 use borrow.Author.Tests.{eqb-false}
 use Rattle.pass.specs.Row.{combined, merged_row, part_size, row_at}
 use Rattle.entries.specs.Entry.{merged_count}

@@ -1,16 +1,15 @@
 -- Lanes by the split of the columns: what the functions that read and clear them leave, and when a count does not fit. Assumes nothing.
-use Rattle.std.proofs.Common.{◌≡◌, ℕ, ◌+◌, ◌-◌, ◌*◌, ◌/◌, ◌%◌, ◌^◌, ◌<◌, ◌≤◌, Bool, true, false, cond, ◌||◌, eqb, ltb, leb, ◌≢◌, List, length, get_or, set, sym, refl, ap, ◌∙◌, le_of_lt, mod-lt, div-lt_iff_lt-mul, mul-le-mul, pos_of_ne-zero, arith, pow_pos, pow_mono, ltb-false, ltb-true, eq-eqb, ne_eqb, le-leb}
+use Rattle.std.proofs.Common.{◌≡◌, ℕ, ◌+◌, ◌-◌, ◌*◌, ◌/◌, ◌%◌, ◌^◌, ◌<◌, ◌≤◌, Bool, true, false, eqb, ltb, leb, ◌≢◌, List, get_or, set, sym, refl, ap, ◌∙◌, le_of_lt, mod-lt, div-lt_iff_lt-mul, mul-le-mul, pos_of_ne-zero, arith, pow_pos, pow_mono, ltb-false, ltb-true, eq-eqb, ne_eqb, le-leb}
 use borrow.Author.Tests.{lt-leb}
 use lib.Pow.{pow-lt}
 use Rattle.entries.specs.Entry.{merged_count}
 use Rattle.lanes.specs.Lane.{without_lane, ones, lanes_of, width_of}
 use Rattle.lanes.proofs.LaneLaws.{lanes_fill, lane_asked}
-use Rattle.pass.specs.declared.Ended.{Ended}
 use Rattle.pass.specs.declared.Ended.TheVariants as ended
 use Rattle.pass.specs.declared.Columns.{Columns}
 use Rattle.pass.specs.Row.{row_at}
 use Rattle.pass.specs.Column.{column_of, lanes_by}
-use Rattle.pass.specs.Sweep.{cleared_column, masked, too_large, too_wide, begun_area}
+use Rattle.pass.specs.Sweep.{cleared_column, masked, too_wide, begun_area}
 use Rattle.pass.specs.PassedColumns.{stopped_end}
 use Rattle.pass.proofs.PlaceLaws.{masked_none, masked_own}
 use Rattle.pass.proofs.MaskLaws.{Filled}

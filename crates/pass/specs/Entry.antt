@@ -1,6 +1,6 @@
 -- Entries in the work area: an entry has its hops at a place and its count n places later. Definitions only.
 -- Assumes nothing.
-use Rattle.std.specs.Prelude.{ℕ, ◌+◌, ◌*◌, ◌<◌, ◌≤◌, min, Bool, false, cond, List, length, nat_lt, slice_index, slice_set}
+use Rattle.std.specs.Prelude.{ℕ, ◌+◌, ◌<◌, ◌≤◌, min, Bool, false, cond, List, length, nat_lt, slice_index, slice_set}
 use Rattle.entries.specs.Entry.{merged_count, overflows}
 use Rattle.pass.specs.Row.{combined, merged_row}
 

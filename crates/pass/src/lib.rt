@@ -2,6 +2,7 @@
 // shortest walks do not have it inside; or how many shortest walks of a pair have no member of a set of stations inside. Everything
 // lives in a lent work area: what may be sent on, and behind it what is heard and waits, in a part for each slot of the turnaround.
 #![tactic(auto)]
+
 ghost use Rattle.std.specs.Prelude.{◌≡◌, ◌+◌, ◌-◌, ◌*◌, ◌/◌, ◌^◌, ◌<◌, ◌≤◌, min, false, not, ◌&&◌, length, ◌==◌, slice_index};
 ghost use Rattle.temporal.specs.Lists.{any, below};
 ghost use Rattle.temporal.specs.Plan.{units};

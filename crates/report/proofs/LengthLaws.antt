@@ -2,15 +2,14 @@
 use Prim.Native.Nat.{ℕ, zero, suc, ◌+◌, ◌-◌, ◌*◌, ◌^◌, ◌<◌, ◌≤◌}
 use native.Mathlib.Omega.{arith}
 use native.Mathlib.Decide.{dec_le}
-use native.Mathlib.Nat.{mul-le-mul_right}
-use mathlib.Core.Path.{◌≡◌, refl, sym, ap, ◌∙◌}
+use mathlib.Core.Path.{◌≡◌, refl}
 use mathlib.Core.Bool.{Bool, true, false, not, ◌&&◌, cond}
-use mathlib.Core.List.{List, [], ◌∷◌, ◌++◌, map, flat_map, Memᴰ}
+use mathlib.Core.List.{List, flat_map}
 use mathlib.Core.Logic.{by_cases}
 use lib.Dec.{eqb, ltb, lit<}
 use lib.ListN.{length, length-append}
 use borrow.Author.Tests.{ltb-false}
-use Rattle.temporal.specs.Lists.{from, below, select, any, sum}
+use Rattle.temporal.specs.Lists.{from, below, select, any}
 use Rattle.temporal.specs.Plan.{Plan}
 use Rattle.temporal.specs.Load.{Ends, ends_below, through_of, is_pair_of, pairs_below, partial_pairs, pairs, load}
 use Rattle.lists.proofs.ListLaws.{length_select, mem_below, any_false}

@@ -1,9 +1,9 @@
 -- What the load program prints, from what loads answers. Assumes nothing.
-use Prim.Native.Nat.{ℕ, zero, suc, ◌+◌, ◌*◌, ◌/◌, ◌%◌, ◌<◌, ◌≤◌}
+use Prim.Native.Nat.{ℕ, zero, suc, ◌+◌, ◌/◌, ◌%◌, ◌<◌, ◌≤◌}
 use native.Mathlib.Omega.{arith}
 use native.Mathlib.Nat.{zero-add, mul-le-mul}
-use mathlib.Core.Path.{◌≡◌, refl, sym, ap, ap₂, subst, ◌∙◌}
-use mathlib.Core.Bool.{Bool, true, false, not, cond, ◌||◌}
+use mathlib.Core.Path.{◌≡◌, refl, sym, ap, ap₂, ◌∙◌}
+use mathlib.Core.Bool.{Bool, true, false, not}
 use mathlib.Core.List.{List, [], ◌∷◌, ◌++◌, map, flat_map}
 use lib.Dec.{eqb, ltb}
 use lib.ListN.{length, get_or, drop, length-append}
@@ -12,7 +12,7 @@ use Rattle.temporal.specs.Lists.{from, below}
 use Rattle.temporal.specs.Plan.{Plan, Terms}
 use Rattle.temporal.specs.Load.{pairs, load}
 use Rattle.temporal.specs.Bytes.{plan_of, records}
-use Rattle.temporal.specs.Cause.{cause, first, unless, plan_causes, plan_fault, terms_causes, too_many_anywhere}
+use Rattle.temporal.specs.Cause.{cause, first, plan_causes, plan_fault, terms_causes, too_many_anywhere}
 use Rattle.temporal.specs.Outcome.{Outcome, over, work_size}
 use Rattle.temporal.specs.OutcomePair.{LoadBuffers, partly_loaded, partial_loads, loads}
 use Rattle.lists.proofs.BufferLaws.{written, length_made}
@@ -29,9 +29,8 @@ use Rattle.temporal.proofs.CauseLaws.{
 }
 use Rattle.walks.proofs.EnteredLaws.{unless_some, unless_none, entered_plan, entered_call, entered_some}
 use Rattle.walks.proofs.PlanLaws.{contacts_length}
-use Rattle.plan.specs.Fault.{plan_number, call_number, fault_number}
+use Rattle.plan.specs.Fault.{fault_number}
 use Rattle.plan.specs.declared.Fault.{Fault}
-use Rattle.plan.specs.declared.Fault.TheVariants as fault
 use Rattle.plan.proofs.Answers.{fault-number-within}
 use Rattle.loads.specs.Answer.{load_buffers, loads_number, loads_outcome}
 use Rattle.loads.specs.declared.LoadsAnswer.{LoadsAnswer}
@@ -40,22 +39,10 @@ use Rattle.loads.proofs.LoadLaws.{loads_works}
 use Rattle.text.specs.Written as text
 use Rattle.text.proofs.PieceLaws.{pieces_all}
 use Rattle.text.specs.Decimal.{decimal}
-use Rattle.text.proofs.DecimalLaws.{decimal_short, decimal_most}
+use Rattle.text.proofs.DecimalLaws.{decimal_most}
 use Rattle.report.specs.Sizes.{input_stations, input_slots, wrong_input, over_limits}
 use Rattle.text.specs.Field.{ascii, line_feed, field}
-use Rattle.report.specs.Report.{
-  heading,
-  line,
-  loads_text,
-  refusal_text,
-  input_causes,
-  input_plan,
-  refusal_of,
-  printed,
-  lent_after,
-  Texted,
-  Reported,
-}
+use Rattle.report.specs.Report.{heading, line, loads_text, refusal_text, input_causes, refusal_of, printed, lent_after, Texted, Reported}
 use Rattle.report.specs.Work.{lines_of, table_of, Printable, Within}
 use Rattle.report.proofs.LengthLaws.{text_length}
 

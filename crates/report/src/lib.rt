@@ -1,5 +1,6 @@
 // What the load programs print, as one function from the input to the whole text, over operation 5, loads.
 #![tactic(auto)]
+
 ghost use Rattle.std.specs.Prelude.{◌≡◌, ◌+◌, ◌*◌, ◌<◌, ◌≤◌, max, length};
 ghost use Rattle.text.specs.Written.{Put};
 ghost use Rattle.temporal.specs.Plan.{turning};

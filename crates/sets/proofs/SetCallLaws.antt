@@ -2,7 +2,6 @@
 use Prim.Native.Nat.{ℕ, ◌+◌, ◌-◌, ◌*◌, ◌<◌, ◌≤◌}
 use native.Mathlib.Omega.{arith}
 use native.Mathlib.Decide.{ℕ_discrete}
-use native.Mathlib.Nat.{mul-le-mul_left}
 use mathlib.Core.Path.{◌≡◌, refl, sym, ap, ap₂, subst, ◌∙◌}
 use mathlib.Core.Bool.{Bool, true, false}
 use mathlib.Core.List.{List, [], ◌∷◌}
@@ -11,7 +10,7 @@ use borrow.Author.Tests.{lt-ltb, le-ltb, eq-eqb, ne_eqb}
 use lib.Dec.{ltb}
 use lib.ListN.{length, get_or, replicate}
 use Rattle.temporal.specs.Plan.{Terms, Allowed}
-use Rattle.temporal.specs.Lists.{any, from, below}
+use Rattle.temporal.specs.Lists.{any, from}
 use Rattle.temporal.specs.Shortest.{shortest_walks_to, hops}
 use Rattle.temporal.specs.Set.{touched}
 use Rattle.temporal.specs.Bytes.{plan_of}

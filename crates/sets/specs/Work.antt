@@ -1,6 +1,6 @@
 -- What the operation asks once 12, 14, 6 to 8, and 11, are excluded, and what is read off the pass. Definitions only.
 -- Assumes nothing.
-use Rattle.std.specs.Prelude.{ℕ, ◌+◌, ◌-◌, ◌*◌, ◌<◌, ◌≤◌, ◌≡◌, false, cond, List, ◌≢◌, eqb, length, get_or}
+use Rattle.std.specs.Prelude.{ℕ, ◌+◌, ◌-◌, ◌*◌, ◌<◌, ◌≤◌, ◌≡◌, cond, List, ◌≢◌, eqb, length, get_or}
 use Rattle.temporal.specs.Plan.{Terms, Allowed}
 use Rattle.temporal.specs.Cause.{plan_fault}
 use Rattle.temporal.specs.Outcome.{work_size}

@@ -1,6 +1,7 @@
 // Document 02's operation on a pair and a set of stations (C-12), over the pass: how many shortest walks of the pair have at
 // least one member of the set inside.
 #![tactic(auto)]
+
 ghost use Rattle.std.specs.Prelude.{◌≡◌, ◌≤◌, length};
 ghost use Rattle.temporal.specs.Plan.{units};
 ghost use Rattle.temporal.specs.Bytes.{plan_of};

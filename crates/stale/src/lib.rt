@@ -3,6 +3,7 @@
 // station's cell before it; what a station may send on in a slot is gathered along these links, from the cells of the slots that a contact
 // may follow. Everything lives in a lent work area.
 #![tactic(auto)]
+
 ghost use Rattle.std.specs.Prelude.{◌≡◌, ◌+◌, ◌-◌, ◌*◌, ◌^◌, ◌<◌, ◌≤◌, min, length};
 ghost use Rattle.temporal.specs.Plan.{units};
 ghost use Rattle.temporal.specs.Bytes.{contact_at};

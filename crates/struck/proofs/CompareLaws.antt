@@ -1,22 +1,19 @@
 -- Hops and counts of the plan with the record and of the plan without it, from one source: the destinations at which they differ are those
 -- that use the contact. Assumes nothing.
-use Prim.Native.Nat.{ℕ, zero, suc, ◌+◌, ◌-◌, ◌*◌, ◌<◌, ◌≤◌}
+use Prim.Native.Nat.{ℕ, suc, ◌+◌, ◌-◌, ◌*◌, ◌<◌, ◌≤◌}
 use native.Mathlib.Omega.{arith}
-use native.Mathlib.Decide.{ℕ_discrete}
-use native.Mathlib.Numerals.{add-one}
-use mathlib.Core.Path.{◌≡◌, refl, sym, ap, subst, ◌∙◌}
+use mathlib.Core.Path.{◌≡◌, refl, sym, ap, ◌∙◌}
 use mathlib.Core.Bool.{Bool, true, false, not, cond, ◌&&◌}
-use mathlib.Core.List.{List, map}
-use mathlib.Core.Logic.{◌≢◌, ◌⊎◌, inl, inr, by_cases}
+use mathlib.Core.List.{List}
+use mathlib.Core.Logic.{◌≢◌, inr}
 use borrow.Author.Tests.{eq-eqb, ne_eqb}
 use lib.Dec.{eqb}
 use lib.ListN.{length, get_or, drop}
 use Rattle.temporal.specs.Lists.{from, below, sum}
 use Rattle.temporal.specs.Plan.{Terms}
 use Rattle.temporal.specs.Bytes.{plan_of}
-use Rattle.temporal.specs.Cause.{plan_fault, is_too_many}
 use Rattle.temporal.specs.Shortest.{shortest_walks_to, hops, count}
-use Rattle.temporal.specs.Struck.{struck_out, lacking_record, uses, is_user}
+use Rattle.temporal.specs.Struck.{struck_out, uses, is_user}
 use Rattle.walks.proofs.Accepted.{accepted}
 use Rattle.lists.proofs.BufferLaws.{later_drop}
 use Rattle.walks.proofs.LackingLaws.{lacking_plan}
@@ -25,10 +22,9 @@ use Rattle.walks.proofs.StruckLaws.{uses_differs}
 use Rattle.pass.specs.Row.{combined, second, RowsFit}
 use Rattle.pass.proofs.RowLaws.{combined_length, combined_other, combined_at}
 use Rattle.pass.proofs.PassLaws.{drop_same}
-use Rattle.forward.specs.Passed.{pass_size, PassReady, Counted, Passed}
+use Rattle.forward.specs.Passed.{pass_size, PassReady, Passed}
 use Rattle.tallies.specs.Progress.{ends}
 use Rattle.tallies.proofs.BlockLaws.{later_same}
-use Rattle.struck.specs.declared.Used.{Used}
 use Rattle.struck.specs.declared.Used.TheVariants as used
 use Rattle.struck.specs.Work.{differs_at, differing_at, differing, Comparable, users_from, CompareReady, ComparedAs, Compared}
 

@@ -1,23 +1,23 @@
 -- One source tallied in both plans, the tallies of each kept behind those that are worked on; and the loop over sources. Assumes nothing.
-use Prim.Native.Nat.{ℕ, suc, ◌+◌, ◌-◌, ◌*◌, ◌<◌, ◌≤◌}
+use Prim.Native.Nat.{ℕ, ◌+◌, ◌-◌, ◌*◌, ◌<◌, ◌≤◌}
 use native.Mathlib.Omega.{arith}
-use native.Mathlib.Decide.{ℕ_discrete, dec_lt}
+use native.Mathlib.Decide.{ℕ_discrete}
 use native.Mathlib.Numerals.{add-one}
 use native.Mathlib.Nat.{mul-le-mul, mul-le-mul_right, mul-add, mul_comm}
 use mathlib.Core.Path.{◌≡◌, refl, sym, ap, ap₂, subst, ◌∙◌}
 use mathlib.Core.Bool.{Bool, true, false, not, cond, ◌&&◌, ◌||◌}
 use mathlib.Core.List.{List, map}
-use mathlib.Core.Logic.{◌≢◌, ◌⊎◌, inl, inr, ⊎_elim, by_cases}
+use mathlib.Core.Logic.{◌⊎◌, inl, inr, ⊎_elim, by_cases}
 use borrow.Author.Tests.{eq-eqb, ne_eqb}
 use lib.Dec.{eqb}
 use lib.ListN.{length, get_or, drop}
 use Rattle.temporal.specs.Lists.{from, below, sum}
 use Rattle.temporal.specs.Plan.{Plan, Terms}
 use Rattle.temporal.specs.Bytes.{plan_of}
-use Rattle.temporal.specs.Cause.{plan_fault, is_too_many, too_many_below, too_many_anywhere}
+use Rattle.temporal.specs.Cause.{is_too_many, too_many_below, too_many_anywhere}
 use Rattle.temporal.specs.Shortest.{shortest_walks_to, hops, count}
 use Rattle.temporal.specs.Load.{load}
-use Rattle.temporal.specs.Struck.{struck_out, lacking_record, uses, is_user, pairs_using}
+use Rattle.temporal.specs.Struck.{struck_out, lacking_record, uses, is_user}
 use Rattle.temporal.specs.OutcomeStruck.{either_too_many}
 use Rattle.walks.proofs.Accepted.{accepted}
 use Rattle.lists.proofs.BufferLaws.{later_drop}
@@ -27,16 +27,16 @@ use Rattle.walks.proofs.StruckLaws.{uses_differs}
 use Rattle.counting.proofs.SumLaws.{sum_below_suc}
 use Rattle.memory.specs.Fill.{filled}
 use Rattle.memory.proofs.FillLaws.{filled_length, filled_at, filled_beyond}
-use Rattle.pass.specs.Row.{combined, second, RowsFit, part_size}
+use Rattle.pass.specs.Row.{combined, second, RowsFit}
 use Rattle.pass.proofs.RowLaws.{combined_length, combined_other, combined_at}
 use Rattle.pass.proofs.PassLaws.{drop_same}
 use Rattle.pass.specs.PassedColumns.{waiting}
 use Rattle.stale.proofs.LackingDepth.{deep_lacking}
 use Rattle.forward.specs.declared.Splits.{Splits}
-use Rattle.forward.specs.Passed.{pass_size, Counted, Knows, RefillReady}
+use Rattle.forward.specs.Passed.{pass_size, Knows, RefillReady}
 use Rattle.forward.proofs.SizeLaws.{kept_or_not, size_kept, size_window}
 use Rattle.forward.proofs.WidthLaws.{one_fits}
-use Rattle.tallies.specs.Progress.{ends, pair_term, load_term, TallyEntry, Kept, Room}
+use Rattle.tallies.specs.Progress.{ends, pair_term, load_term, TallyEntry}
 use Rattle.tallies.specs.Sources.{SourceReady, SourceDone}
 use Rattle.tallies.proofs.BlockLaws.{later_same, entry_later}
 use Rattle.tallies.proofs.TermLaws.{partly_none, load_partly}

@@ -1,26 +1,26 @@
 -- One source without the record and compared, and the loop over sources. Assumes nothing.
-use Prim.Native.Nat.{ℕ, suc, ◌+◌, ◌-◌, ◌*◌, ◌<◌, ◌≤◌}
+use Prim.Native.Nat.{ℕ, ◌+◌, ◌-◌, ◌*◌, ◌<◌, ◌≤◌}
 use native.Mathlib.Omega.{arith}
 use native.Mathlib.Decide.{ℕ_discrete}
 use native.Mathlib.Numerals.{add-one}
 use native.Mathlib.Nat.{mul-le-mul, mul-le-mul_left, mul-le-mul_right, mul-add}
-use mathlib.Core.Path.{◌≡◌, refl, sym, ap, ap₂, subst, ◌∙◌}
+use mathlib.Core.Path.{◌≡◌, refl, sym, ap, ap₂, ◌∙◌}
 use mathlib.Core.Bool.{Bool, true, false, cond, ◌||◌}
 use mathlib.Core.List.{List, map}
-use mathlib.Core.Logic.{◌≢◌, ◌⊎◌, ⊎_elim, by_cases}
-use lib.ListN.{length, get_or, drop}
+use mathlib.Core.Logic.{⊎_elim, by_cases}
+use lib.ListN.{length, drop}
 use Rattle.temporal.specs.Lists.{from, below, sum}
 use Rattle.temporal.specs.Plan.{Plan, Terms, units}
 use Rattle.temporal.specs.Bytes.{plan_of}
-use Rattle.temporal.specs.Cause.{plan_fault, is_too_many, too_many_below, too_many_anywhere}
-use Rattle.temporal.specs.Load.{Ends, ends_below, load}
+use Rattle.temporal.specs.Cause.{is_too_many, too_many_below, too_many_anywhere}
+use Rattle.temporal.specs.Load.{ends_below, load}
 use Rattle.temporal.specs.Outcome.{work_size}
 use Rattle.temporal.specs.Struck.{struck_out, lacking_record, is_user, pairs_using}
 use Rattle.temporal.specs.OutcomeStruck.{either_too_many}
 use Rattle.walks.proofs.Accepted.{accepted}
 use Rattle.lists.proofs.BufferLaws.{later_drop}
 use Rattle.walks.proofs.LackingLaws.{lacking_accepted, lacking_plan}
-use Rattle.lists.proofs.ListLaws.{any_true, any_false, mem_below, length_below, length_select, sum_ext}
+use Rattle.lists.proofs.ListLaws.{any_true, any_false, mem_below, length_below, length_select}
 use Rattle.counting.proofs.ExactSum.{sum_at_most}
 use Rattle.counting.proofs.PartialLaws.{over_destinations, sum_ends}
 use Rattle.counting.proofs.SumLaws.{sum_below_suc}
@@ -28,14 +28,13 @@ use Rattle.memory.specs.Fill.{filled}
 use Rattle.memory.proofs.FillLaws.{filled_length, filled_beyond}
 use Rattle.pass.specs.PassedColumns.{waiting}
 use Rattle.stale.specs.Depth.{DepthOf}
-use Rattle.stale.specs.Size.{window_size}
 use Rattle.stale.proofs.LackingDepth.{deep_lacking}
 use Rattle.forward.specs.declared.Splits.{Splits}
 use Rattle.forward.specs.Passed.{pass_size, most_columns, Lent, DepthReady, Knows, RefillReady}
 use Rattle.forward.proofs.SizeLaws.{kept_or_not, size_kept, size_window, size_less}
-use Rattle.tallies.specs.Tally.{block_of, tally_base, Tallyable, Tallied}
+use Rattle.tallies.specs.Tally.{block_of, tally_base, Tallyable}
 use Rattle.tallies.specs.Progress.{ends, TallyEntry, Kept}
-use Rattle.tallies.specs.Sources.{SourceReady, SourceDone}
+use Rattle.tallies.specs.Sources.{SourceDone}
 use Rattle.tallies.specs.Sources.{AllReady as TalliesReady}
 use Rattle.tallies.proofs.BlockLaws.{later_same}
 use Rattle.tallies.proofs.Sizes.{base_fits}
@@ -44,7 +43,7 @@ use Rattle.tallies.proofs.SourceLaws.{Summing, summing_none, summing_ready, summ
 use Rattle.struck.specs.declared.Used.{Used}
 use Rattle.struck.specs.declared.Used.TheVariants as used
 use Rattle.struck.specs.Work.{users_from, CompareReady, ComparedAs, Compared, OneReady, StruckAs, OneStruck, AllAsked, AllReady}
-use Rattle.struck.specs.Work.{AllAs, AllStruck, Comparable}
+use Rattle.struck.specs.Work.{AllAs, AllStruck}
 
 -- a second Boolean that holds
 pub or_second : (b : Bool) → (b || true) ≡ true

@@ -1,21 +1,20 @@
 -- The operation on a contact that is struck out, from what the tallies and the comparison leave. Assumes nothing.
 use Prim.Native.Nat.{ℕ, ◌+◌, ◌-◌, ◌*◌, ◌^◌, ◌<◌, ◌≤◌}
 use native.Mathlib.Omega.{arith}
-use native.Mathlib.Decide.{dec_le}
 use native.Mathlib.Nat.{mul-le-mul_left, mul-le-mul_right}
-use mathlib.Core.Path.{◌≡◌, refl, sym, ap, ap₂, subst, ◌∙◌}
-use mathlib.Core.Bool.{Bool, true, false, cond, ◌||◌}
-use mathlib.Core.List.{List, [], ◌∷◌, ◌++◌, map}
-use mathlib.Core.Logic.{◌≢◌, by_cases}
+use mathlib.Core.Path.{◌≡◌, refl, sym, ap, ap₂, ◌∙◌}
+use mathlib.Core.Bool.{Bool, true, false, ◌||◌}
+use mathlib.Core.List.{List, [], map}
+use mathlib.Core.Logic.{◌≢◌}
 use lib.IntN.{ℤ, pos, ◌-ℤ◌}
 use lib.ListN.{length, get_or, drop, replicate}
 use Rattle.temporal.specs.Lists.{below}
 use Rattle.temporal.specs.Plan.{Terms, units}
 use Rattle.temporal.specs.Bytes.{plan_of}
-use Rattle.temporal.specs.Cause.{plan_fault, is_too_many, too_many_anywhere}
+use Rattle.temporal.specs.Cause.{plan_fault}
 use Rattle.temporal.specs.Load.{load}
 use Rattle.temporal.specs.Outcome.{Outcome, over, cleared, work_size}
-use Rattle.temporal.specs.Struck.{struck_out, pairs_using, change}
+use Rattle.temporal.specs.Struck.{struck_out, change}
 use Rattle.temporal.specs.OutcomeStruck.{StruckBuffers, either_too_many, struck_off, struck}
 use Rattle.walks.proofs.Accepted.{accepted}
 use Rattle.lists.proofs.BufferLaws.{fill_beyond}
@@ -23,14 +22,13 @@ use Rattle.changes.specs.Changes.{Writable, Subtractable, with_loads, with_diffe
 use Rattle.changes.proofs.WrittenLaws.{over_over, written_subtractable, written_differences}
 use Rattle.tallies.specs.Tally.{tally_base, Tallyable, Tallied}
 use Rattle.tallies.proofs.Sizes.{base_fits}
-use Rattle.struck.specs.declared.Used.{Used}
 use Rattle.struck.specs.declared.Used.TheVariants as used
 use Rattle.struck.specs.Answer.{struck_buffers}
 use Rattle.struck.specs.Work.{AllAsked, AllAs, AllStruck, StruckReady, ClearReady, too_many_struck, with_at, without_at}
-use Rattle.struck.specs.Work.{RoomReady, RoomAs, RoomStruck, RoomAsked, RoomFor, RoomyReady}
+use Rattle.struck.specs.Work.{RoomAs, RoomStruck, RoomAsked, RoomFor, RoomyReady}
 use Rattle.struck.proofs.StrikeLaws.{strike_depth, strike_lent}
 use Rattle.stale.specs.Depth.{DepthOf}
-use Rattle.forward.specs.Passed.{pass_size, most_columns, Lent, DepthReady}
+use Rattle.forward.specs.Passed.{most_columns, Lent, DepthReady}
 use Rattle.forward.proofs.SizeLaws.{first_part}
 use Rattle.tallies.proofs.Sizes.{block_fits}
 use Rattle.tallies.specs.Tally.{block_of}
@@ -38,7 +36,6 @@ use Rattle.lists.proofs.BufferLaws.{later_drop}
 use Rattle.temporal.specs.Cause.{first, terms_causes}
 use Rattle.temporal.specs.Bytes.{records}
 use Rattle.temporal.specs.Outcome.{short}
-use Rattle.temporal.specs.OutcomeStruck.{wrong_position}
 use Rattle.lists.proofs.ListLaws.{mem_below, map_ext, length_below}
 use Rattle.walks.proofs.EnteredLaws.{
   refused_with,

@@ -2,6 +2,7 @@
 // pairs have a shortest walk that uses the contact. The loads with the record are written to the table of changes first; then, source by
 // source, the plan without it is tallied, and its hops and counts are compared with those of the plan with it.
 #![tactic(auto)]
+
 ghost use Rattle.std.specs.Prelude.{◌≡◌, ◌<◌, ◌≤◌};
 ghost use Rattle.temporal.specs.Plan.{units};
 ghost use Rattle.temporal.specs.Bytes.{plan_of};

@@ -16,7 +16,6 @@ use lib.Seq.{get_or-drop}
 use Rattle.temporal.specs.Plan.{Plan, Terms}
 use Rattle.temporal.specs.Bytes.{plan_of}
 use Rattle.temporal.specs.Cause.{is_too_many}
-use Rattle.walks.proofs.Accepted.{accepted}
 use Rattle.lists.proofs.BufferLaws.{later_drop}
 use Rattle.pass.specs.Column.{lanes_by, columns_in}
 use Rattle.forward.specs.declared.Packed.{Packed}

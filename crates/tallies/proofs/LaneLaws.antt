@@ -6,20 +6,18 @@ use mathlib.Core.Path.{◌≡◌, refl, sym, ap, ◌∙◌}
 use mathlib.Core.Bool.{Bool, true, false, cond}
 use mathlib.Core.List.{List}
 use mathlib.Core.Logic.{◌⊎◌, ⊎_elim, ◌≢◌}
-use native.Mathlib.Decide.{ℕ_discrete}
-use mathlib.Core.Logic.{by_cases}
 use borrow.Author.Tests.{eq-eqb, ne_eqb, eqb-true, eqb-false}
 use lib.Arith.{digits_lt}
 use lib.Dec.{eqb}
 use lib.ListN.{length, get_or}
 use lib.Pow.{pow_pos, pow-lt, pow_mono}
 use Rattle.lists.proofs.ListLaws.{not_both}
-use Rattle.lanes.specs.Lane.{lane, packed, ones, lanes_of, width_of, Within}
+use Rattle.lanes.specs.Lane.{lane, packed, ones, lanes_of, width_of}
 use Rattle.lanes.proofs.LaneLaws.{packed_same, packed_below, lane_packed, lanes_fill, ones_1}
 use Rattle.pass.specs.Row.{part_size}
-use Rattle.pass.specs.Column.{lanes_by, columns_in, column_at}
+use Rattle.pass.specs.Column.{lanes_by, column_at}
 use Rattle.pass.proofs.WidthLaws.{column_entry}
-use Rattle.tallies.specs.Progress.{Rows, ColumnWithin, Addable, CountFits, EntryWorkable}
+use Rattle.tallies.specs.Progress.{Rows, ColumnWithin, Addable, EntryWorkable}
 use Rattle.tallies.specs.Sources.{EntriesFor, EntriesNext}
 
 -- several lanes, where the split is not 0

@@ -1,7 +1,7 @@
 -- What the functions of the tallies ask and promise that work on a block of stations, a source, and the sources below k.
 -- Definitions only.
 -- Assumes nothing.
-use Rattle.std.specs.Prelude.{ℕ, ◌+◌, ◌*◌, ◌^◌, ◌<◌, ◌≤◌, min, ◌≡◌, Bool, true, false, List, ◌≢◌}
+use Rattle.std.specs.Prelude.{ℕ, ◌+◌, ◌<◌, ◌≤◌, ◌≡◌, Bool, true, false, List, ◌≢◌}
 use Rattle.temporal.specs.Plan.{Terms, Allowed}
 use Rattle.temporal.specs.Bytes.{plan_of}
 use Rattle.temporal.specs.Cause.{plan_fault, is_too_many}

@@ -1,6 +1,7 @@
 // Adds up, over the sources below k, every station's pairs and load. Everything lives in a lent work area: the pass's part at its
 // beginning, the pairs of the stations and then their loads at its end.
 #![tactic(auto)]
+
 ghost use Rattle.std.specs.Prelude.{◌≡◌, true, false, ◌+◌, ◌*◌, ◌^◌, ◌<◌, ◌≤◌, min, length, get_or};
 ghost use Rattle.temporal.specs.Plan.{units};
 ghost use Rattle.temporal.specs.Bytes.{plan_of};

@@ -1,5 +1,5 @@
 -- Keys: which of two is taken, and bounds. Assumes nothing.
-use Rattle.std.proofs.Common.{◌≡◌, ℕ, ◌+◌, ◌-◌, ◌*◌, ◌/◌, ◌%◌, ◌^◌, ◌<◌, ◌≤◌, ◌≢◌, sym, ap, ◌∙◌, mod-eq_of_lt, arith, eq-eqb, ne_eqb}
+use Rattle.std.proofs.Common.{◌≡◌, ℕ, ◌+◌, ◌*◌, ◌/◌, ◌%◌, ◌^◌, ◌<◌, ◌≤◌, ◌≢◌, sym, ap, ◌∙◌, mod-eq_of_lt, arith, eq-eqb, ne_eqb}
 use lib.Arith.{digits_div, digits_mod}
 use lib.Bits.{or_add_and, and_le_l, and_comm}
 use Rattle.widths.specs.Key.{key_of, merged_key, sent_key, widened}

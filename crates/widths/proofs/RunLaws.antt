@@ -1,12 +1,11 @@
 -- The loop of the pass without rows: each column whose bound is small has the keys of the pass with empty rows for its source; at the end no
 -- count of that source is over 2^64 - 1. Assumes nothing.
-use Rattle.std.proofs.Common.{◌≡◌, ℕ, ◌+◌, ◌-◌, ◌*◌, ◌%◌, ◌<◌, ◌≤◌, true, false, ◌⊎◌, List, length, get_or, replicate, sym, refl, ap, ◌∙◌, subst, inr, ⊎_elim, mod-lt, mul-le-mul, arith, le-ltb, ne_eqb}
+use Rattle.std.proofs.Common.{◌≡◌, ℕ, ◌+◌, ◌-◌, ◌*◌, ◌%◌, ◌<◌, ◌≤◌, true, false, List, length, get_or, replicate, sym, refl, ap, ◌∙◌, subst, inr, ⊎_elim, mod-lt, mul-le-mul, arith, le-ltb, ne_eqb}
 use lib.ListN.{length-replicate}
 use Rattle.temporal.specs.Lists.{below, any}
 use Rattle.temporal.specs.Plan.{Terms}
 use Rattle.temporal.specs.Bytes.{contact_at, plan_of}
 use Rattle.temporal.specs.Cause.{plan_fault, appearance_too_many, station_too_many, is_too_many}
-use Rattle.temporal.specs.Shortest.{count}
 use Rattle.walks.proofs.Accepted.{accepted}
 use Rattle.lists.proofs.ListLaws.{any_false, mem_below}
 use Rattle.plan.specs.Record.{in_slot, SlotRecords}

@@ -2,6 +2,7 @@
 // counts on the way fits. A station has a row of keys, one for each source: hops and a count in one entry. What is settled comes first, then
 // what is heard and waits, in a part for each slot of the turnaround, then a row of bounds.
 #![tactic(auto)]
+
 ghost use Rattle.std.specs.Prelude.{◌≡◌, ◌+◌, ◌*◌, ◌%◌, ◌<◌, ◌≤◌, length};
 ghost use Rattle.temporal.specs.Plan.{units};
 ghost use Rattle.temporal.specs.Bytes.{contact_at};

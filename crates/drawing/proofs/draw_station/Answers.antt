@@ -6,7 +6,7 @@ use Rattle.drawing.proofs.RecordLaws.{drawn_numbers, drawn_bytes_law}
 use Rattle.drawing.proofs.draw_station.Goals as goal
 
 pub write_record-requires : goal.write_record-requires
-write_record-requires c = record { at_in_bounds = search rules; t = drawn_numbers _ _ _ _ c.drawn_of.ensures (search rules) (search rules) }
+write_record-requires c = record { at_in_bounds = search rules; no_nan = drawn_numbers _ _ _ _ c.drawn_of.ensures (search rules) (search rules) }
 
 pub returns : goal.returns
 returns c =

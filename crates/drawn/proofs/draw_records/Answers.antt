@@ -1,7 +1,6 @@
 -- `drawn::draw_records` meets its contract. The loop's invariant: the records before station v are written. The measure is the number of
 -- stations left.
 -- Assumes nothing.
-use Prim.Native.Nat.{◌-◌}
 use native.Mathlib.Omega.{arith}
 use Rattle.drawn.proofs.RecordsLaws.{written_none, written_next, written_all}
 use Rattle.drawn.proofs.draw_records.Goals as goal

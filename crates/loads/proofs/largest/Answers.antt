@@ -1,7 +1,6 @@
 -- `loads::largest` meets its contract. The loop's invariant: best is the place of the largest of the first u entries. The
 -- measure is the number of entries left.
 -- Assumes nothing.
-use Prim.Native.Nat.{◌-◌}
 use native.Mathlib.Omega.{arith}
 use Rattle.loads.proofs.LargestLaws.{best_first, best_next, best_all}
 use Rattle.loads.proofs.largest.Goals as goal

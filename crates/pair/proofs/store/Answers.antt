@@ -1,7 +1,6 @@
 -- `pair::store` meets its contract. The loop's invariant: the first j stations of the block are stored. The measure is the
 -- number of stations left.
 -- Assumes nothing.
-use Prim.Native.Nat.{◌-◌}
 use native.Mathlib.Omega.{arith}
 use Rattle.pair.proofs.ThroughLaws.{stored_none, stored_more, stored_all}
 use Rattle.pair.proofs.store.Goals as goal

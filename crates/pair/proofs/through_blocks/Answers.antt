@@ -1,7 +1,6 @@
 -- `pair::through_blocks` meets its contract. The loop's invariant: the stations below low are stored. The measure is the number
 -- of stations left, which falls since no block is empty.
 -- Assumes nothing.
-use Prim.Native.Nat.{◌-◌}
 use native.Mathlib.Omega.{arith}
 use mathlib.Core.Path.{◌∙◌}
 use Rattle.walks.proofs.Accepted.{accepted}

@@ -1,7 +1,7 @@
 -- `pass::any_overflows` meets its contract. The loop's invariant: the answer from v on is the whole answer. The measure is the
 -- number of stations left.
 -- Assumes nothing.
-use Rattle.std.proofs.Common.{◌-◌, sym, ◌∙◌, arith}
+use Rattle.std.proofs.Common.{sym, ◌∙◌, arith}
 use Rattle.entries.proofs.SearchLaws.{any_start, any_found, any_pass, any_end}
 use Rattle.pass.proofs.any_overflows.Goals as goal
 

@@ -1,7 +1,7 @@
 -- `pass::empty_parts` meets its contract. The loop's invariant: emptying the parts from the i-th on gives what emptying all gives. The
 -- measure is the number of parts left.
 -- Assumes nothing.
-use Rattle.std.proofs.Common.{◌-◌, arith}
+use Rattle.std.proofs.Common.{arith}
 use Rattle.pass.proofs.PlaceLaws.{emptying_none, emptying_room, emptying_more, emptying_all}
 use Rattle.pass.proofs.empty_parts.Goals as goal
 

@@ -2,7 +2,7 @@
 -- source by the slot q before, the records from i on are past that slot, and the station until is not reached by it (Passing). The
 -- measure is the number of slots and of records left.
 -- Assumes nothing.
-use Rattle.std.proofs.Common.{◌-◌, false, sym, refl, ◌∙◌, arith}
+use Rattle.std.proofs.Common.{false, sym, refl, ◌∙◌, arith}
 use Rattle.walks.proofs.Accepted.{accepted}
 use Rattle.plan.proofs.SlotLaws.{in_slot_inv}
 use Rattle.pass.proofs.PlaceLaws.{first_part}
@@ -61,24 +61,22 @@ pub overflow_sub-u : goal.overflow_sub-u
 overflow_sub-u c = omega arith
 
 pub settled_end-end-requires : goal.settled_end-end-requires
-settled_end-end-requires c =
-    (
-      passing_trail c.loop-u.invariant,
-      λ one. passing_end c.loop-u.invariant (sym c.kept_in_slot.ensures ∙ c.if-kept_in_slot.false) c.if-q-u.true one,
-    )
+settled_end-end-requires c = (
+  passing_trail c.loop-u.invariant,
+  λ one. passing_end c.loop-u.invariant (sym c.kept_in_slot.ensures ∙ c.if-kept_in_slot.false) c.if-q-u.true one,
+)
 
 pub settle_slot-requires : goal.settle_slot-requires
-settle_slot-requires c =
-    (
-      settle_part c.loop-u.invariant
-          (sym c.kept_in_slot.ensures ∙ c.if-kept_in_slot.false) _ c.part_at-base-in-loop-u.ensures
-          c.if-q-u.true c.loop-u-test.true,
-      settle_hearers c.loop-u.invariant
-          (sym c.kept_in_slot.ensures ∙ c.if-kept_in_slot.false) _ c.part_at-base-in-loop-u.ensures
-          c.if-q-u.true c.loop-u-test.true _ c.settled_end-end.ensures,
-      c.requires.1,
-      c.settled_end-end.ensures.from,
-    )
+settle_slot-requires c = (
+  settle_part c.loop-u.invariant
+      (sym c.kept_in_slot.ensures ∙ c.if-kept_in_slot.false) _ c.part_at-base-in-loop-u.ensures
+      c.if-q-u.true c.loop-u-test.true,
+  settle_hearers c.loop-u.invariant
+      (sym c.kept_in_slot.ensures ∙ c.if-kept_in_slot.false) _ c.part_at-base-in-loop-u.ensures
+      c.if-q-u.true c.loop-u-test.true _ c.settled_end-end.ensures,
+  c.requires.1,
+  c.settled_end-end.ensures.from,
+)
 
 pub shape_of-work-then-settle_slot : goal.shape_of-work-then-settle_slot
 shape_of-work-then-settle_slot c =

@@ -1,7 +1,7 @@
 -- `pass::settle_slot` meets its contract. The loop's invariant: settling the stations from number i on gives what settling all of them gives.
 -- The measure is the number of stations left.
 -- Assumes nothing.
-use Rattle.std.proofs.Common.{◌-◌, refl, ◌∙◌, arith}
+use Rattle.std.proofs.Common.{refl, ◌∙◌, arith}
 use Rattle.pass.proofs.PlaceLaws.{part_kept, settling_none, settling_more, settling_stops, settling_all}
 use Rattle.pass.proofs.PlaceLaws.{station_record, station_inside, slot_settled}
 use Rattle.pass.proofs.settle_slot.Goals as goal

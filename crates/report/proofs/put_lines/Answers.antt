@@ -1,7 +1,6 @@
 -- `report::put_lines` meets its contract. The loop's invariant: what is left has room, and written behind what stands it makes all
 -- lines. The measure is the number of stations left.
 -- Assumes nothing.
-use Prim.Native.Nat.{◌-◌}
 use native.Mathlib.Omega.{arith}
 use Rattle.text.proofs.GoingLaws.{going_begin}
 use Rattle.text.proofs.PieceLaws.{piece_room, piece_next, piece_all}

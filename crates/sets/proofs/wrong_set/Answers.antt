@@ -1,7 +1,6 @@
 -- `sets::wrong_set` meets its contract. The loop's invariant: the answer from here on is the whole answer. The measure is the
 -- number of bytes left.
 -- Assumes nothing.
-use Prim.Native.Nat.{◌-◌}
 use native.Mathlib.Omega.{arith}
 use mathlib.Core.Path.{sym}
 use Rattle.sets.proofs.SetCallLaws.{search_start, search_found, search_pass, search_end}

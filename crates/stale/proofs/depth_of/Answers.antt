@@ -1,7 +1,7 @@
 -- `stale::depth_of` meets its contract. The loop's invariant: the sum is that of the h slots before u, and the depth has room for them and
 -- for any h slots before. The measure is the number of slots left.
 -- Assumes nothing.
-use Rattle.std.proofs.Common.{◌-◌, refl, arith}
+use Rattle.std.proofs.Common.{refl, arith}
 use Rattle.walks.proofs.Accepted.{accepted}
 use Rattle.stale.proofs.DepthLaws.{at_inside, sliding_none, slide_fits, sliding_more, depth_found}
 use Rattle.stale.proofs.depth_of.Goals as goal

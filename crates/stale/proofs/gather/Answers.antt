@@ -10,13 +10,12 @@ pub loop-at-init : goal.loop-at-init
 loop-at-init c = gathering_none _ _ _ _ _ _ _ _ _ _
 
 pub follow-at-requires : goal.follow-at-requires
-follow-at-requires c =
-    (
-      area_same c.requires.0 c.loop-at.invariant.same,
-      omega (arith, c.requires.1, c.loop-at.invariant.same),
-      c.requires.2,
-      omega (arith, c.loop-at-test.true),
-    )
+follow-at-requires c = (
+  area_same c.requires.0 c.loop-at.invariant.same,
+  omega (arith, c.requires.1, c.loop-at.invariant.same),
+  c.requires.2,
+  omega (arith, c.loop-at-test.true),
+)
 
 pub loop-at-smaller : goal.loop-at-smaller
 loop-at-smaller c = c.follow-at.ensures.falls

@@ -9,14 +9,13 @@ returns-then-v-last c =
     next_same _ _ _ _ _ _ _ _ _ _ _ _ (ap (λ d. d.sender) c.kept_contact-c.ensures) c.requires.3 (omega arith)
 
 pub gather_window-requires : goal.gather_window-requires
-gather_window-requires c =
-    (
-      c.requires.0,
-      omega (arith, ap (λ d. d.sender) c.kept_contact-c.ensures, c.requires.3),
-      c.requires.1,
-      c.requires.4,
-      c.requires.5,
-    )
+gather_window-requires c = (
+  c.requires.0,
+  omega (arith, ap (λ d. d.sender) c.kept_contact-c.ensures, c.requires.3),
+  c.requires.1,
+  c.requires.4,
+  c.requires.5,
+)
 
 pub returns-then-gather_window : goal.returns-then-gather_window
 returns-then-gather_window c =

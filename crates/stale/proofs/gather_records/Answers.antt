@@ -1,7 +1,7 @@
 -- `stale::gather_records` meets its contract. The loop's invariant: gathering for the records from i on gives what gathering for all gives.
 -- The measure is the number of records left.
 -- Assumes nothing.
-use Rattle.std.proofs.Common.{◌-◌, ◌∙◌, arith}
+use Rattle.std.proofs.Common.{◌∙◌, arith}
 use Rattle.stale.proofs.RingPlaces.{area_same}
 use Rattle.stale.proofs.WindowSteps.{windows_none, windows_stop, windows_more, windows_all}
 use Rattle.stale.proofs.gather_records.Goals as goal
@@ -10,15 +10,14 @@ pub loop-i-init : goal.loop-i-init
 loop-i-init c = windows_none _ _ _ _ _ _ _ _ _ _ _ _
 
 pub gather_next-last-requires : goal.gather_next-last-requires
-gather_next-last-requires c =
-    (
-      area_same c.requires.0 c.loop-i.invariant.same,
-      c.requires.1,
-      c.requires.2.inside _ c.loop-i.invariant.from c.loop-i-test.true,
-      c.requires.2.sender_station _ c.loop-i.invariant.from c.loop-i-test.true,
-      c.requires.3,
-      c.requires.4,
-    )
+gather_next-last-requires c = (
+  area_same c.requires.0 c.loop-i.invariant.same,
+  c.requires.1,
+  c.requires.2.inside _ c.loop-i.invariant.from c.loop-i-test.true,
+  c.requires.2.sender_station _ c.loop-i.invariant.from c.loop-i-test.true,
+  c.requires.3,
+  c.requires.4,
+)
 
 pub shape_of-work-then-last-n : goal.shape_of-work-then-last-n
 shape_of-work-then-last-n c =

@@ -19,26 +19,24 @@ empty_entry-requires c =
     (c.requires.1, omega (arith, ring_fits c.requires.0 c.args.depth (omega arith), c.ring_at-base.ensures))
 
 pub gather-requires : goal.gather-requires
-gather-requires c =
-    (
-      area_same c.requires.0 c.empty_entry.auto.work,
-      omega (arith, ring_fits c.requires.0 c.args.depth (omega arith), c.ring_at-base.ensures, c.empty_entry.auto.work),
-      c.requires.1,
-    )
+gather-requires c = (
+  area_same c.requires.0 c.empty_entry.auto.work,
+  omega (arith, ring_fits c.requires.0 c.args.depth (omega arith), c.ring_at-base.ensures, c.empty_entry.auto.work),
+  c.requires.1,
+)
 
 pub mask_entry-requires : goal.mask_entry-requires
-mask_entry-requires c =
-    (
-      c.requires.1,
-      omega (
-        arith,
-        ring_fits c.requires.0 c.args.depth (omega arith),
-        c.ring_at-base.ensures,
-        c.gather.auto.work,
-        c.empty_entry.auto.work,
-      ),
-      c.requires.3,
-    )
+mask_entry-requires c = (
+  c.requires.1,
+  omega (
+    arith,
+    ring_fits c.requires.0 c.args.depth (omega arith),
+    c.ring_at-base.ensures,
+    c.gather.auto.work,
+    c.empty_entry.auto.work,
+  ),
+  c.requires.3,
+)
 
 pub returns : goal.returns
 returns c =

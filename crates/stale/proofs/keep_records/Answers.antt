@@ -1,7 +1,7 @@
 -- `stale::keep_records` meets its contract. The loop's invariant: keeping from record i on gives what keeping for all gives. The measure is
 -- the number of records left.
 -- Assumes nothing.
-use Rattle.std.proofs.Common.{◌-◌, ◌∙◌, arith}
+use Rattle.std.proofs.Common.{◌∙◌, arith}
 use Rattle.stale.proofs.RingPlaces.{area_same}
 use Rattle.stale.proofs.WindowSteps.{keeping_none, keeping_stop, keeping_more, keeping_all}
 use Rattle.stale.proofs.keep_records.Goals as goal

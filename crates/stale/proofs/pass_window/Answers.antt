@@ -1,8 +1,7 @@
 -- `stale::pass_window` meets its contract. The loop's invariant: before slot u, at position j, the work area holds the walks from the
 -- source by the slot before, and those that are kept (Windowing). The measure is the number of slots left.
 -- Assumes nothing.
-use Rattle.std.proofs.Common.{◌-◌, refl, ◌∙◌, arith}
-use Rattle.temporal.specs.Plan.{units}
+use Rattle.std.proofs.Common.{refl, ◌∙◌, arith}
 use Rattle.walks.proofs.Accepted.{accepted}
 use Rattle.pass.proofs.WidthLaws.{filled_by}
 use Rattle.stale.proofs.RingPlaces.{heard_fits}

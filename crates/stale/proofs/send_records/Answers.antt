@@ -1,7 +1,7 @@
 -- `stale::send_records` meets its contract. The loop's invariant: sending from record i on gives what sending for all gives. The measure
 -- is the number of records left.
 -- Assumes nothing.
-use Rattle.std.proofs.Common.{◌-◌, arith}
+use Rattle.std.proofs.Common.{arith}
 use Rattle.stale.proofs.WindowSteps.{sending_none, sending_more, sending_all, two_same}
 use Rattle.stale.proofs.send_records.Goals as goal
 

@@ -10,20 +10,18 @@ returns-then-gather_records c =
     slot_stop _ _ _ _ _ _ _ _ _ _ _ _ _ _ _ c.gather_records.ensures c.if-gather_records.true
 
 pub send_records-requires : goal.send_records-requires
-send_records-requires c =
-    (
-      rw (c.part_size-size.ensures, c.ring_at-base.ensures) (heard_windows (area_same c.requires.0 c.gather_records.auto.work)),
-      c.requires.2,
-    )
+send_records-requires c = (
+  rw (c.part_size-size.ensures, c.ring_at-base.ensures) (heard_windows (area_same c.requires.0 c.gather_records.auto.work)),
+  c.requires.2,
+)
 
 pub keep_records-requires : goal.keep_records-requires
-keep_records-requires c =
-    (
-      area_same c.requires.0 (c.send_records.auto.work ∙ c.gather_records.auto.work),
-      c.requires.2,
-      c.requires.3,
-      c.requires.4,
-    )
+keep_records-requires c = (
+  area_same c.requires.0 (c.send_records.auto.work ∙ c.gather_records.auto.work),
+  c.requires.2,
+  c.requires.3,
+  c.requires.4,
+)
 
 pub returns : goal.returns
 returns c =

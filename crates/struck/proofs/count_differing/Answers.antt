@@ -1,6 +1,5 @@
 -- `struck::count_differing` meets its contract.
 -- Assumes nothing.
-use Prim.Native.Nat.{◌-◌}
 use native.Mathlib.Omega.{arith}
 use Rattle.struck.proofs.CompareLaws.{counting_none, counting_few, counting_more, counting_all}
 use Rattle.struck.proofs.count_differing.Goals as goal

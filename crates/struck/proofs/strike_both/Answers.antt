@@ -11,11 +11,10 @@ pub returns-then-tally_parked : goal.returns-then-tally_parked
 returns-then-tally_parked c = both_over_with _ _ _ _ _ _ _ _ _ _ c.requires.0 _ (rw c.if-tally_parked.true at c.tally_parked.ensures)
 
 pub tally_parked-requires-2 : goal.tally_parked-requires-2
-tally_parked-requires-2 c =
-    (
-      both_without _ _ _ _ _ _ _ _ _ _ c.requires.0 _ (rw c.if-tally_parked.false at c.tally_parked.ensures) _ c.copy_row.ensures,
-      c.requires.1.without_record,
-    )
+tally_parked-requires-2 c = (
+  both_without _ _ _ _ _ _ _ _ _ _ c.requires.0 _ (rw c.if-tally_parked.false at c.tally_parked.ensures) _ c.copy_row.ensures,
+  c.requires.1.without_record,
+)
 
 pub returns-then-tally_parked-2 : goal.returns-then-tally_parked-2
 returns-then-tally_parked-2 c = both_over_without _ _ _ _ _ _ _ _ _ _ c.requires.0 _ (rw c.if-tally_parked.false at c.tally_parked.ensures) _ c.copy_row.ensures _ (rw c.if-tally_parked-2.true at c.tally_parked-2.ensures)

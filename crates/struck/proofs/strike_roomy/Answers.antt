@@ -1,7 +1,6 @@
 -- `struck::strike_roomy` meets its contract. The loop's invariant: the sources before the one worked on are done in both plans (Pairing), and
 -- what is known of the next ones in each holds (Knows). The measure is the number of sources left.
 -- Assumes nothing.
-use Prim.Native.Nat.{◌-◌}
 use mathlib.Core.Path.{◌∙◌}
 use native.Mathlib.Omega.{arith}
 use Rattle.walks.proofs.Accepted.{accepted}
@@ -23,12 +22,11 @@ pub fill_part-requires : goal.fill_part-requires
 fill_part-requires c = pairing_room _ 0 _ _ _ _ _ _ _ c.requires
 
 pub loop-source-init : goal.loop-source-init
-loop-source-init c =
-    (
-      pairing_none _ _ _ _ _ _ _ _ _ c.requires _ c.fill_part.ensures,
-      rw c.no_splits-whole.ensures (knows_none _ _ _ _ _ _ (omega arith)),
-      rw c.no_splits-lacking.ensures (knows_none _ _ _ _ _ _ (omega arith)),
-    )
+loop-source-init c = (
+  pairing_none _ _ _ _ _ _ _ _ _ c.requires _ c.fill_part.ensures,
+  rw c.no_splits-whole.ensures (knows_none _ _ _ _ _ _ (omega arith)),
+  rw c.no_splits-lacking.ensures (knows_none _ _ _ _ _ _ (omega arith)),
+)
 
 pub refilled-whole-requires : goal.refilled-whole-requires
 refilled-whole-requires c =

@@ -1,7 +1,6 @@
 -- `struck::strike_sources` meets its contract. The loop's invariant: the sources before the one worked on are done (Striking), and what is
 -- known of the next ones without the record holds (Knows). The measure is the number of sources left.
 -- Assumes nothing.
-use Prim.Native.Nat.{◌-◌}
 use mathlib.Core.Path.{◌∙◌}
 use native.Mathlib.Omega.{arith}
 use Rattle.walks.proofs.Accepted.{accepted}

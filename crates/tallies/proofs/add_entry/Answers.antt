@@ -1,7 +1,6 @@
 -- `tallies::add_entry` meets its contract. The loop's invariant: the stations of the entry before j are added (Running). The
 -- measure is the number of stations left.
 -- Assumes nothing.
-use Prim.Native.Nat.{◌-◌}
 use native.Mathlib.Omega.{arith}
 use Rattle.tallies.proofs.LaneLaws.{entry_small, fewer_left}
 use Rattle.tallies.proofs.LoopLaws.{entry_place, entry_skipped, running_none, running_addable, running_more, running_length}

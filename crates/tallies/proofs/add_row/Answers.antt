@@ -1,7 +1,6 @@
 -- `tallies::add_row` meets its contract. The loop's invariant: destination z is added to the stations of the first e entries
 -- (Entering). The measure is the number of entries left.
 -- Assumes nothing.
-use Prim.Native.Nat.{◌-◌}
 use native.Mathlib.Omega.{arith}
 use Rattle.tallies.proofs.LoopLaws.{row_self, row_unreached, row_count, entering_none, entering_workable, entering_more}
 use Rattle.tallies.proofs.LoopLaws.{entering_length, entering_all}

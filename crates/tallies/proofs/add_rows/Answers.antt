@@ -1,7 +1,6 @@
 -- `tallies::add_rows` meets its contract. The loop's invariant: the destinations below z are added to the block (Sweeping).
 -- The measure is the number of destinations left.
 -- Assumes nothing.
-use Prim.Native.Nat.{◌-◌}
 use native.Mathlib.Omega.{arith}
 use Rattle.tallies.proofs.LoopLaws.{sweeping_none, sweeping_workable, sweeping_more, sweeping_length}
 use Rattle.tallies.proofs.LoopLaws.{sweeping_all}

@@ -1,11 +1,8 @@
 -- `tallies::tally_source` meets its contract. The loop's invariant: the stations below low are done (Blocking), cause 9 does not hold where it is
 -- said to be known, and the split is one that can be had. The measure is the number of stations left, the splits, and the pass without rows.
 -- Assumes nothing.
-use Prim.Native.Nat.{◌-◌}
 use mathlib.Core.Path.{◌∙◌}
-use mathlib.Core.Bool.{true}
 use native.Mathlib.Omega.{arith}
-use Rattle.temporal.specs.Plan.{units}
 use Rattle.tallies.proofs.BlockLaws.{blocking_none, blocking_ready, blocking_over, blocking_more, blocking_known, blocking_again}
 use Rattle.tallies.proofs.BlockLaws.{blocking_all, some_stations, known_few}
 use Rattle.tallies.proofs.LaneLaws.{fewer_passes, narrower_split}
@@ -32,12 +29,11 @@ pub overflow_sub-n-in-loop-low : goal.overflow_sub-n-in-loop-low
 overflow_sub-n-in-loop-low c = omega arith
 
 pub tally_block-packed-requires : goal.tally_block-packed-requires
-tally_block-packed-requires c =
-    (
-      blocking_ready _ _ _ _ _ _ _ _ _ c.requires.0 _ _ c.loop-low.invariant.2 _ _ _ _ c.loop-low.invariant.0 c.next_entries-entries.ensures
-          (rw c.columns_of.ensures at c.smaller-stations.ensures) c.loop-low-test.true,
-      c.loop-low.invariant.1,
-    )
+tally_block-packed-requires c = (
+  blocking_ready _ _ _ _ _ _ _ _ _ c.requires.0 _ _ c.loop-low.invariant.2 _ _ _ _ c.loop-low.invariant.0 c.next_entries-entries.ensures
+      (rw c.columns_of.ensures at c.smaller-stations.ensures) c.loop-low-test.true,
+  c.loop-low.invariant.1,
+)
 
 pub overflow_add-low : goal.overflow_add-low
 overflow_add-low c =

@@ -1,7 +1,6 @@
 -- `tallies::tally_sources` meets its contract. The loop's invariant: the sources below the one worked on are done (Summing), and what is
 -- known of the next ones holds (Knows). The measure is the number of sources left.
 -- Assumes nothing.
-use Prim.Native.Nat.{◌-◌}
 use mathlib.Core.Path.{◌∙◌}
 use native.Mathlib.Omega.{arith}
 use Rattle.walks.proofs.Accepted.{accepted}
@@ -18,11 +17,10 @@ pub fill_part-requires : goal.fill_part-requires
 fill_part-requires c = all_room _ _ _ _ _ _ _ _ _ c.requires
 
 pub loop-source-init : goal.loop-source-init
-loop-source-init c =
-    (
-      summing_none _ _ _ _ _ _ _ _ _ c.requires _ c.fill_part.ensures,
-      rw c.no_splits-splits.ensures (knows_none _ _ _ _ _ _ (omega arith)),
-    )
+loop-source-init c = (
+  summing_none _ _ _ _ _ _ _ _ _ c.requires _ c.fill_part.ensures,
+  rw c.no_splits-splits.ensures (knows_none _ _ _ _ _ _ (omega arith)),
+)
 
 pub refilled-splits-requires : goal.refilled-splits-requires
 refilled-splits-requires c =

@@ -1,7 +1,7 @@
 -- `widths::settle_hearers` meets its contract. The loop's invariant: settling the stations from number i on gives what settling all of them
 -- gives. The measure is the number of stations left.
 -- Assumes nothing.
-use Rattle.std.proofs.Common.{◌-◌, refl, arith}
+use Rattle.std.proofs.Common.{refl, arith}
 use Rattle.pass.proofs.PlaceLaws.{station_record, station_inside}
 use Rattle.widths.proofs.CellLaws.{keys_kept}
 use Rattle.widths.proofs.CodeLaws.{settling_none, settling_more, settling_all, slot_keys}

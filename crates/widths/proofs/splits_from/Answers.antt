@@ -1,6 +1,6 @@
 -- `widths::splits_from` meets its contract. The loop's invariant: the splits from number i on. The measure is i.
 -- Assumes nothing.
-use Rattle.std.proofs.Common.{◌-◌, arith}
+use Rattle.std.proofs.Common.{arith}
 use Rattle.widths.proofs.NarrowLaws.{splits_none, splits_more, splits_whole, splits_room, split_is_small}
 use Rattle.widths.proofs.splits_from.Goals as goal
 

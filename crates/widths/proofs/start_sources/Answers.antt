@@ -1,7 +1,7 @@
 -- `widths::start_sources` meets its contract. The loop's invariant: writing the walks of the sources from column c on gives what writing all
 -- gives. The measure is the number of sources left.
 -- Assumes nothing.
-use Rattle.std.proofs.Common.{◌-◌, arith}
+use Rattle.std.proofs.Common.{arith}
 use Rattle.widths.proofs.BeginKeys.{starting_none, starting_more, starting_all, starting_place}
 use Rattle.widths.proofs.start_sources.Goals as goal
 

@@ -1,7 +1,7 @@
 -- `widths::widen_bounds` meets its contract. The loop's invariant: writing the entries from j on gives what writing all gives. The measure is the
 -- number of entries left.
 -- Assumes nothing.
-use Rattle.std.proofs.Common.{◌-◌, arith}
+use Rattle.std.proofs.Common.{arith}
 use Rattle.pass.proofs.RowLaws.{combining_none, combining_more, combining_all}
 use Rattle.widths.specs.Key.{widened}
 use Rattle.widths.proofs.widen_bounds.Goals as goal

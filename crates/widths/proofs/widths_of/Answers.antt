@@ -1,7 +1,7 @@
 -- `widths::widths_of` meets its contract. The loop's invariant: in slot u, at position j, each column whose bound is small has the keys of the pass
 -- with empty rows for its source (Running). The measure is the number of slots and of records left.
 -- Assumes nothing.
-use Rattle.std.proofs.Common.{◌-◌, sym, refl, ◌∙◌, arith}
+use Rattle.std.proofs.Common.{sym, refl, ◌∙◌, arith}
 use Rattle.walks.proofs.Accepted.{accepted}
 use Rattle.plan.proofs.SlotLaws.{in_slot_inv}
 use Rattle.widths.proofs.RunLaws.{ready_parts, ready_rows, ready_begin, running_begun, running_trail, running_foldable, running_fold}
