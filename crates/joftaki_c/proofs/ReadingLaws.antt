@@ -1,6 +1,6 @@
 -- The number and the slots of read_record, from what reading a record answers. Assumes nothing.
 use Prim.Native.Nat.{ℕ}
-use mathlib.Core.Path.{◌≡◌, refl, ap, subst}
+use mathlib.Core.Path.{◌≡◌, refl, subst}
 use mathlib.Core.List.{List}
 use Rattle.temporal.specs.Drawing.{foreign, station, Reads}
 use Rattle.drawing.specs.Reading.{read_result}
