@@ -1,14 +1,13 @@
 -- The pair from s to z: whether it is a pair of the station, its figures, and that its text can be written. Assumes nothing.
-use Prim.Native.Nat.{ℕ, zero, suc, ◌+◌, ◌-◌, ◌*◌, ◌/◌, ◌^◌, ◌<◌, ◌≤◌, min}
+use Prim.Native.Nat.{ℕ, ◌+◌, ◌-◌, ◌*◌, ◌/◌, ◌^◌, ◌<◌, ◌≤◌, min}
 use native.Mathlib.Omega.{arith}
 use native.Mathlib.Nat.{mul-le-mul}
-use native.Mathlib.Decide.{ℕ_discrete}
 use mathlib.Core.Path.{◌≡◌, refl, sym, ap, ap₂, subst, ◌∙◌}
-use mathlib.Core.Bool.{Bool, true, false, not, cond, ◌&&◌, ◌||◌}
-use mathlib.Core.List.{List, [], ◌∷◌, ◌++◌, map, flat_map, Memᴰ}
-use mathlib.Core.Logic.{◌⊎◌, inl, inr, ⊎_elim, ◌≢◌}
+use mathlib.Core.Bool.{Bool, true, false, not, ◌&&◌}
+use mathlib.Core.List.{List, ◌++◌, map, flat_map}
+use mathlib.Core.Logic.{⊎_elim, ◌≢◌}
 use borrow.Author.Tests.{eq-eqb, ne_eqb, lt-leb, lt-ltb, le-ltb}
-use lib.Dec.{eqb, ltb, leb}
+use lib.Dec.{eqb}
 use lib.ListN.{length, get_or, take}
 use Rattle.temporal.specs.Lists.{below, select}
 use Rattle.temporal.specs.Plan.{Plan, turning}
@@ -16,15 +15,14 @@ use Rattle.temporal.specs.Walk.{is_interior}
 use Rattle.temporal.specs.Shortest.{shortest_walks_to, hops, count, through}
 use Rattle.temporal.specs.Load.{Ends, is_pair_of, share}
 use Rattle.temporal.specs.Bytes.{contact_at, records, plan_of}
-use Rattle.temporal.specs.Cause.{cause, first, plan_causes, plan_fault, terms_causes, pair_causes, ends_causes, is_too_many, too_many_below}
-use Rattle.temporal.specs.Outcome.{Outcome, entered, over, short, work_size}
+use Rattle.temporal.specs.Cause.{plan_fault, terms_causes, pair_causes, ends_causes, is_too_many, too_many_below}
+use Rattle.temporal.specs.Outcome.{Outcome, work_size}
 use Rattle.temporal.specs.OutcomePair.{PairValues, PairBuffers, paired, pair}
 use Rattle.lists.proofs.ListLaws.{not_both, mem_below, any_false, mem_select, empty_or_member}
 use Rattle.lists.proofs.BufferLaws.{written}
 use Rattle.walks.proofs.EnteredLaws.{entered_call, entered_none, entered_pass, entered_work}
 use Rattle.walks.proofs.Adequacy.{few_hops}
 use Rattle.walks.proofs.FewLaws.{select_shorter}
-use Rattle.walks.proofs.Accepted.{accepted}
 use Rattle.calls.proofs.CallLaws.{terms_allowed}
 use Rattle.plan.specs.Fault.{fault_number}
 use Rattle.plan.specs.declared.Fault.{Fault}

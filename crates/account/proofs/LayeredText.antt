@@ -1,14 +1,11 @@
 -- The text of a pair whose walks are read from the layered plan is the account's. Assumes nothing.
-use Prim.Native.Nat.{ℕ, zero, suc, ◌+◌, ◌-◌, ◌*◌, ◌<◌, ◌≤◌, min}
+use Prim.Native.Nat.{ℕ, zero, suc, ◌*◌, ◌<◌, min}
 use native.Mathlib.Omega.{arith}
-use mathlib.Core.Path.{◌≡◌, refl, sym, ap, ap₂, subst, ◌∙◌}
-use mathlib.Core.Bool.{true, false, cond}
+use mathlib.Core.Path.{◌≡◌, refl, sym, ap, ap₂, ◌∙◌}
 use mathlib.Core.List.{List, [], ◌∷◌, ◌++◌, map, flat_map, Memᴰ}
-use lib.Dec.{eqb}
 use lib.ListN.{length, get_or, take, length-map, get_or-map}
-use Rattle.temporal.specs.Lists.{from, below, select}
+use Rattle.temporal.specs.Lists.{from, below}
 use Rattle.temporal.specs.Plan.{Contact, Terms, start}
-use Rattle.temporal.specs.Walk.{is_interior}
 use Rattle.temporal.specs.Shortest.{shortest_walks_to}
 use Rattle.temporal.specs.Bytes.{contact_at, records, plan_of}
 use Rattle.temporal.specs.Cause.{plan_fault}
@@ -16,7 +13,7 @@ use Rattle.lists.proofs.ListLaws.{mem_get_d_law}
 use Rattle.walks.proofs.PlanLaws.{contacts_length}
 use Rattle.walks.proofs.Adequacy.{in_complete_list}
 use Rattle.walks.proofs.WalkLaws.{run_positions, ends_inv}
-use Rattle.text.specs.Field.{ascii, line_feed}
+use Rattle.text.specs.Field.{ascii}
 use Rattle.text.specs.Pieces.{pieces}
 use Rattle.text.proofs.PieceLaws.{pieces_all}
 use Rattle.report.proofs.ReportLaws.{flat_map_ext_law}

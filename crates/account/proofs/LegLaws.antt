@@ -1,10 +1,9 @@
 -- A leg of a walk of the layered plan, from what is written of it. Assumes nothing.
 use Prim.Native.Nat.{ℕ, ◌+◌, ◌≤◌}
-use mathlib.Core.Path.{◌≡◌, refl, sym, ap, subst, ◌∙◌}
+use mathlib.Core.Path.{◌≡◌, sym, ap, subst, ◌∙◌}
 use mathlib.Core.Bool.{Bool, true, false, cond}
 use mathlib.Core.List.{List}
 use lib.ListN.{length}
-use Rattle.temporal.specs.Plan.{Contact}
 use Rattle.plan.specs.declared.Contact as declared
 use Rattle.plan.specs.Record.{contact_of}
 use Rattle.text.specs.Written.{Put}

@@ -1,17 +1,16 @@
 -- The way buffer on the list of a pair: where it stands, and that what it begins with can be written. Assumes nothing.
-use Prim.Native.Nat.{ℕ, zero, suc, ◌+◌, ◌-◌, ◌*◌, ◌<◌, ◌≤◌}
+use Prim.Native.Nat.{ℕ, ◌+◌, ◌-◌, ◌*◌, ◌<◌, ◌≤◌}
 use native.Mathlib.Omega.{arith}
 use mathlib.Core.Path.{◌≡◌, refl, sym, ap, subst, ◌∙◌}
-use mathlib.Core.Bool.{Bool, true, cond}
+use mathlib.Core.Bool.{Bool, true}
 use mathlib.Core.List.{List, []}
 use mathlib.Core.Option.{some}
 use borrow.Author.Tests.{lt-ltb}
-use lib.Dec.{ltb}
 use lib.ListN.{length, get_or, take, drop, length-append}
 use lib.Seq.{get_or-take}
 use Rattle.temporal.specs.Plan.{start}
 use Rattle.temporal.specs.Walk.{holds}
-use Rattle.temporal.specs.Bytes.{records, plan_of}
+use Rattle.temporal.specs.Bytes.{plan_of}
 use Rattle.temporal.specs.Outcome.{over}
 use Rattle.temporal.specs.Cursor.{index_in}
 use Rattle.lists.proofs.ListLaws.{mem_get_d_law}
@@ -24,7 +23,7 @@ use Rattle.text.specs.Pieces.{pieces}
 use Rattle.text.proofs.GoingLaws.{Going}
 use Rattle.text.proofs.PieceLaws.{piece_room}
 use Rattle.ways.specs.declared.Pair.{Pair}
-use Rattle.ways.specs.Found.{terms_in, list_in, is_offered, Listable, Startable, Continuable, Stepped}
+use Rattle.ways.specs.Found.{terms_in, list_in, Continuable, Stepped}
 use Rattle.ways.proofs.ListingLaws.{rises, mem_list}
 use Rattle.account.specs.Account.{walk_line}
 use Rattle.account.specs.Work.{lowered_at, walk_lines, WalkWritable, Movable, WalksWritable}

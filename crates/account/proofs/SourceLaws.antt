@@ -1,17 +1,17 @@
 -- The pairs of a station, written source by source and destination by destination. Assumes nothing.
-use Prim.Native.Nat.{ℕ, zero, suc, ◌+◌, ◌-◌, ◌*◌, ◌<◌, ◌≤◌}
+use Prim.Native.Nat.{ℕ, ◌+◌, ◌<◌, ◌≤◌}
 use native.Mathlib.Omega.{arith}
-use mathlib.Core.Path.{◌≡◌, refl, sym, ap, ap₂, subst, ◌∙◌}
+use mathlib.Core.Path.{◌≡◌, refl, sym, ap, subst, ◌∙◌}
 use mathlib.Core.Bool.{Bool, true, false, cond}
 use mathlib.Core.List.{List, [], ◌∷◌, ◌++◌, map, flat_map, append_assoc}
 use lib.ListN.{length}
-use Rattle.temporal.specs.Lists.{from, below, select}
+use Rattle.temporal.specs.Lists.{below, select}
 use Rattle.temporal.specs.Plan.{Plan, turning}
-use Rattle.temporal.specs.Load.{Ends, ends_below, is_pair_of, pairs_below, pairs_of}
+use Rattle.temporal.specs.Load.{Ends, ends_below, is_pair_of, pairs_below}
 use Rattle.temporal.specs.Bytes.{contact_at, plan_of}
 use Rattle.text.specs.Written.{Put}
 use Rattle.text.specs.Pieces.{pieces}
-use Rattle.text.proofs.GoingLaws.{Going, going_begin}
+use Rattle.text.proofs.GoingLaws.{Going}
 use Rattle.text.proofs.PieceLaws.{pieces_all, piece_room}
 use Rattle.account.specs.Account.{pair_text}
 use Rattle.account.specs.Work.{

@@ -1,14 +1,13 @@
 -- The lines of walks of the layered plan. Assumes nothing.
-use Prim.Native.Nat.{ℕ, zero, suc, ◌+◌, ◌-◌, ◌*◌, ◌<◌, ◌≤◌}
+use Prim.Native.Nat.{ℕ, ◌+◌, ◌<◌, ◌≤◌}
 use native.Mathlib.Omega.{arith}
-use mathlib.Core.Path.{◌≡◌, refl, sym, ap, ap₂, subst, ◌∙◌}
-use mathlib.Core.Bool.{true, false, cond}
-use mathlib.Core.List.{List, [], ◌∷◌, ◌++◌, flat_map}
+use mathlib.Core.Path.{◌≡◌, sym, ap, subst, ◌∙◌}
+use mathlib.Core.Bool.{cond}
+use mathlib.Core.List.{List, ◌++◌, flat_map}
 use lib.Dec.{eqb}
 use lib.ListN.{length, get_or, take}
 use lib.Seq.{length-take-le, get_or-take}
-use Rattle.temporal.specs.Lists.{from, below}
-use Rattle.temporal.specs.Plan.{Contact}
+use Rattle.temporal.specs.Lists.{below}
 use Rattle.text.specs.Field.{ascii, line_feed}
 use Rattle.text.specs.Pieces.{pieces}
 use Rattle.text.proofs.PieceLaws.{pieces_all}

@@ -1,14 +1,14 @@
 -- The account of a station, for wardens: its pairs with their shares, and under each pair walks that have the station inside.
 -- Definitions only.
 -- Assumes nothing.
-use Rattle.std.specs.Prelude.{ℕ, ◌+◌, ◌-◌, ◌≤◌, min, ◌≡◌, cond, eqb, leb, length, get_or, take}
+use Rattle.std.specs.Prelude.{ℕ, ◌+◌, ◌-◌, min, ◌≡◌, cond, eqb, leb, length, get_or, take}
 use mathlib.Core.List.{List, [], ◌∷◌, ◌++◌, flat_map}
 use Rattle.temporal.specs.Lists.{below, select}
 use Rattle.temporal.specs.Plan.{Contact, Plan, Terms}
 use Rattle.temporal.specs.Walk.{is_interior}
 use Rattle.temporal.specs.Shortest.{shortest_walks_to, hops}
 use Rattle.temporal.specs.Load.{Ends, count_of, through_of, pairs_of, pairs, share, load}
-use Rattle.temporal.specs.Bytes.{contact_at, plan_of}
+use Rattle.temporal.specs.Bytes.{contact_at}
 use Rattle.temporal.specs.Cause.{cause, first, unless, plan_causes, terms_causes, too_many_anywhere}
 use Rattle.temporal.specs.Outcome.{over}
 use Rattle.report.specs.Sizes.{input_stations, input_slots}

@@ -1,5 +1,6 @@
 // The account of a station: the text that tells a warden which pairs lean on it, how much, and along which walks.
 #![tactic(auto)]
+
 ghost use Rattle.std.specs.Prelude.{◌≡◌, [], ◌+◌, ◌*◌, ◌<◌, ◌≤◌, min, length, get_or, take};
 ghost use Rattle.temporal.specs.Plan.{turning};
 ghost use Rattle.temporal.specs.Outcome.{over};

@@ -40,7 +40,7 @@ between_inside s z v (y ∷ l) ends home before =
     by_cases (ℕ_discrete v s)
     (λ e.
     let out : member v (stations_of (y ∷ l)) ≡ false =
-        ap (λ x. member x (stations_of (y ∷ l))) e ∙ (member_false s (stations_of (y ∷ l))).1 home in
+    ap (λ x. member x (stations_of (y ∷ l))) e ∙ (member_false s (stations_of (y ∷ l))).1 home in
     ap (λ b. not (eqb v (last_or y l).station) && b) out ∙ and-false (not (eqb v (last_or y l).station)) ∙
     sym (ap (λ b. not b && (not (eqb v z) && member v (stations_of (y ∷ l)))) (eq-eqb v s e)))
     (λ d. rw (ne_eqb v s d, ends))

@@ -2,21 +2,21 @@
 use Prim.Native.Nat.{ℕ, ◌+◌, ◌*◌, ◌^◌, ◌≤◌, ◌<◌}
 use native.Mathlib.Nat.{mul-le-mul, mul_comm, mul_assoc, mul_right_comm, mul-le-mul_right, mul-lt-mul_of_pos_right}
 use native.Mathlib.Omega.{arith}
-use mathlib.Core.Path.{◌≡◌, refl, sym, ap, ap₂, subst, ◌∙◌}
-use mathlib.Core.Bool.{Bool, true, false, cond, ◌||◌}
+use mathlib.Core.Path.{◌≡◌, sym, ap, ap₂, subst, ◌∙◌}
+use mathlib.Core.Bool.{◌||◌}
 use mathlib.Core.List.{List, [], ◌∷◌, ◌++◌}
 use mathlib.Core.Logic.{◌↔◌, ⊎_elim}
 use borrow.Author.Tests.{ltb-false}
 use lib.Pow.{pow-add, pow_pos}
-use lib.ListN.{length, get_or, take, drop}
+use lib.ListN.{get_or, take, drop}
 use Rattle.temporal.specs.Plan.{Plan, Terms}
 use Rattle.temporal.specs.Load.{pairs, load, common_count, exact_sum}
 use Rattle.temporal.specs.Bytes.{plan_of}
 use Rattle.temporal.specs.Cause.{cause, plan_fault, plan_causes, terms_causes, first, too_many_anywhere}
-use Rattle.temporal.specs.Outcome.{Outcome, over, short, work_size}
+use Rattle.temporal.specs.Outcome.{Outcome, short, work_size}
 use Rattle.temporal.specs.OutcomePair.{LoadBuffers, partly_loaded, loads}
-use Rattle.temporal.specs.Drawing.{multiple, ExactShare, carried, low_bits, high_bits, drawn_record, CouldWrite, foreign, station, Reads}
-use Rattle.temporal.specs.OutcomeDrawn.{DrawnBuffers, records_size, drawn_records, drawn_loaded, drawn_short, drawn_loads}
+use Rattle.temporal.specs.Drawing.{ExactShare, carried, low_bits, high_bits, drawn_record, CouldWrite, foreign, station, Reads}
+use Rattle.temporal.specs.OutcomeDrawn.{DrawnBuffers, records_size, drawn_loaded, drawn_short, drawn_loads}
 use Rattle.walks.proofs.Accepted.{accepted}
 use Rattle.temporal.proofs.CauseLaws.{first_append_left, first_append_right, first_head, or_false_left, or_false_right}
 use Rattle.walks.proofs.EnteredLaws.{no_first, no_cause}
@@ -28,11 +28,11 @@ use Rattle.drawing.specs.Reading.{read_result}
 use Rattle.drawing.specs.declared.Reading.{Reading}
 use Rattle.drawing.proofs.ShareLaws.{share_is_exact}
 use Rattle.drawing.proofs.FigureLaws.{low_of_law, high_of_law}
-use Rattle.drawing.proofs.RecordLaws.{writer_unique, reads_unique, foreign_length, written_reads}
+use Rattle.drawing.proofs.RecordLaws.{reads_unique, foreign_length, written_reads}
 use Rattle.drawing.proofs.ForeignLaws.{foreign_kinds}
 use Rattle.drawn.proofs.RecordsLaws.{record_in}
 use Rattle.demands.specs.PairLoads.{LoadsAccepts}
-use Rattle.demands.specs.Drawn.{DrawnAccepts, record_at, low_of, high_of, Unrounded, Spans, DrawnDemand}
+use Rattle.demands.specs.Drawn.{DrawnAccepts, record_at, Unrounded, Spans, DrawnDemand}
 use Rattle.demands.proofs.CountLaws.{loads_demand}
 
 -- ---- the doubles

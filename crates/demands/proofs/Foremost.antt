@@ -1,13 +1,13 @@
 -- C-14 holds of the operation on shortest foremost paths. Assumes nothing.
 use Prim.Native.Nat.{ℕ, ◌<◌}
 use native.Mathlib.Omega.{arith}
-use mathlib.Core.Path.{◌≡◌, refl, sym, ap, subst, ◌∙◌}
-use mathlib.Core.Bool.{Bool, true, ◌&&◌, and-eq-true_iff}
-use mathlib.Core.List.{List, map, Memᴰ}
+use mathlib.Core.Path.{◌≡◌, ap, ◌∙◌}
+use mathlib.Core.Bool.{true, and-eq-true_iff}
+use mathlib.Core.List.{List, map}
 use mathlib.Core.Logic.{◌↔◌, ◌≢◌, ⊎_elim}
-use lib.ListN.{length, get_or}
+use lib.ListN.{length}
 use Rattle.temporal.specs.Lists.{below, select}
-use Rattle.temporal.specs.Plan.{Plan, Terms, turning, Keeps}
+use Rattle.temporal.specs.Plan.{Terms, turning, Keeps}
 use Rattle.walks.proofs.PlanLaws.{kept_always}
 use Rattle.temporal.specs.Walk.{is_appearance, is_walk, is_walk_to}
 use Rattle.temporal.specs.Definition3.{is_path000}

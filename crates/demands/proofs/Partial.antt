@@ -1,9 +1,8 @@
 -- C-18 holds of partial loads. Assumes nothing.
-use Prim.Native.Nat.{ℕ, ◌+◌, ◌-◌, ◌≤◌, ◌<◌}
+use Prim.Native.Nat.{ℕ, ◌-◌, ◌≤◌, ◌<◌}
 use native.Mathlib.Omega.{arith}
-use mathlib.Core.Path.{◌≡◌, refl, sym, ap, ◌∙◌}
-use mathlib.Core.Bool.{false}
-use mathlib.Core.List.{List, [], ◌∷◌, flat_map}
+use mathlib.Core.Path.{◌≡◌, refl, sym, ◌∙◌}
+use mathlib.Core.List.{List, flat_map}
 use mathlib.Core.Logic.{◌≢◌}
 use borrow.Author.Tests.{ltb-false}
 use lib.ListN.{get_or}
@@ -11,10 +10,9 @@ use Rattle.temporal.specs.Lists.{from, below, sum, select, any}
 use Rattle.temporal.specs.Plan.{Terms}
 use Rattle.temporal.specs.Load.{ends_below, pairs_below, partial_pairs, partial_load, rest_of_pairs, rest_of_load}
 use Rattle.temporal.specs.Bytes.{plan_of}
-use Rattle.temporal.specs.Cause.{cause, first, plan_causes, terms_causes, wrong_sources, too_many_below}
-use Rattle.temporal.specs.Outcome.{Outcome, short, work_size}
-use Rattle.temporal.specs.OutcomePair.{LoadBuffers, partly_loaded, partial_loads}
-use Rattle.temporal.proofs.CauseLaws.{first_append_right, first_head, first_tail}
+use Rattle.temporal.specs.Cause.{plan_causes, terms_causes, wrong_sources, too_many_below}
+use Rattle.temporal.specs.OutcomePair.{LoadBuffers, partial_loads}
+use Rattle.temporal.proofs.CauseLaws.{first_append_right, first_head}
 use Rattle.walks.proofs.EnteredLaws.{no_first, no_cause}
 use Rattle.counting.proofs.PartialLaws.{pairs_between, load_between}
 use Rattle.loads.specs.Answer.{loads_number, loads_outcome}

@@ -12,7 +12,7 @@ use Rattle.temporal.specs.Bytes.{plan_of}
 use Rattle.temporal.specs.Cause.{plan_causes, plan_fault, terms_causes, ends_causes, pair_causes, is_too_many}
 use Rattle.temporal.specs.Outcome.{Outcome}
 use Rattle.temporal.specs.OutcomeSet.{is_member, set_causes, set_counted, through_set}
-use Rattle.temporal.proofs.CauseLaws.{first_append_left, first_append_right, first_head, first_tail, or_false_left}
+use Rattle.temporal.proofs.CauseLaws.{first_append_left, first_append_right, first_head, or_false_left}
 use Rattle.walks.proofs.EnteredLaws.{no_first, no_cause}
 use Rattle.lists.proofs.ListLaws.{true_or_false}
 use Rattle.walks.proofs.SetLaws.{

@@ -1,18 +1,16 @@
 -- C-23 holds of the operation on a contact that is struck out. Assumes nothing.
 use Prim.Native.Nat.{ℕ, ◌*◌, ◌^◌, ◌≤◌, ◌<◌}
 use native.Mathlib.Omega.{arith}
-use mathlib.Core.Path.{◌≡◌, refl, sym, ap, ap₂, ◌∙◌}
-use mathlib.Core.Bool.{true, false}
+use mathlib.Core.Path.{◌≡◌, sym, ap, ap₂, ◌∙◌}
 use mathlib.Core.List.{List}
 use mathlib.Core.Logic.{⊎_elim}
-use lib.IntN.{ℤ, pos, ◌-ℤ◌}
-use lib.ListN.{length, get_or}
+use lib.IntN.{pos, ◌-ℤ◌}
+use lib.ListN.{get_or}
 use Rattle.temporal.specs.Plan.{Terms}
 use Rattle.temporal.specs.Bytes.{plan_of}
-use Rattle.temporal.specs.Cause.{plan_fault}
 use Rattle.temporal.specs.Load.{load}
 use Rattle.temporal.specs.Outcome.{Outcome}
-use Rattle.temporal.specs.Struck.{struck_out, lacking_record, pairs_using, change, magnitude}
+use Rattle.temporal.specs.Struck.{struck_out, lacking_record, change, magnitude}
 use Rattle.temporal.specs.OutcomePair.{LoadBuffers}
 use Rattle.temporal.specs.OutcomeStruck.{StruckBuffers, either_too_many, struck_off, struck}
 use Rattle.walks.proofs.Accepted.{accepted}

@@ -1,22 +1,22 @@
 -- C-19 holds of the operation that judges a list. Assumes nothing.
-use Prim.Native.Nat.{ℕ, ◌*◌, ◌≤◌, ◌<◌}
+use Prim.Native.Nat.{ℕ, ◌≤◌, ◌<◌}
 use native.Mathlib.Omega.{arith}
 use native.Mathlib.Decide.{dec_le}
-use mathlib.Core.Path.{◌≡◌, refl, sym, ap, ◌∙◌, subst}
-use mathlib.Core.Bool.{Bool, true, false, ◌||◌}
-use mathlib.Core.Logic.{⊎_elim, by_cases, ◌↔◌, ◌≢◌}
-use mathlib.Core.List.{List, [], ◌∷◌, Memᴰ}
+use mathlib.Core.Path.{◌≡◌, ap, ◌∙◌}
+use mathlib.Core.Bool.{Bool, true, false}
+use mathlib.Core.Logic.{⊎_elim, by_cases, ◌≢◌}
+use mathlib.Core.List.{List, ◌∷◌, Memᴰ}
 use mathlib.Core.Option.{Option, none, some}
 use borrow.Author.Tests.{eqb-false}
-use lib.Dec.{eqb, leb}
+use lib.Dec.{eqb}
 use lib.ListN.{length, take, length-take}
 use lib.Seq.{take_all}
 use Rattle.temporal.specs.Lists.{below, any}
 use Rattle.temporal.specs.Cursor.{same_numbers}
 use Rattle.temporal.specs.Bytes.{plan_of}
-use Rattle.temporal.specs.Shortest.{shortest_walks_to, hops}
-use Rattle.temporal.specs.Cause.{cause, plan_causes, plan_fault, terms_causes, ends_causes, pair_causes, is_too_many}
-use Rattle.temporal.specs.Outcome.{Outcome, short, work_size}
+use Rattle.temporal.specs.Shortest.{hops}
+use Rattle.temporal.specs.Cause.{plan_causes, plan_fault, terms_causes, ends_causes, pair_causes, is_too_many}
+use Rattle.temporal.specs.Outcome.{Outcome}
 use Rattle.temporal.specs.Verdict.{Verdict, complete, beginning, wrong, joined, verdict_on, IsComplete, IsBeginning}
 use Rattle.temporal.specs.OutcomeVerdict.{judged, verdict}
 use Rattle.temporal.specs.FirstNext.{Question, list_of}
@@ -28,7 +28,7 @@ use Rattle.lists.proofs.BufferLaws.{same_numbers_law}
 use Rattle.walks.proofs.VerdictLaws.{verdict_complete, verdict_beginning, verdict_wrong, not_complete}
 use Rattle.walks.proofs.Adequacy.{in_complete_list}
 use Rattle.verdicts.proofs.WorkLaws.{hops_some}
-use Rattle.verdicts.specs.Answer.{verdict_number, verdict_given, verdict_outcome}
+use Rattle.verdicts.specs.Answer.{verdict_given}
 use Rattle.verdicts.specs.declared.VerdictAnswer.{VerdictAnswer}
 use Rattle.demands.specs.Verdicts.{VerdictAccepts, VerdictSaid, VerdictDemand}
 use Rattle.demands.proofs.Demand3.{demand3}

@@ -8,7 +8,6 @@ use mathlib.Core.Logic.{◌⊎◌, ⊎_map, ◌↔◌, ◌≢◌}
 use borrow.Author.Tests.{le-leb, lt-leb, leb-true, leb-false}
 use lib.Dec.{leb}
 use lib.ListN.{length, get_or}
-use Rattle.temporal.specs.Lists.{below}
 use Rattle.temporal.specs.Plan.{Terms}
 use Rattle.temporal.specs.Load.{pairs_of, pairs, load}
 use Rattle.temporal.specs.Bytes.{contact_at, plan_of}

@@ -1,7 +1,6 @@
 -- `account::put_pairs` meets its contract. The loop's invariant: the texts of the pairs from source s on are left. The measure is the number
 -- of sources left.
 -- Assumes nothing.
-use Prim.Native.Nat.{◌-◌}
 use native.Mathlib.Omega.{arith}
 use Rattle.text.proofs.GoingLaws.{going_begin}
 use Rattle.text.proofs.PieceLaws.{piece_next, piece_all}

@@ -1,7 +1,6 @@
 -- `account::put_source` meets its contract. The loop's invariant: the texts of the pairs from destination z on are left. The measure is the
 -- number of destinations left.
 -- Assumes nothing.
-use Prim.Native.Nat.{◌-◌}
 use native.Mathlib.Omega.{arith}
 use Rattle.text.proofs.GoingLaws.{going_begin}
 use Rattle.text.proofs.PieceLaws.{piece_next, piece_all}

@@ -1,6 +1,5 @@
 -- `account::put_walk` meets its contract. The loop's invariant: the legs from k on are left. The measure is their number.
 -- Assumes nothing.
-use Prim.Native.Nat.{◌-◌}
 use native.Mathlib.Omega.{arith}
 use mathlib.Core.Path.{◌∙◌}
 use Rattle.text.proofs.GoingLaws.{going_begin}

@@ -1,7 +1,6 @@
 -- `account::put_walks` meets its contract. The loop's invariant: the lines of the walks from i on are left, and the way buffer begins with
 -- the walk before. The measure is their number.
 -- Assumes nothing.
-use Prim.Native.Nat.{◌-◌}
 use native.Mathlib.Omega.{arith}
 use Rattle.text.proofs.GoingLaws.{going_begin}
 use Rattle.text.proofs.PieceLaws.{piece_next, piece_all}
