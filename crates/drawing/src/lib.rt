@@ -143,6 +143,7 @@ fn read_double(bytes: &[u8], at: usize) -> u64
 }
 
 // The record that bytes are. Bits from the infinity's on are of no share.
+#[tactic(auto, using(crate::proofs::RecordLaws::foreign_length), unfolding(crate::specs::Reading::ParsedAs))]
 fn parse_record(bytes: &[u8]) -> Parsed
     ensures { ParsedAs bytes.now result }
 {
