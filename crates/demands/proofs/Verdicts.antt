@@ -150,10 +150,10 @@ pub verdict_demand : VerdictDemand
 verdict_demand =
     record {
       said = said;
-      of_traces = λ q asked e es from_First old r new a.
+      of_traces = λ q asked e es from_first old r new a.
           let l = list_of q in
           let out = given (e ∷ es) in
-          let first_ones : out ≡ take (length out) l = (demand3.gives q asked e es from_First).first_ones in
+          let first_ones : out ≡ take (length out) l = (demand3.gives q asked e es from_first).first_ones in
           let most : length out ≤ length l = omega (arith, ap length first_ones, length-take (length out) l) in (
             λ all.
                 complete_given q (joined out) old r new a

@@ -1,4 +1,5 @@
--- What the answer to a read says, and that the bytes read lie within the lent buffer. Definitions only.
+-- What the answer to a read says, and that the bytes read lie within the lent buffer. Which bytes they are is the system's to say: no
+-- contract speaks of it. Definitions only.
 -- Assumes nothing.
 use Rattle.std.specs.Prelude.{ℕ, ◌≡◌, ◌≤◌, min, Bool, true, false, List, Result, Ok, Err}
 use Rattle.std.specs.IoError.{error_kind}
