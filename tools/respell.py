@@ -13,7 +13,6 @@ import sys
 
 WORD = r"[A-Za-z0-9_'?!\u00b7\u1d30\u2080-\u209c\u0370-\u03ff-]"
 TOKEN = re.compile(rf"(?<!{WORD}){WORD}+(?!{WORD})")
-DECLARES = re.compile(rf"^\s*(?:pub )?(?:abbrev |unfoldable )?(?:pub )?(?:(data|record) )?({WORD}+)\s*(?:[({{:]|$)")
 HEAD = re.compile(rf"^\s*((?:pub )?(?:abbrev |unfoldable )?(?:pub )?(?:data |record )?)((?:{WORD}+ )*{WORD}+) : ")
 
 
