@@ -7,6 +7,7 @@ use native.Mathlib.Decide.{dec_le, ℕ_discrete}
 use mathlib.Core.Path.{◌≡◌, refl, sym, ap, subst, ◌∙◌, fun_ext}
 use mathlib.Core.Bool.{Bool, true, false, not, cond, ◌&&◌}
 use mathlib.Core.List.{List}
+use Rattle.std.specs.Prelude.{Result, Ok, Err, is_err}
 use mathlib.Core.Logic.{◌⊎◌, inl, inr, ⊎_elim, by_cases, ◌≢◌}
 use borrow.Author.Tests.{lt-ltb, le-ltb, eq-eqb, ne_eqb, eqb-true}
 use lib.Dec.{eqb}
@@ -26,10 +27,10 @@ use Rattle.walks.proofs.ForemostLaws.{arrival_outside, arrival_after_start, shor
 use Rattle.counting.proofs.Through.{touched_others}
 use Rattle.entries.proofs.HopLaws.{few_slots}
 use Rattle.pass.specs.declared.Columns.TheVariants as columns
-use Rattle.pass.specs.declared.Ended.{Ended}
-use Rattle.pass.specs.declared.Ended.TheVariants as ended
+use Rattle.pass.specs.declared.Stopped.{Stopped}
+use Rattle.pass.specs.declared.Stopped.TheVariants as stopped
 use Rattle.pass.specs.Column.{block_column, column_of, Lanes, whole, lanes_by, columns_in, column_at}
-use Rattle.forward.specs.declared.Packed.{Packed}
+use Rattle.forward.specs.declared.Unpacked.{Unpacked}
 use Rattle.forward.specs.Passed.{packed_as, PackedReady, PackedCounted, PackedAs, PackedPassed}
 use Rattle.forward.specs.Passed.{pass_size, DepthReady, UntilReady, PassReady, Counted, Passed, SetReady, SetPassed}
 use Rattle.pass.proofs.SettleLaws.{or_none}
@@ -39,7 +40,7 @@ use Rattle.stale.specs.Size.{window_size}
 use Rattle.stale.specs.Depth.{DepthOf}
 use Rattle.stale.proofs.DepthLaws.{deep_all}
 use Rattle.forward.proofs.SizeLaws.{size_kept, size_window}
-use Rattle.pass.specs.PassedColumns.{over_of, slot_of, Overfull}
+use Rattle.pass.specs.PassedColumns.{slot_of, Overfull}
 use Rattle.pass.proofs.EndLaws.{few_appearances, few_stations}
 
 -- ---- a block of stations
@@ -82,18 +83,18 @@ module _ (low block : ℕ) where
 module _ (bs : List ℕ) (n t : ℕ) (terms : Terms) (s until : ℕ) (ok : plan_fault bs n t ≡ 0) (other : s ≢ until) (col : ℕ → ℕ) (block : ℕ)
     (work : List ℕ) where
   -- settled in a slot
-  pub settled_in : (r : Ended) → EndedAs bs n t terms s until whole col block work r → slot_of r ≢ 0
+  pub settled_in : (r : Result ℕ Stopped) → EndedAs bs n t terms s until whole col block work r → slot_of r ≢ 0
       → SettledAt bs n t terms s until whole col block work (slot_of r)
   unfolding slot_of EndedAs
-  settled_in (ended.Settled e) x d = x
-  settled_in ended.StationTooMany x d = absurd (d refl)
-  settled_in ended.AppearanceTooMany x d = absurd (d refl)
-  settled_in ended.TooWide x d = absurd (x refl)
+  settled_in (Ok e) x d = x
+  settled_in (Err stopped.StationTooMany) x d = absurd (d refl)
+  settled_in (Err stopped.AppearanceTooMany) x d = absurd (d refl)
+  settled_in (Err stopped.TooWide) x d = absurd (x refl)
 
   -- or not at all
-  pub not_settled : (r : Ended) → EndedAs bs n t terms s until whole col block work r → slot_of r ≡ 0 → Overfull bs n t terms s until
+  pub not_settled : (r : Result ℕ Stopped) → EndedAs bs n t terms s until whole col block work r → slot_of r ≡ 0 → Overfull bs n t terms s until
   unfolding slot_of EndedAs
-  not_settled (ended.Settled e) x d =
+  not_settled (Ok e) x d =
       let slot = x.slot in
       let later = after in
       let some = (accepted bs n t ok).some_slot in
@@ -101,32 +102,30 @@ module _ (bs : List ℕ) (n t : ℕ) (terms : Terms) (s until : ℕ) (ok : plan_
     where
       after : 0 < arrival (plan_of bs n t terms) s until
       after = arrival_after_start (plan_of bs n t terms) (slots_within bs n t terms ok) s until (few_slots bs n t terms ok) other
-  not_settled ended.StationTooMany x d = inr x
-  not_settled ended.AppearanceTooMany x d = inl x
-  not_settled ended.TooWide x d = absurd (x refl)
+  not_settled (Err stopped.StationTooMany) x d = inr x
+  not_settled (Err stopped.AppearanceTooMany) x d = inl x
+  not_settled (Err stopped.TooWide) x d = absurd (x refl)
 
 -- ---- a pass through every slot
 
 module _ (lay : Lanes) (bs : List ℕ) (n t : ℕ) (terms : Terms) (s : ℕ) (ok : plan_fault bs n t ≡ 0) (source : s < n) (col : ℕ → ℕ) (block : ℕ)
     (work : List ℕ) where
   -- it is settled in the last slot where it meets no count over 2^64 - 1
-  pub whole_settled : (r : Ended) → over_of r ≡ false → EndedAs bs n t terms s n lay col block work r
+  pub whole_settled : (r : Result ℕ Stopped) → is_err r ≡ false → EndedAs bs n t terms s n lay col block work r
       → SettledAt bs n t terms s n lay col block work t
-  unfolding over_of EndedAs
-  whole_settled (ended.Settled e) q x =
+  unfolding EndedAs
+  whole_settled (Ok e) q x =
       let never = arrival_outside bs n t terms ok s n source (omega arith) in
       let most = (accepted bs n t ok).slots in
       let last : e ≡ t = let slot = x.slot in omega arith in
       subst (λ e. SettledAt bs n t terms s n lay col block work e) last x
-  whole_settled ended.StationTooMany q x = absurd (let z : ◌≡◌ {A = ℕ} 0 1 = cc in omega arith)
-  whole_settled ended.AppearanceTooMany q x = absurd (let z : ◌≡◌ {A = ℕ} 0 1 = cc in omega arith)
-  whole_settled ended.TooWide q x = absurd (let z : ◌≡◌ {A = ℕ} 0 1 = cc in omega arith)
+  whole_settled (Err e) q x = absurd (let z : ◌≡◌ {A = ℕ} 0 1 = cc in omega arith)
 
   -- no appearance has more where it is settled
   pub whole_appearances : (e : ℕ) → SettledAt bs n t terms s n lay col block work e → appearance_too_many (plan_of bs n t terms) s ≡ false
-  unfolding over_of EndedAs
+  unfolding EndedAs
   whole_appearances e x =
-      few_appearances bs n t terms ok s (whole_settled (ended.Settled e) refl x).appearances
+      few_appearances bs n t terms ok s (whole_settled (Ok e) refl x).appearances
 
   -- then no station has more either
   whole_stations : SettledAt bs n t terms s n lay col block work t → station_too_many (plan_of bs n t terms) s ≡ false
@@ -134,23 +133,23 @@ module _ (lay : Lanes) (bs : List ℕ) (n t : ℕ) (terms : Terms) (s : ℕ) (ok
 
   -- settled, there is no cause 9
   pub whole_none : (e : ℕ) → SettledAt bs n t terms s n lay col block work e → is_too_many (plan_of bs n t terms) s ≡ false
-  unfolding over_of EndedAs is_too_many
+  unfolding EndedAs is_too_many
   whole_none e x =
-      let y = whole_settled (ended.Settled e) refl x in
+      let y = whole_settled (Ok e) refl x in
       let none = whole_appearances e x in
       let station = whole_stations y in
       rw (none, station)
 
   -- whether it meets one is cause 9, with one column to an entry
-  pub whole_over : lay.lanes ≡ 1 → (r : Ended) → EndedAs bs n t terms s n lay col block work r → over_of r ≡ is_too_many (plan_of bs n t terms) s
-  unfolding over_of EndedAs is_too_many
-  whole_over one (ended.Settled e) x = sym (whole_none e x)
-  whole_over one ended.StationTooMany x =
+  pub whole_over : lay.lanes ≡ 1 → (r : Result ℕ Stopped) → EndedAs bs n t terms s n lay col block work r → is_err r ≡ is_too_many (plan_of bs n t terms) s
+  unfolding EndedAs is_too_many
+  whole_over one (Ok e) x = sym (whole_none e x)
+  whole_over one (Err stopped.StationTooMany) x =
       let none = x.appearances in
       let station = x.station in
       sym (rw (none, station))
-  whole_over one ended.AppearanceTooMany x = sym (rw x)
-  whole_over one ended.TooWide x = absurd (x one)
+  whole_over one (Err stopped.AppearanceTooMany) x = sym (rw x)
+  whole_over one (Err stopped.TooWide) x = absurd (x one)
 
   -- the settled entries are hops and counts of the shortest walks
   pub whole_counted : SettledAt bs n t terms s n lay col block work t → Counted bs n t terms s 0 0 work
@@ -166,16 +165,16 @@ module _ (lay : Lanes) (bs : List ℕ) (n t : ℕ) (terms : Terms) (s : ℕ) (ok
 pub whole_few : (bs : List ℕ) (n t : ℕ) (terms : Terms) (s : ℕ) → plan_fault bs n t ≡ 0 → s < n → (until : ℕ) → until ≡ n
     → (col : ℕ → ℕ) (block : ℕ) (work : List ℕ) (e : ℕ) → SettledAt bs n t terms s until whole col block work e
     → is_too_many (plan_of bs n t terms) s ≡ false
-unfolding over_of EndedAs
+unfolding EndedAs
 whole_few bs n t terms s ok source until none col block work e x =
-    sym (whole_over whole bs n t terms s ok source col block work refl (ended.Settled e)
+    sym (whole_over whole bs n t terms s ok source col block work refl (Ok e)
     (subst (λ u. SettledAt bs n t terms s u whole col block work e) none x))
 
 -- what the pass promises of a block, from what it promises of columns
-pub block_passed : (bs : List ℕ) (n t : ℕ) (terms : Terms) (d s low block : ℕ) (old new : List ℕ) (r : Bool) (e : Ended)
+pub block_passed : (bs : List ℕ) (n t : ℕ) (terms : Terms) (d s low block : ℕ) (old new : List ℕ) (r : Bool) (e : Result ℕ Stopped)
     → PassReady bs n t terms d s low block old
     → ColumnsPassed bs n t terms s n whole (block_column low block) block (pass_size n t terms d block) old new e
-    → r ≡ over_of e
+    → r ≡ is_err e
     → Passed bs n t terms d s low block old new r
 unfolding through
 block_passed bs n t terms d s low block old new r e ready x is =
@@ -245,9 +244,9 @@ module _ (z : ℕ) (set : List ℕ) where
       go false false = refl
 
 -- what the pass promises of a set, from what it promises of columns
-pub set_passed : (bs : List ℕ) (n t : ℕ) (terms : Terms) (s z : ℕ) (set old new : List ℕ) (r : Bool) (e : Ended) → SetReady bs n t terms s z old
+pub set_passed : (bs : List ℕ) (n t : ℕ) (terms : Terms) (s z : ℕ) (set old new : List ℕ) (r : Bool) (e : Result ℕ Stopped) → SetReady bs n t terms s z old
     → ColumnsPassed bs n t terms s n whole (column_of (columns.Members z) set 1) 1 (pass_size n t terms terms.keeping 1) old new e
-    → r ≡ over_of e
+    → r ≡ is_err e
     → SetPassed bs n t terms s z set old new r
 unfolding touched
 set_passed bs n t terms s z set old new r e ready x is =
@@ -325,7 +324,7 @@ module _ (bs : List ℕ) (n t : ℕ) (terms : Terms) (d s until block : ℕ) (ol
             fits = omega arith;
           }
 
-      pub kept_passed : (lay : Lanes) (col : ℕ → ℕ) (new : List ℕ) (r : Ended)
+      pub kept_passed : (lay : Lanes) (col : ℕ → ℕ) (new : List ℕ) (r : Result ℕ Stopped)
           → ColumnsPassed bs n t terms s until lay col block (area_size n (waiting t terms) block) old new r
           → ColumnsPassed bs n t terms s until lay col block (pass_size n t terms d block) old new r
       kept_passed lay col new r x =
@@ -348,7 +347,7 @@ module _ (bs : List ℕ) (n t : ℕ) (terms : Terms) (d s until block : ℕ) (ol
       none_waited : until ≡ n
       none_waited = ⊎_elim (λ keeps. absurd (omega arith)) (λ e. e) ready.waits
 
-      pub window_passed : (lay : Lanes) (col : ℕ → ℕ) (new : List ℕ) (r : Ended)
+      pub window_passed : (lay : Lanes) (col : ℕ → ℕ) (new : List ℕ) (r : Result ℕ Stopped)
           → ColumnsPassed bs n t terms s n lay col block (window_size n d block) old new r
           → ColumnsPassed bs n t terms s until lay col block (pass_size n t terms d block) old new r
       window_passed lay col new r x =
@@ -371,19 +370,19 @@ module _ (bs : List ℕ) (n t : ℕ) (terms : Terms) (d s : ℕ) where
   passed_whole low block old new r x = subst (λ l. Passed l n t terms d s low block old new r) (lacking_nothing bs) x
 
 pub columns_lacking : (bs : List ℕ) (n t : ℕ) (terms : Terms) (s until : ℕ) (lay : Lanes) (col : ℕ → ℕ) (block size : ℕ) (old new : List ℕ)
-    (r : Ended) → ColumnsPassed (lacking_record bs (length bs)) n t terms s until lay col block size old new r →
+    (r : Result ℕ Stopped) → ColumnsPassed (lacking_record bs (length bs)) n t terms s until lay col block size old new r →
     ColumnsPassed bs n t terms s until lay col block size old new r
 columns_lacking bs n t terms s until lay col block size old new r x =
     subst (λ l. ColumnsPassed l n t terms s until lay col block size old new r) (lacking_nothing bs) x
 
 -- nor does one column to an entry change their number
-pub columns_one : (bs : List ℕ) (n t : ℕ) (terms : Terms) (s until low block size : ℕ) (old new : List ℕ) (r : Ended) →
+pub columns_one : (bs : List ℕ) (n t : ℕ) (terms : Terms) (s until low block size : ℕ) (old new : List ℕ) (r : Result ℕ Stopped) →
     ColumnsPassed bs n t terms s until whole (block_column low (block * 1)) block size old new r →
     ColumnsPassed bs n t terms s until whole (block_column low block) block size old new r
 columns_one bs n t terms s until low block size old new r x =
     subst (λ k. ColumnsPassed bs n t terms s until whole (block_column low k) block size old new r) (mul-one block) x
 
-pub columns_whole : (bs : List ℕ) (n t : ℕ) (terms : Terms) (s until low block size : ℕ) (old new : List ℕ) (r : Ended) →
+pub columns_whole : (bs : List ℕ) (n t : ℕ) (terms : Terms) (s until low block size : ℕ) (old new : List ℕ) (r : Result ℕ Stopped) →
     ColumnsPassed (lacking_record bs (length bs)) n t terms s until whole (block_column low (block * 1)) block size old new r →
     ColumnsPassed bs n t terms s until whole (block_column low block) block size old new r
 columns_whole bs n t terms s until low block size old new r x =
@@ -459,17 +458,17 @@ module _ (bs : List ℕ) (n t : ℕ) (terms : Terms) (d s low block split : ℕ)
             (shortest_by_last bs n t terms ready.accepted s z) (y.entries.thin z inside (y.stations (omega arith) z inside));
       }
 
-  packed_ends : (e : Ended) → EndedAs bs n t terms s n (lanes_by split) col block new e → PackedAs bs n t terms s low block split new (packed_as e)
-  unfolding EndedAs PackedAs packed_as is_too_many over_of
-  packed_ends (ended.Settled e) x = (
+  packed_ends : (e : Result ℕ Stopped) → EndedAs bs n t terms s n (lanes_by split) col block new e → PackedAs bs n t terms s low block split new (packed_as e)
+  unfolding EndedAs PackedAs is_too_many
+  packed_ends (Ok e) x = (
     whole_none (lanes_by split) bs n t terms s ready.accepted ready.source col block new e x,
-    packed_counted (whole_settled (lanes_by split) bs n t terms s ready.accepted ready.source col block new (ended.Settled e) refl x),
+    packed_counted (whole_settled (lanes_by split) bs n t terms s ready.accepted ready.source col block new (Ok e) refl x),
   )
-  packed_ends ended.StationTooMany x = let none = x.appearances in let station = x.station in rw (none, station)
-  packed_ends ended.AppearanceTooMany x = rw x
-  packed_ends ended.TooWide x = λ zero. x (ap (λ k. 2 ^ k) zero)
+  packed_ends (Err stopped.StationTooMany) x = let none = x.appearances in let station = x.station in rw (none, station)
+  packed_ends (Err stopped.AppearanceTooMany) x = rw x
+  packed_ends (Err stopped.TooWide) x = λ zero. x (ap (λ k. 2 ^ k) zero)
 
-  pub packed_passed : (r : Packed) (e : Ended)
+  pub packed_passed : (r : Result Unit Unpacked) (e : Result ℕ Stopped)
       → ColumnsPassed bs n t terms s n (lanes_by split) (block_column low (block * 2 ^ split)) block (pass_size n t terms d block) old new e
       → r ≡ packed_as e → PackedPassed bs n t terms d s low block split old new r
   unfolding col

@@ -2,21 +2,21 @@
 -- stations how many shortest walks do not have it inside; or for a set of stations how many shortest walks to one
 -- destination have no member inside. Definitions only.
 -- Assumes nothing.
-use Rattle.std.specs.Prelude.{ℕ, ◌+◌, ◌-◌, ◌*◌, ◌/◌, ◌%◌, ◌^◌, ◌<◌, ◌≤◌, min, ◌≡◌, Bool, true, false, cond, List, ◌⊎◌, ◌≢◌, leb, eqb, length, get_or, drop}
+use Rattle.std.specs.Prelude.{ℕ, ◌+◌, ◌-◌, ◌*◌, ◌/◌, ◌%◌, ◌^◌, ◌<◌, ◌≤◌, min, ◌≡◌, Bool, true, false, cond, Result, Ok, Err, List, ◌⊎◌, ◌≢◌, leb, eqb, length, get_or, drop}
 use Rattle.temporal.specs.Plan.{Terms, Keeps, Allowed}
 use Rattle.temporal.specs.Bytes.{plan_of}
 use Rattle.temporal.specs.Cause.{plan_fault, is_too_many}
 use Rattle.temporal.specs.Shortest.{shortest_walks_to, hops, count, through}
 use Rattle.temporal.specs.Set.{touched}
-use Rattle.pass.specs.declared.Ended.{Ended}
-use Rattle.pass.specs.declared.Ended.TheVariants as ended
+use Rattle.pass.specs.declared.Stopped.{Stopped}
+use Rattle.pass.specs.declared.Stopped.TheVariants as stopped
 use Rattle.pass.specs.Column.{lanes_by, columns_in, column_at}
 use Rattle.pass.specs.PassedColumns.{waiting, area_size}
 use Rattle.widths.specs.Found.{widths_size, Narrow}
 use Rattle.stale.specs.Depth.{Deep}
 use Rattle.stale.specs.Size.{window_size, window_columns}
-use Rattle.forward.specs.declared.Packed.{Packed}
-use Rattle.forward.specs.declared.Packed.TheVariants as packed
+use Rattle.forward.specs.declared.Unpacked.{Unpacked}
+use Rattle.forward.specs.declared.Unpacked.TheVariants as unpacked
 use Rattle.forward.specs.declared.Splits.{Splits}
 
 -- How many entries of the work area the pass uses, with blocks of so many columns; d appearances of a station are kept where readings go
@@ -112,11 +112,14 @@ pub record SetPassed (bs : List ℕ) (n t : ℕ) (terms : Terms) (s z : ℕ) (se
 -- ---- several stations to an entry
 
 -- what the end of a pass says
-unfoldable pub packed_as : Ended → Packed
-packed_as (ended.Settled e) = packed.Counted
-packed_as ended.StationTooMany = packed.TooMany
-packed_as ended.AppearanceTooMany = packed.TooMany
-packed_as ended.TooWide = packed.TooWide
+abbrev pub unpacked_as : Stopped → Unpacked
+unpacked_as stopped.StationTooMany = unpacked.TooMany
+unpacked_as stopped.AppearanceTooMany = unpacked.TooMany
+unpacked_as stopped.TooWide = unpacked.TooWide
+
+abbrev pub packed_as : Result ℕ Stopped → Result Unit Unpacked
+packed_as (Ok e) = Ok tt
+packed_as (Err e) = Err (unpacked_as e)
 
 -- what the pass asks then: as for a block, with rows of so many entries, 2^split stations to each
 pub record PackedReady (bs : List ℕ) (n t : ℕ) (terms : Terms) (d s block split : ℕ) (work : List ℕ) : Type 0 where
@@ -139,14 +142,14 @@ pub record PackedCounted (bs : List ℕ) (n t : ℕ) (terms : Terms) (s low bloc
       → (2 ^ split ≡ 1) ⊎ (count (shortest_walks_to (plan_of bs n t terms) s z) < 2 ^ (64 / 2 ^ split))
 
 -- how it ends
-unfoldable pub PackedAs : List ℕ → ℕ → ℕ → Terms → ℕ → ℕ → ℕ → ℕ → List ℕ → Packed → Type 0
-PackedAs bs n t terms s low block split work packed.Counted =
+unfoldable pub PackedAs : List ℕ → ℕ → ℕ → Terms → ℕ → ℕ → ℕ → ℕ → List ℕ → Result Unit Unpacked → Type 0
+PackedAs bs n t terms s low block split work (Ok e) =
     (is_too_many (plan_of bs n t terms) s ≡ false) × PackedCounted bs n t terms s low block split work
-PackedAs bs n t terms s low block split work packed.TooMany = is_too_many (plan_of bs n t terms) s ≡ true
-PackedAs bs n t terms s low block split work packed.TooWide = split ≢ 0
+PackedAs bs n t terms s low block split work (Err unpacked.TooMany) = is_too_many (plan_of bs n t terms) s ≡ true
+PackedAs bs n t terms s low block split work (Err unpacked.TooWide) = split ≢ 0
 
 -- what it promises
-pub record PackedPassed (bs : List ℕ) (n t : ℕ) (terms : Terms) (d s low block split : ℕ) (old new : List ℕ) (r : Packed) : Type 0 where
+pub record PackedPassed (bs : List ℕ) (n t : ℕ) (terms : Terms) (d s low block split : ℕ) (old new : List ℕ) (r : Result Unit Unpacked) : Type 0 where
   pub ends : PackedAs bs n t terms s low block split new r
   pub beyond : drop (pass_size n t terms d block) new ≡ drop (pass_size n t terms d block) old
   pub same_length : length new ≡ length old

@@ -8,7 +8,7 @@ ghost use Rattle.temporal.specs.Bytes.{plan_of};
 ghost use Rattle.temporal.specs.Cause.{is_too_many};
 ghost use Rattle.temporal.specs.Struck.{lacking_record};
 ghost use Rattle.pass.specs.Column.{block_column, column_of, whole, lanes_by, split_of};
-ghost use Rattle.pass.specs.PassedColumns.{area_size, Spared, ColumnsPassed, over_of, slot_of};
+ghost use Rattle.pass.specs.PassedColumns.{area_size, Spared, ColumnsPassed, slot_of};
 ghost use Rattle.stale.specs.Depth.{DepthOf};
 ghost use Rattle.stale.specs.Size.{window_size};
 ghost use Rattle.forward.specs.Passed.{
@@ -22,7 +22,7 @@ ghost use Rattle.forward.specs.Passed.{
   Passed,
   SetReady,
   SetPassed,
-  packed_as,
+  unpacked_as,
   PackedReady,
   PackedPassed,
   GroupAsked,
@@ -36,14 +36,24 @@ ghost use Rattle.forward.specs.Passed.{
   later_splits,
 };
 
-use pass::{Columns, Ended};
+use pass::{Columns, Stopped};
 
-// How a pass ends whose rows hold several counts to an entry: with every count, with one over 2^64 - 1, or with one that does not fit.
-#[derive(Clone, Copy)]
-pub enum Packed {
-    Counted,
+// Why a pass whose rows hold several counts to an entry does not have every count: one is over 2^64 - 1, or does not fit.
+#[derive(Clone, Copy, Debug, PartialEq, Eq)]
+pub enum Unpacked {
     TooMany,
     TooWide,
+}
+
+impl From<Stopped> for Unpacked {
+    ghost from_gives = { λ e r. r ≡ unpacked_as e };
+
+    fn from(stopped: Stopped) -> Unpacked {
+        match stopped {
+            Stopped::StationTooMany | Stopped::AppearanceTooMany => Unpacked::TooMany,
+            Stopped::TooWide => Unpacked::TooWide,
+        }
+    }
 }
 
 // What is known of the next sources that are worked on: how many they are, and the split of each, two bits each, the first lowest.
@@ -129,7 +139,7 @@ fn pass_slots(
     set: &[u8],
     block: usize,
     until: usize,
-) -> Ended
+) -> Result<usize, Stopped>
     requires { UntilReady (lacking_record plan.now out) n t (units g h) depth source until block work.old × (split_of columns ≤ 3) ×
         Spared known (lacking_record plan.now out) n t (units g h) source }
     ensures { ColumnsPassed (lacking_record plan.now out) n t (units g h) source until (lanes_by (split_of columns))
@@ -162,7 +172,7 @@ pub fn pass_until(
     low: usize,
     block: usize,
     until: usize,
-) -> Ended
+) -> Result<usize, Stopped>
     requires { UntilReady plan.now n t (units g h) depth source until block work.old ×
         (known ≡ true → is_too_many (plan_of plan.now n t (units g h)) source ≡ false) }
     ensures { ColumnsPassed plan.now n t (units g h) source until whole (block_column low block) block
@@ -186,64 +196,11 @@ pub fn pass_until(
     )
 }
 
-// Whether a pass met a count over 2^64 - 1, or too wide for its lane.
-fn over(ended: Ended) -> bool
-    ensures { result ≡ over_of ended }
-{
-    match ended {
-        Ended::Settled(_) => {
-            return false;
-        }
-        Ended::StationTooMany => {
-            return true;
-        }
-        Ended::AppearanceTooMany => {
-            return true;
-        }
-        Ended::TooWide => {
-            return true;
-        }
-    }
-}
-
 // The slot in which a pass ended settled; 0 where it met a count over 2^64 - 1, or too wide for its lane.
-pub fn settled_slot(ended: Ended) -> usize
+pub fn settled_slot(ended: Result<usize, Stopped>) -> usize
     ensures { result ≡ slot_of ended }
 {
-    match ended {
-        Ended::Settled(slot) => {
-            return slot;
-        }
-        Ended::StationTooMany => {
-            return 0;
-        }
-        Ended::AppearanceTooMany => {
-            return 0;
-        }
-        Ended::TooWide => {
-            return 0;
-        }
-    }
-}
-
-// What the end of a pass through every slot says.
-fn packed_of(ended: Ended) -> Packed
-    ensures { result ≡ packed_as ended }
-{
-    match ended {
-        Ended::Settled(_) => {
-            return Packed::Counted;
-        }
-        Ended::StationTooMany => {
-            return Packed::TooMany;
-        }
-        Ended::AppearanceTooMany => {
-            return Packed::TooMany;
-        }
-        Ended::TooWide => {
-            return Packed::TooWide;
-        }
-    }
+    ended.unwrap_or(0)
 }
 
 // The pass for a block of stations through every slot, with 2^split stations to an entry of a row of so many entries, without the record
@@ -263,13 +220,13 @@ pub fn pass_packed(
     low: usize,
     block: usize,
     split: usize,
-) -> Packed
+) -> Result<(), Unpacked>
     requires { PackedReady (lacking_record plan.now out) n t (units g h) depth source block split work.old ×
         (known ≡ true → is_too_many (plan_of (lacking_record plan.now out) n t (units g h)) source ≡ false) }
     ensures { PackedPassed (lacking_record plan.now out) n t (units g h) depth source low block split
         work.old work.new result }
 {
-    let ended = pass_slots(
+    pass_slots(
         work,
         plan,
         out,
@@ -284,8 +241,8 @@ pub fn pass_packed(
         &plan[0..0],
         block,
         n,
-    );
-    packed_of(ended)
+    )?;
+    Ok(())
 }
 
 // The pass for a block of stations through every slot, without the record at position out; where there is none, the plan is whole. True
@@ -307,7 +264,7 @@ pub fn pass_without(
     ensures { Passed (lacking_record plan.now out) n t (units g h) depth source low block
         work.old work.new result }
 {
-    let ended = pass_slots(
+    pass_slots(
         work,
         plan,
         out,
@@ -322,8 +279,8 @@ pub fn pass_without(
         &plan[0..0],
         block,
         n,
-    );
-    over(ended)
+    )
+    .is_err()
 }
 
 // The same for the whole plan.
@@ -373,7 +330,7 @@ pub fn set_pass(
     ensures { SetPassed plan.now n t (units g h) source destination set.now work.old
         work.new result }
 {
-    let ended = pass_slots(
+    pass_slots(
         work,
         plan,
         plan.len(),
@@ -388,8 +345,8 @@ pub fn set_pass(
         set,
         1,
         n,
-    );
-    over(ended)
+    )
+    .is_err()
 }
 
 // How many entries a source takes in the pass without rows, with q parts of what waits.

@@ -1,5 +1,5 @@
 -- The loop of the pass: what holds whenever its test is reached, and what it makes of the work area. Assumes nothing.
-use Rattle.std.proofs.Common.{◌≡◌, ℕ, suc, ◌+◌, ◌-◌, ◌*◌, ◌^◌, ◌<◌, ◌≤◌, Bool, true, false, cond, eqb, ltb, ◌≢◌, List, length, get_or, drop, sym, refl, ap, ◌∙◌, subst, pos_of_ne-zero, arith, length-drop, get_or-drop, ext_get_or, ltb-false, ltb-true, eqb-true}
+use Rattle.std.proofs.Common.{◌≡◌, ℕ, suc, ◌+◌, ◌-◌, ◌*◌, ◌^◌, ◌<◌, ◌≤◌, Bool, true, false, cond, eqb, ltb, ◌≢◌, Result, Ok, Err, List, length, get_or, drop, sym, refl, ap, ◌∙◌, subst, pos_of_ne-zero, arith, length-drop, get_or-drop, ext_get_or, ltb-false, ltb-true, eqb-true}
 use native.Mathlib.Decide.{dec_le, ℕ_discrete}
 use mathlib.Core.Logic.{by_cases}
 use mathlib.Core.Option.{some as present}
@@ -22,8 +22,8 @@ use Rattle.counting.proofs.Recurrence.{at_appearance, arrivals}
 use Rattle.plan.specs.Record.{in_slot, SlotRecords}
 use Rattle.plan.proofs.SlotLaws.{in_slot_inv}
 use Rattle.entries.proofs.HopLaws.{few_slots}
-use Rattle.pass.specs.declared.Ended.{Ended}
-use Rattle.pass.specs.declared.Ended.TheVariants as ended
+use Rattle.pass.specs.declared.Stopped.{Stopped}
+use Rattle.pass.specs.declared.Stopped.TheVariants as stopped
 use Rattle.pass.specs.Entry.{area_overflows, reached_entry}
 use Rattle.lanes.specs.Lane.{ones}
 use Rattle.pass.specs.Row.{part_at}
@@ -273,8 +273,8 @@ module _ {bs : List ℕ} {n t : ℕ} {terms : Terms} {s until : ℕ} {known : Bo
           next_beyond = drop_same (area_size n q block) w' old held.same held.beyond
 
           module _ (over : r ≡ true) where
-            stopped_with : (d : Ended) → EndedAs bs n t terms s until lay col block w' d
-                → ColumnsPassed bs n t terms s until lay col block (area_size n (waiting t terms) block) old w' d
+            stopped_with : (d : Stopped) → EndedAs bs n t terms s until lay col block w' (Err d)
+                → ColumnsPassed bs n t terms s until lay col block (area_size n (waiting t terms) block) old w' (Err d)
             stopped_with d ends = record { ends = ends; beyond = rw (← x.parts) next_beyond; same_length = next_length }
 
             -- with one lane to an entry a large sequence is a cause of refusal
@@ -287,18 +287,18 @@ module _ {bs : List ℕ} {n t : ℕ} {terms : Terms} {s until : ℕ} {known : Bo
                 large.station (suc (u - q)) (here_arrived large.station) large.large)
 
             -- the pass stops, and nothing past the area is touched
-            pub passed_over : (split : ℕ) → lay.lanes ≡ 2 ^ split → (d : Ended) → d ≡ stopped_end split
-                → ColumnsPassed bs n t terms s until lay col block (area_size n (waiting t terms) block) old w' d
+            pub passed_over : (split : ℕ) → lay.lanes ≡ 2 ^ split → (d : Stopped) → d ≡ stopped_end split
+                → ColumnsPassed bs n t terms s until lay col block (area_size n (waiting t terms) block) old w' (Err d)
             unfolding stopped_end EndedAs
             passed_over split is d e = rw e (go (eqb split 0) refl)
               where
                 go : (b : Bool) → eqb split 0 ≡ b
                     → ColumnsPassed bs n t terms s until lay col block (area_size n (waiting t terms) block) old w'
-                    (cond b ended.AppearanceTooMany ended.TooWide)
-                go true f = stopped_with ended.AppearanceTooMany (over_whole (is ∙ ap (λ k. 2 ^ k) (eqb-true split 0 f)))
+                    (Err (cond b stopped.AppearanceTooMany stopped.TooWide))
+                go true f = stopped_with stopped.AppearanceTooMany (over_whole (is ∙ ap (λ k. 2 ^ k) (eqb-true split 0 f)))
                 go false f =
                     let several : 1 < 2 ^ split = pow-lt {i = 0} {j = split} (pos_of_ne-zero (eqb-false split 0 f)) in
-                    stopped_with ended.TooWide (λ one. omega (arith, is, several, one))
+                    stopped_with stopped.TooWide (λ one. omega (arith, is, several, one))
 
           module _ (few : r ≡ false) where
             none_over : (settled_by done_with.stations known lay n block base' s col w done_with.from done_with.many).over ≡ false
@@ -343,7 +343,7 @@ module _ {bs : List ℕ} {n t : ℕ} {terms : Terms} {s until : ℕ} {known : Bo
 
             -- it has one, and the pass ends
             pub passed_reached : reached_entry n w' until ≡ true
-                → ColumnsPassed bs n t terms s until lay col block (area_size n (waiting t terms) block) old w' (ended.Settled (u + 1 - q))
+                → ColumnsPassed bs n t terms s until lay col block (area_size n (waiting t terms) block) old w' (Ok (u + 1 - q))
             unfolding EndedAs
             passed_reached in_reach =
                 record {
@@ -360,7 +360,7 @@ module _ {bs : List ℕ} {n t : ℕ} {terms : Terms} {s until : ℕ} {known : Bo
                 }
 
   -- past the last slot the stations' counts are looked at, where the pass waits for none
-  pub passed_end : (r : Ended) → t + q ≤ u
+  pub passed_end : (r : Result ℕ Stopped) → t + q ≤ u
       → r ≡ last_ended n t until (any (area_overflows n w) (below n))
       → ColumnsPassed bs n t terms s until lay col block (area_size n (waiting t terms) block) old w r
   unfolding last_ended EndedAs
@@ -394,7 +394,7 @@ module _ {bs : List ℕ} {n t : ℕ} {terms : Terms} {s until : ℕ} {known : Bo
           }
 
       go : (b : Bool) → ltb until n ≡ b → (c : Bool) → any (area_overflows n w) (below n) ≡ c
-          → EndedAs bs n t terms s until lay col block w (cond b (ended.Settled t) (cond c ended.StationTooMany (ended.Settled t)))
+          → EndedAs bs n t terms s until lay col block w (cond b (Ok t) (cond c (Err stopped.StationTooMany) (Ok t)))
       go true q c f = settled_last (λ none. absurd (let there = ltb-true until n q in omega arith))
       go false q true f =
           record {
@@ -465,7 +465,7 @@ module _ (bs : List ℕ) (n t : ℕ) (terms : Terms) (s until : ℕ) (known : Bo
       }
 
   -- what is promised from there on is promised from the entry on
-  pub passed_entry : (new : List ℕ) (r : Ended)
+  pub passed_entry : (new : List ℕ) (r : Result ℕ Stopped)
       → ColumnsPassed bs n t terms s until lay col block (area_size n (waiting t terms) block) begins new r
       → ColumnsPassed bs n t terms s until lay col block (area_size n (waiting t terms) block) old new r
   passed_entry new r x =

@@ -1,5 +1,5 @@
 -- The station that a pass waits for: what its settled entry says of the slot in which it is reached. Assumes nothing.
-use Rattle.std.proofs.Common.{◌≡◌, ℕ, ◌<◌, ◌≤◌, Bool, true, false, cond, ltb, ◌⊎◌, List, [], get_or, sym, refl, ◌∙◌, ⊎_elim, arith, ltb-false, ltb-true, le-ltb, lt-ltb}
+use Rattle.std.proofs.Common.{◌≡◌, ℕ, ◌<◌, ◌≤◌, Bool, true, false, cond, ltb, ◌⊎◌, Ok, Err, List, [], get_or, sym, refl, ◌∙◌, ⊎_elim, arith, ltb-false, ltb-true, le-ltb, lt-ltb}
 use Rattle.temporal.specs.Plan.{Terms}
 use Rattle.temporal.specs.Lists.{below, any}
 use Rattle.temporal.specs.Shortest.{hops, count}
@@ -13,7 +13,7 @@ use Rattle.walks.proofs.Accepted.{accepted}
 use Rattle.walks.proofs.Adequacy.{bounded_ends}
 use Rattle.walks.proofs.ForemostLaws.{arrival_past, arrival_by, arrival_outside, shortest_by_last}
 use Rattle.entries.proofs.HopLaws.{few_slots}
-use Rattle.pass.specs.declared.Ended.TheVariants as ended
+use Rattle.pass.specs.declared.Stopped.TheVariants as stopped
 use Rattle.pass.specs.Entry.{reached_entry}
 use Rattle.pass.specs.PassedColumns.{last_ended}
 use Rattle.pass.proofs.ColumnLaws.{may_leave}
@@ -33,15 +33,15 @@ pub reached_outside : (n : ℕ) (w : List ℕ) (v : ℕ) → n ≤ v → false �
 unfolding reached_entry
 reached_outside n w v h = sym (rw (le-ltb v n h))
 
-pub last_waits : (n t until : ℕ) (over : Bool) → until < n → ended.Settled t ≡ last_ended n t until over
+pub last_waits : (n t until : ℕ) (over : Bool) → until < n → Ok t ≡ last_ended n t until over
 unfolding last_ended
 last_waits n t until over h = sym (rw (lt-ltb until n h))
 
-pub last_over : (n t until : ℕ) (over : Bool) → n ≤ until → over ≡ true → ended.StationTooMany ≡ last_ended n t until over
+pub last_over : (n t until : ℕ) (over : Bool) → n ≤ until → over ≡ true → Err stopped.StationTooMany ≡ last_ended n t until over
 unfolding last_ended
 last_over n t until over h e = sym (rw (le-ltb until n h, e))
 
-pub last_settled : (n t until : ℕ) (over : Bool) → n ≤ until → over ≡ false → ended.Settled t ≡ last_ended n t until over
+pub last_settled : (n t until : ℕ) (over : Bool) → n ≤ until → over ≡ false → Ok t ≡ last_ended n t until over
 unfolding last_ended
 last_settled n t until over h e = sym (rw (le-ltb until n h, e))
 

@@ -5,7 +5,7 @@ use lib.Pow.{pow-lt}
 use Rattle.entries.specs.Entry.{merged_count}
 use Rattle.lanes.specs.Lane.{without_lane, ones, lanes_of, width_of}
 use Rattle.lanes.proofs.LaneLaws.{lanes_fill, lane_asked}
-use Rattle.pass.specs.declared.Ended.TheVariants as ended
+use Rattle.pass.specs.declared.Stopped.TheVariants as stopped
 use Rattle.pass.specs.declared.Columns.{Columns}
 use Rattle.pass.specs.Row.{row_at}
 use Rattle.pass.specs.Column.{column_of, lanes_by}
@@ -32,13 +32,13 @@ begun_split n block q s split x one w out e f g = g ∙ ap (begun_area n block q
 pub wide_split : (x split h c l d : ℕ) → x ≡ split → too_wide (lanes_by x) h c l d ≡ too_wide (lanes_by split) h c l d
 wide_split x split h c l d e = ap (λ y. too_wide (lanes_by y) h c l d) e
 
--- how a pass ends that stops, by the split
+-- why a pass stops, by the split
 module _ (x split : ℕ) (is : x ≡ split) where
-  pub stopped_whole : x ≡ 0 → ended.AppearanceTooMany ≡ stopped_end split
+  pub stopped_whole : x ≡ 0 → stopped.AppearanceTooMany ≡ stopped_end split
   unfolding stopped_end
   stopped_whole e = rw (eq-eqb split 0 (sym is ∙ e))
 
-  pub stopped_wide : x ≢ 0 → ended.TooWide ≡ stopped_end split
+  pub stopped_wide : x ≢ 0 → stopped.TooWide ≡ stopped_end split
   unfolding stopped_end
   stopped_wide d = rw (ne_eqb split 0 (λ e. d (is ∙ e)))
 

@@ -1,15 +1,15 @@
 -- What the pass asks and promises for any columns, to the slot in which it ends: col gives the column that stands for a station.
 -- Definitions only.
 -- Assumes nothing.
-use Rattle.std.specs.Prelude.{◌≡◌, ℕ, ◌+◌, ◌*◌, ◌^◌, ◌<◌, ◌≤◌, min, Bool, true, false, cond, ◌≢◌, ◌⊎◌, List, length, drop, ◌==◌, nat_eq, nat_lt, slice_index}
+use Rattle.std.specs.Prelude.{◌≡◌, ℕ, ◌+◌, ◌*◌, ◌^◌, ◌<◌, ◌≤◌, min, Bool, true, false, cond, Result, Ok, Err, ◌≢◌, ◌⊎◌, List, length, drop, ◌==◌, nat_eq, nat_lt, slice_index}
 use Rattle.temporal.specs.Plan.{Terms, Lasting}
 use Rattle.temporal.specs.Bytes.{plan_of}
 use Rattle.temporal.specs.Cause.{plan_fault, appearance_too_many, station_too_many}
 use Rattle.temporal.specs.Shortest.{shortest_walks, hops, count}
 use Rattle.temporal.specs.Set.{touched_in}
 use Rattle.temporal.specs.Foremost.{arrival, walks_by}
-use Rattle.pass.specs.declared.Ended.{Ended}
-use Rattle.pass.specs.declared.Ended.TheVariants as ended
+use Rattle.pass.specs.declared.Stopped.{Stopped}
+use Rattle.pass.specs.declared.Stopped.TheVariants as stopped
 use Rattle.pass.specs.Row.{part_size}
 use Rattle.pass.specs.Column.{Lanes, columns_in, column_at}
 
@@ -64,41 +64,32 @@ pub record StationMet (bs : List ℕ) (n t : ℕ) (terms : Terms) (s until : ℕ
   pub station : station_too_many (plan_of bs n t terms) s ≡ true
 
 -- how a pass ends; a count can only be too wide for its lane where an entry has several
-unfoldable pub EndedAs : List ℕ → ℕ → ℕ → Terms → ℕ → ℕ → Lanes → (ℕ → ℕ) → ℕ → List ℕ → Ended → Type 0
-EndedAs bs n t terms s until lay col block work (ended.Settled e) = SettledAt bs n t terms s until lay col block work e
-EndedAs bs n t terms s until lay col block work ended.StationTooMany = StationMet bs n t terms s until
-EndedAs bs n t terms s until lay col block work ended.AppearanceTooMany = appearance_too_many (plan_of bs n t terms) s ≡ true
-EndedAs bs n t terms s until lay col block work ended.TooWide = lay.lanes ≢ 1
+unfoldable pub EndedAs : List ℕ → ℕ → ℕ → Terms → ℕ → ℕ → Lanes → (ℕ → ℕ) → ℕ → List ℕ → Result ℕ Stopped → Type 0
+EndedAs bs n t terms s until lay col block work (Ok e) = SettledAt bs n t terms s until lay col block work e
+EndedAs bs n t terms s until lay col block work (Err stopped.StationTooMany) = StationMet bs n t terms s until
+EndedAs bs n t terms s until lay col block work (Err stopped.AppearanceTooMany) = appearance_too_many (plan_of bs n t terms) s ≡ true
+EndedAs bs n t terms s until lay col block work (Err stopped.TooWide) = lay.lanes ≢ 1
 
 -- What a pass promises: how it ends, and that nothing past its part of the work area, of so many entries, is touched.
 pub record ColumnsPassed (bs : List ℕ) (n t : ℕ) (terms : Terms) (s until : ℕ) (lay : Lanes) (col : ℕ → ℕ) (block size : ℕ) (old new : List ℕ)
-    (r : Ended) : Type 0 where
+    (r : Result ℕ Stopped) : Type 0 where
   pub ends : EndedAs bs n t terms s until lay col block new r
   pub beyond : drop size new ≡ drop size old
   pub same_length : length new ≡ length old
 
--- whether a pass met a count over 2^64 - 1, or too wide for its lane
-unfoldable pub over_of : Ended → Bool
-over_of (ended.Settled e) = false
-over_of ended.StationTooMany = true
-over_of ended.AppearanceTooMany = true
-over_of ended.TooWide = true
-
 -- the slot in which a pass ended settled; 0 where it met a count over 2^64 - 1
-unfoldable pub slot_of : Ended → ℕ
-slot_of (ended.Settled e) = e
-slot_of ended.StationTooMany = 0
-slot_of ended.AppearanceTooMany = 0
-slot_of ended.TooWide = 0
+unfoldable pub slot_of : Result ℕ Stopped → ℕ
+slot_of (Ok e) = e
+slot_of (Err e) = 0
 
 -- what it met then: an appearance, or a station where it waits for none
 abbrev pub Overfull : List ℕ → ℕ → ℕ → Terms → ℕ → ℕ → Type 0
 Overfull bs n t terms s until = (appearance_too_many (plan_of bs n t terms) s ≡ true) ⊎ StationMet bs n t terms s until
 
--- how a pass ends that stops while it settles, where an entry has 2^split lanes
-unfoldable pub stopped_end : ℕ → Ended
-stopped_end split = cond (split == 0) ended.AppearanceTooMany ended.TooWide
+-- why a pass stops while it settles, where an entry has 2^split lanes
+unfoldable pub stopped_end : ℕ → Stopped
+stopped_end split = cond (split == 0) stopped.AppearanceTooMany stopped.TooWide
 
 -- how a pass ends past the last slot t, where the Boolean says whether some station's settled entry is over 2^64 - 1
-unfoldable pub last_ended : ℕ → ℕ → ℕ → Bool → Ended
-last_ended n t until over = cond (nat_lt until n) (ended.Settled t) (cond over ended.StationTooMany (ended.Settled t))
+unfoldable pub last_ended : ℕ → ℕ → ℕ → Bool → Result ℕ Stopped
+last_ended n t until over = cond (nat_lt until n) (Ok t) (cond over (Err stopped.StationTooMany) (Ok t))

@@ -43,11 +43,10 @@ pub enum Columns {
     Members(usize),
 }
 
-// How a pass ends: settled in a slot; with a station that has over 2^64 - 1 shortest walks; with an appearance that has; or with a count
-// that does not fit a lane, where an entry has several.
-#[derive(Clone, Copy)]
-pub enum Ended {
-    Settled(usize),
+// Why a pass stops that is not settled in a slot: a station has over 2^64 - 1 shortest walks; an appearance has; or a count does not fit a
+// lane, where an entry has several.
+#[derive(Clone, Copy, Debug, PartialEq, Eq)]
+pub enum Stopped {
     StationTooMany,
     AppearanceTooMany,
     TooWide,
@@ -531,28 +530,28 @@ fn reached(work: &[u64], n: usize, until: usize) -> bool
     false
 }
 
-// How a pass ends past the last slot: where it waits for no station, every station's count is looked at.
-pub fn end_pass(work: &[u64], n: usize, t: usize, until: usize) -> Ended
+// The slot in which a pass is settled past the last one: where it waits for no station, every station's count is looked at.
+pub fn end_pass(work: &[u64], n: usize, t: usize, until: usize) -> Result<usize, Stopped>
     requires { 2 * n ≤ length work.now }
     ensures { result ≡ last_ended n t until (any (area_overflows n work.now) (below n)) }
 {
     if until < n {
-        return Ended::Settled(t);
+        return Ok(t);
     }
     if any_overflows(work, n) {
-        return Ended::StationTooMany;
+        return Err(Stopped::StationTooMany);
     }
-    Ended::Settled(t)
+    Ok(t)
 }
 
-// How a pass ends that stops while it settles.
-pub fn stopped(columns: Columns) -> Ended
+// Why a pass stops while it settles.
+pub fn stop_reason(columns: Columns) -> Stopped
     ensures { result ≡ stopped_end (split_of columns) }
 {
     if split_of(columns) == 0 {
-        return Ended::AppearanceTooMany;
+        return Stopped::AppearanceTooMany;
     }
-    Ended::TooWide
+    Stopped::TooWide
 }
 
 // The position past the records of slot u, which stand from i on; j is that position where what waits is settled in the next slot.
@@ -570,7 +569,7 @@ pub fn settled_end(plan: &[u8], out: usize, q: usize, u: usize, i: usize, j: usi
 // waits in its part and is settled, q slots later, before that part is used again, for the hearers of that slot's records; past the last
 // slot the parts are settled one by one. The records from j on are not folded in yet, those from i on not settled. The record at position
 // out is left out; where there is none, the plan is whole. Where cause 9 is known not to hold, a record whose hearer has fewer hops
-// already is passed over.
+// already is passed over. Returns the slot in which it is settled, or why it stops.
 pub fn pass_columns(
     work: &mut [u64],
     plan: &[u8],
@@ -585,7 +584,7 @@ pub fn pass_columns(
     set: &[u8],
     block: usize,
     until: usize,
-) -> Ended
+) -> Result<usize, Stopped>
     requires { ColumnsReady (lacking_record plan.now out) n t (units g h) source until block work.old × (split_of columns ≤ 3) ×
         Spared known (lacking_record plan.now out) n t (units g h) source }
     ensures { ColumnsPassed (lacking_record plan.now out) n t (units g h) source until (lanes_by (split_of columns))
@@ -611,11 +610,11 @@ pub fn pass_columns(
             if settle_slot(
                 work, plan, out, known, n, block, base, source, columns, set, i, end,
             ) {
-                return stopped(columns);
+                return Err(stop_reason(columns));
             }
             i = end;
             if reached(work, n, until) {
-                return Ended::Settled(u - q);
+                return Ok(u - q);
             }
         }
     }

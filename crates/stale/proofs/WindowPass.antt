@@ -1,5 +1,5 @@
 -- The loop of the pass where readings go stale: from slot to slot, the beginning and the end. Assumes nothing.
-use Rattle.std.proofs.Common.{◌≡◌, ℕ, ◌+◌, ◌-◌, ◌*◌, ◌%◌, ◌^◌, ◌<◌, ◌≤◌, Bool, true, false, cond, eqb, ltb, ◌≢◌, ◌⊎◌, List, length, get_or, drop, set, sym, refl, ap, ◌∙◌, subst, inl, inr, pos_of_ne-zero, add-one, arith, get_or-set_other, ltb-false, ltb-true, eqb-true}
+use Rattle.std.proofs.Common.{◌≡◌, ℕ, ◌+◌, ◌-◌, ◌*◌, ◌%◌, ◌^◌, ◌<◌, ◌≤◌, Bool, true, false, cond, eqb, ltb, ◌≢◌, ◌⊎◌, Result, Ok, Err, List, length, get_or, drop, set, sym, refl, ap, ◌∙◌, subst, inl, inr, pos_of_ne-zero, add-one, arith, get_or-set_other, ltb-false, ltb-true, eqb-true}
 use native.Mathlib.Decide.{dec_le, ℕ_discrete}
 use mathlib.Core.Logic.{by_cases}
 use mathlib.Core.Option.{some as present}
@@ -26,8 +26,8 @@ use Rattle.lanes.specs.Lane.{ones}
 use Rattle.memory.proofs.FillLaws.{filled_length, filled_other, filled_at}
 use Rattle.plan.specs.Record.{SlotRecords}
 use Rattle.plan.proofs.SlotLaws.{in_slot_inv, in_slot_none}
-use Rattle.pass.specs.declared.Ended.{Ended}
-use Rattle.pass.specs.declared.Ended.TheVariants as ended
+use Rattle.pass.specs.declared.Stopped.{Stopped}
+use Rattle.pass.specs.declared.Stopped.TheVariants as stopped
 use Rattle.pass.specs.Row.{part_size, row_at}
 use Rattle.pass.specs.Entry.{area_overflows}
 use Rattle.pass.specs.Sweep.{Sweep, sweep_of, emptied, emptied_from, begun_area}
@@ -345,8 +345,8 @@ module _ (bs : List ℕ) (n t : ℕ) (terms : Terms) (d s : ℕ) (lay : Lanes) (
             area j e of_slot ready.source (omega (arith, most, x.from_one)) ready.deep.1 end_inside end_small w x.state x.none))
 
         module _ (up : r ≡ true) where
-          stopped_with : (z : Ended) → EndedAs bs n t terms s n lay col block w' z
-              → ColumnsPassed bs n t terms s n lay col block (window_size n d block) old w' z
+          stopped_with : (z : Stopped) → EndedAs bs n t terms s n lay col block w' (Err z)
+              → ColumnsPassed bs n t terms s n lay col block (window_size n d block) old w' (Err z)
           stopped_with z ends =
               record { ends = ends; beyond = drop_same (window_size n d block) w' old left.same left.beyond; same_length = left.same }
 
@@ -359,18 +359,18 @@ module _ (bs : List ℕ) (n t : ℕ) (terms : Terms) (d s : ℕ) (lay : Lanes) (
               (λ k. refl) large.large)
 
           -- the pass stops, and nothing past the area is touched
-          pub passed_over : (split : ℕ) → lay.lanes ≡ 2 ^ split → (z : Ended) → z ≡ stopped_end split
-              → ColumnsPassed bs n t terms s n lay col block (window_size n d block) old w' z
+          pub passed_over : (split : ℕ) → lay.lanes ≡ 2 ^ split → (z : Stopped) → z ≡ stopped_end split
+              → ColumnsPassed bs n t terms s n lay col block (window_size n d block) old w' (Err z)
           unfolding stopped_end EndedAs
           passed_over split is z e = rw e (go (eqb split 0) refl)
             where
               go : (b : Bool) → eqb split 0 ≡ b
                   → ColumnsPassed bs n t terms s n lay col block (window_size n d block) old w'
-                  (cond b ended.AppearanceTooMany ended.TooWide)
-              go true f = stopped_with ended.AppearanceTooMany (over_whole (is ∙ ap (λ k. 2 ^ k) (eqb-true split 0 f)))
+                  (Err (cond b stopped.AppearanceTooMany stopped.TooWide))
+              go true f = stopped_with stopped.AppearanceTooMany (over_whole (is ∙ ap (λ k. 2 ^ k) (eqb-true split 0 f)))
               go false f =
                   let several : 1 < 2 ^ split = pow-lt {i = 0} {j = split} (pos_of_ne-zero (eqb-false split 0 f)) in
-                  stopped_with ended.TooWide (λ one. omega (arith, is, several, one))
+                  stopped_with stopped.TooWide (λ one. omega (arith, is, several, one))
 
         -- the pass is one slot further
         pub windowing_next : r ≡ false → Windowing bs n t terms s lay col block d old (u + 1) e w'
@@ -397,7 +397,7 @@ module _ (bs : List ℕ) (n t : ℕ) (terms : Terms) (d s : ℕ) (lay : Lanes) (
 
     -- ---- past the last slot
 
-    module _ (r : Ended) (past : t < u) (e : r ≡ last_ended n t n (any (area_overflows n w) (below n))) where
+    module _ (r : Result ℕ Stopped) (past : t < u) (e : r ≡ last_ended n t n (any (area_overflows n w) (below n))) where
       state : WindowState bs lay (plan_of bs n t terms) s (may_leave s col) n block d t j old w
       state =
           let l = x.last in
@@ -457,7 +457,7 @@ module _ (bs : List ℕ) (n t : ℕ) (terms : Terms) (d s : ℕ) (lay : Lanes) (
           }
         where
           go : (b : Bool) → ltb n n ≡ b → (c : Bool) → any (area_overflows n w) (below n) ≡ c
-              → EndedAs bs n t terms s n lay col block w (cond b (ended.Settled t) (cond c ended.StationTooMany (ended.Settled t)))
+              → EndedAs bs n t terms s n lay col block w (cond b (Ok t) (cond c (Err stopped.StationTooMany) (Ok t)))
           go true q c f = absurd (let less = ltb-true n n q in omega arith)
           go false q true f =
               record {
@@ -637,7 +637,7 @@ module _ (bs : List ℕ) (n t : ℕ) (terms : Terms) (d s : ℕ) (lay : Lanes) (
       }
 
   -- what is promised from there on is promised from the entry on
-  pub passed_entry : (new : List ℕ) (r : Ended) → ColumnsPassed bs n t terms s n lay col block (window_size n d block) begins new r
+  pub passed_entry : (new : List ℕ) (r : Result ℕ Stopped) → ColumnsPassed bs n t terms s n lay col block (window_size n d block) begins new r
       → ColumnsPassed bs n t terms s n lay col block (window_size n d block) old new r
   passed_entry new r x =
       record {

@@ -50,7 +50,7 @@ ghost use Rattle.stale.specs.Window.{
   WindowReady,
 };
 
-use pass::{Columns, Ended};
+use pass::{Columns, Stopped};
 
 // Takes the entry of station x in the part that begins at from, over no hop or one more, into the entry of station v in the part
 // that begins at to.
@@ -672,7 +672,7 @@ pub fn pass_window(
     columns: Columns,
     set: &[u8],
     block: usize,
-) -> Ended
+) -> Result<usize, Stopped>
     requires { WindowReady (lacking_record plan.now out) n t (units g h) depth source block work.old × (split_of columns ≤ 3) }
     ensures { ColumnsPassed (lacking_record plan.now out) n t (units g h) source n (lanes_by (split_of columns))
         (column_of columns set.now (block * 2 ^ split_of columns)) block (window_size n depth block)
@@ -686,7 +686,7 @@ pub fn pass_window(
         if window_slot(
             work, plan, out, n, block, g, h, depth, source, columns, set, u, j, end,
         ) {
-            return pass::stopped(columns);
+            return Err(pass::stop_reason(columns));
         }
         j = end;
         u += 1;

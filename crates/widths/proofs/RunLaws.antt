@@ -1,6 +1,6 @@
 -- The loop of the pass without rows: each column whose bound is small has the keys of the pass with empty rows for its source; at the end no
 -- count of that source is over 2^64 - 1. Assumes nothing.
-use Rattle.std.proofs.Common.{◌≡◌, ℕ, ◌+◌, ◌-◌, ◌*◌, ◌%◌, ◌<◌, ◌≤◌, true, false, List, length, get_or, replicate, sym, refl, ap, ◌∙◌, subst, inr, ⊎_elim, mod-lt, mul-le-mul, arith, le-ltb, ne_eqb}
+use Rattle.std.proofs.Common.{◌≡◌, ℕ, ◌+◌, ◌-◌, ◌*◌, ◌%◌, ◌<◌, ◌≤◌, true, false, Ok, List, length, get_or, replicate, sym, refl, ap, ◌∙◌, subst, inr, ⊎_elim, mod-lt, mul-le-mul, arith, le-ltb, ne_eqb}
 use lib.ListN.{length-replicate}
 use Rattle.temporal.specs.Lists.{below, any}
 use Rattle.temporal.specs.Plan.{Terms}
@@ -12,7 +12,6 @@ use Rattle.plan.specs.Record.{in_slot, SlotRecords}
 use Rattle.plan.proofs.SlotLaws.{in_slot_inv}
 use Rattle.entries.proofs.CountLaws.{overflows_some, overflows_none}
 use Rattle.lanes.specs.Lane.{ones}
-use Rattle.pass.specs.declared.Ended.TheVariants as ended
 use Rattle.pass.specs.Row.{part_size, part_at}
 use Rattle.pass.specs.Entry.{area_overflows, reached_entry}
 use Rattle.pass.specs.Column.{lanes_by}
@@ -325,7 +324,7 @@ module _ {bs : List ℕ} {n t : ℕ} {terms : Terms} {first many q : ℕ} {old :
 
       ends : SettledAt bs n t terms (first + c) n (lanes_by 0) (λ v. 0) 0 column.area t
       ends =
-          (passed_end column.passing (ended.Settled t) past
+          (passed_end column.passing (Ok t) past
           (sym (rw (le-ltb n n (omega arith), none)))).ends
 
       appearances : appearance_too_many (plan_of bs n t terms) (first + c) ≡ false

@@ -91,7 +91,7 @@ returns-then-settle_slot c =
     (passed_over c.loop-u.invariant
     (sym c.kept_in_slot.ensures ∙ c.if-kept_in_slot.false) _ c.part_at-base-in-loop-u.ensures
     c.if-q-u.true c.loop-u-test.true _ c.settled_end-end.ensures _ _
-    c.settle_slot.ensures c.if-settle_slot.true _ refl _ c.stopped.ensures)
+    c.settle_slot.ensures c.if-settle_slot.true _ refl _ c.stop_reason.ensures)
 
 pub reached-requires : goal.reached-requires
 reached-requires c =

@@ -41,7 +41,7 @@ returns-then-window_slot c =
     let ready = ready_begun _ _ _ _ _ _ _ _ _ _ c.requires.0 c.begin_window.ensures in
     passed_entry _ _ _ _ _ _ _ (filled_by _ c.requires.1) _ _ _ _ c.requires.0 c.begin_window.ensures _ _
     (passed_over _ _ _ _ _ _ _ _ _ _ ready _ _ _ c.loop-u.invariant _
-    c.kept_slot_end-end.ensures _ _ (omega arith) c.window_slot.ensures c.if-window_slot.true _ refl _ c.stopped.ensures)
+    c.kept_slot_end-end.ensures _ _ (omega arith) c.window_slot.ensures c.if-window_slot.true _ refl _ c.stop_reason.ensures)
 
 pub overflow_add-u : goal.overflow_add-u
 overflow_add-u c =
