@@ -3,20 +3,17 @@ use Prim.Native.Nat.{ℕ, suc, ◌+◌, ◌-◌, ◌≤◌, ◌<◌}
 use mathlib.Core.Path.{◌≡◌, sym, ap, ◌∙◌, subst}
 use mathlib.Core.Bool.{Bool, true, false}
 use mathlib.Core.List.{List}
-use mathlib.Core.Option.{none, bind}
+use mathlib.Core.Option.{Option, none, some, bind}
 use native.Mathlib.Omega.{arith}
 use lib.Dec.{eqb}
 use lib.ListN.{length, get_or, set, take}
-use Rattle.temporal.specs.Plan.{start}
+use Rattle.temporal.specs.Plan.{Appearance, start}
 use Rattle.temporal.specs.Walk.{holds, is_at}
 use Rattle.temporal.specs.Bytes.{records}
 use Rattle.walks.proofs.Accepted.{accepted}
 use Rattle.ways.specs.declared.Pair.{Pair}
 use Rattle.ways.specs.declared.Spot.{Spot}
-use Rattle.ways.specs.declared.End.{End}
-use Rattle.ways.specs.declared.End.TheVariants as end
-use Rattle.ways.specs.declared.Found.{Found}
-use Rattle.ways.specs.declared.Found.TheVariants as found
+use Rattle.std.specs.Prelude.{Option as Answer, Some, None, MatchOption}
 use Rattle.ways.specs.Prefix.{end_after, Advanced}
 use Rattle.ways.specs.Found.{spot_of, end_of, found_of, plan_in, begins, serves_at, first_from, found_at, Placed, put_at}
 use Rattle.ways.specs.Found.{is_offered, Searchable, Placeable, Listable, Startable, Advancable, Continuable}
@@ -26,49 +23,50 @@ use Rattle.ways.proofs.ListingLaws.{advanced_none, advanced_behind, offered_walk
 
 -- ---- a position is put
 
--- a position that was found is one of an accepted plan's, and fits 16 bits
-pub found_fits : (bs : List ℕ) (q : Pair) (l : List ℕ) (g : ℕ → Bool) (from : ℕ) (f : Found) (i : ℕ) → Searchable bs q l
-    → found_of f ≡ first_from g from (records bs - from)
-    → f ≡ found.At i
-    → i < 65536
-unfolding found_of
-found_fits bs q l g from f i s e at =
-    let (high, r) = first_some g from (records bs - from) (sym e ∙ ap found_of at) in
-    let low = r.low in
-    let few = (accepted bs q.stations q.slots s.accepted).few in
-    omega arith
-
-module _ (bs : List ℕ) (q : Pair) (l : List ℕ) (k from : ℕ) (b : List ℕ) (r : End)
+module _ (bs : List ℕ) (q : Pair) (l : List ℕ) (k from : ℕ) (b : List ℕ) (r : Answer Spot)
     (ends : end_of r ≡ end_after (plan_in bs q) (start q.source) (take k b)) where
   -- the entries before lead nowhere
-  pub placed_nowhere : r ≡ end.Nowhere
-      → ◌≡◌ {A = Placed} (record { answer = false; buffer = b }) (put_at k b (found_at bs q l k from b))
-  unfolding put_at found_at end_of bind
-  placed_nowhere e = rw (← ends, e)
-
-  pub found_nowhere : r ≡ end.Nowhere → found_of found.Nothing ≡ found_at bs q l k from b
+  pub found_nowhere : r ≡ None → found_of None ≡ found_at bs q l k from b
   unfolding found_at end_of found_of bind
   found_nowhere e = rw (← ends, e)
 
-  module _ (x : Spot) (at : r ≡ end.At x) (f : Found)
-      (search : found_of f ≡ first_from (serves_at (plan_in bs q) l (q.slots + 1) (spot_of x) (q.hops - (k + 1))) from
-      (records bs - from)) where
-    -- the search goes on from where they lead
-    pub found_there : found_at bs q l k from b ≡ found_of f
-    unfolding found_at end_of bind
-    found_there = rw (← ends, at) (sym search)
+  -- the search goes on from where they lead
+  pub found_there : (x : Spot) → r ≡ Some x → (f : Answer ℕ)
+      → found_of f ≡ first_from (serves_at (plan_in bs q) l (q.slots + 1) (spot_of x) (q.hops - (k + 1))) from
+      (records bs - from)
+      → found_at bs q l k from b ≡ found_of f
+  unfolding found_at end_of bind
+  found_there x at f search = rw (← ends, at) (sym search)
 
-    -- nothing is found
-    pub placed_nothing : f ≡ found.Nothing
-        → ◌≡◌ {A = Placed} (record { answer = false; buffer = b }) (put_at k b (found_at bs q l k from b))
-    unfolding put_at found_of
-    placed_nothing e = sym (ap (put_at k b) (found_there ∙ ap found_of e))
+module _ (bs : List ℕ) (q : Pair) (l : List ℕ) (k from : ℕ) (b : List ℕ) (f : Answer ℕ)
+    (search : found_of f ≡ found_at bs q l k from b) where
+  -- a position that is found is one of an accepted plan's, and fits 16 bits
+  pub found_fits : (i : ℕ) → Searchable bs q l → f ≡ Some i → i < 65536
+  unfolding found_of found_at bind
+  found_fits i s at = go (end_after (plan_in bs q) (start q.source) (take k b)) (sym search ∙ ap found_of at)
+    where
+      go : (o : Option Appearance)
+          → bind o (λ x. first_from (serves_at (plan_in bs q) l (q.slots + 1) x (q.hops - (k + 1))) from (records bs - from))
+          ≡ some i
+          → i < 65536
+      go none e = absurd (let z : ◌≡◌ {A = ℕ} 0 1 = cc in omega arith)
+      go (some x) e =
+          let (high, r) = first_some _ from (records bs - from) e in
+          let low = r.low in
+          let few = (accepted bs q.stations q.slots s.accepted).few in
+          omega arith
 
-    -- a position is found
-    pub placed_found : (i : ℕ) → f ≡ found.At i
-        → ◌≡◌ {A = Placed} (record { answer = true; buffer = set b k i }) (put_at k b (found_at bs q l k from b))
-    unfolding put_at found_of
-    placed_found i e = sym (ap (put_at k b) (found_there ∙ ap found_of e))
+  -- nothing is found
+  pub placed_nothing : f ≡ None
+      → ◌≡◌ {A = Placed} (record { answer = false; buffer = b }) (put_at k b (found_at bs q l k from b))
+  unfolding put_at found_of
+  placed_nothing e = ap (put_at k b) (sym (ap found_of e) ∙ search)
+
+  -- a position is found
+  pub placed_found : (i : ℕ) → f ≡ Some i
+      → ◌≡◌ {A = Placed} (record { answer = true; buffer = set b k i }) (put_at k b (found_at bs q l k from b))
+  unfolding put_at found_of
+  placed_found i e = ap (put_at k b) (sym (ap found_of e) ∙ search)
 
 -- ---- what is offered
 
@@ -77,17 +75,17 @@ module _ (bs : List ℕ) (q : Pair) (b : List ℕ) (g : Listable bs q b) where
   pub hops_room : q.hops ≤ length b
   hops_room = let few = hops_slots bs q b g in let room = g.room in omega arith
 
-  module _ (r : End) (ends : end_of r ≡ end_after (plan_in bs q) (start q.source) (take q.hops b)) where
+  module _ (r : Answer Spot) (ends : end_of r ≡ end_after (plan_in bs q) (start q.source) (take q.hops b)) where
     -- what leads nowhere is no member, and what leads somewhere is one where that is the destination
-    pub offered_nowhere : r ≡ end.Nowhere → false ≡ is_offered bs q b
+    pub offered_end : (answer : Bool) → MatchOption r (answer ≡ false) (λ x. answer ≡ eqb x.station q.destination) → answer ≡ is_offered bs q b
     unfolding end_of holds
-    offered_nowhere e =
-        ap (λ o. holds o (is_at q.destination)) (sym (ap end_of e) ∙ ends) ∙ offered_walk bs q b g b hops_room
-
-    pub offered_there : (x : Spot) → r ≡ end.At x → eqb x.station q.destination ≡ is_offered bs q b
-    unfolding end_of holds
-    offered_there x e =
-        ap (λ o. holds o (is_at q.destination)) (sym (ap end_of e) ∙ ends) ∙ offered_walk bs q b g b hops_room
+    offered_end answer told =
+        go r told ∙ ap (λ o. holds o (is_at q.destination)) ends ∙ offered_walk bs q b g b hops_room
+      where
+        go : (o : Answer Spot) → MatchOption o (answer ≡ false) (λ x. answer ≡ eqb x.station q.destination)
+            → answer ≡ holds (end_of o) (is_at q.destination)
+        go None e = e
+        go (Some x) e = e
 
 -- ---- the first walk
 
@@ -135,10 +133,11 @@ module _ (bs : List ℕ) (q : Pair) (l : List ℕ) (leg : ℕ) (b : List ℕ)
     first_there = first ∙ ap (λ i. put_at (leg - 1) b (found_at bs q l (leg - 1) i b)) behind_last
 
     -- a later last position is found
-    pub advance_here : r₁ ≡ true → Advanced (begins bs q) leg b true b₁
+    pub advance_here : r₁ ≡ true → Advanced (begins bs q) leg b r₁ b₁
     advance_here there =
-        subst (λ k. Advanced (begins bs q) k b true b₁) (sym leg_suc)
-        (advanced_here bs q b s.listable l s.table b (leg - 1) fewer leg_inside standing_suc first_there there)
+        subst (λ r. Advanced (begins bs q) leg b r b₁) (sym there)
+        (subst (λ k. Advanced (begins bs q) k b true b₁) (sym leg_suc)
+        (advanced_here bs q b s.listable l s.table b (leg - 1) fewer leg_inside standing_suc first_there there))
 
     module _ (nothing : r₁ ≡ false) where
       gone : found_at bs q l (leg - 1) (get_or b (leg - 1) 0 + 1) b ≡ none
@@ -163,11 +162,12 @@ module _ (bs : List ℕ) (q : Pair) (l : List ℕ) (leg : ℕ) (b : List ℕ)
         second_there = subst (λ x. Advanced (begins bs q) (leg - 1) x r₂ b₂) kept second
 
         -- they are on the last
-        pub advance_none : r₂ ≡ false → Advanced (begins bs q) leg b false b₂
+        pub advance_none : r₂ ≡ false → Advanced (begins bs q) leg b r₂ b₂
         advance_none e =
-            subst (λ k. Advanced (begins bs q) k b false b₂) (sym leg_suc)
+            subst (λ r. Advanced (begins bs q) leg b r b₂) (sym e)
+            (subst (λ k. Advanced (begins bs q) k b false b₂) (sym leg_suc)
             (advanced_none bs q b s.listable l s.table b (leg - 1) fewer leg_inside standing_suc gone
-            (subst (λ r. Advanced (begins bs q) (leg - 1) b r b₂) e second_there))
+            (subst (λ r. Advanced (begins bs q) (leg - 1) b r b₂) e second_there)))
 
         -- they are advanced, and the first position behind them is put
         pub advance_behind : r₂ ≡ true → length b₂ ≡ length b → {r₃ : Bool} {b₃ : List ℕ}

@@ -4,29 +4,26 @@ use Prim.Native.Nat.{ℕ, suc, ◌+◌, ◌-◌, ◌*◌, ◌/◌, ◌≤◌, �
 use mathlib.Core.Path.{◌≡◌, refl, sym, ap, ◌∙◌}
 use mathlib.Core.Bool.{Bool, true, false}
 use mathlib.Core.List.{List, ◌++◌}
-use mathlib.Core.Logic.{inl, inr, ⊎_elim, ◌≢◌}
+use mathlib.Core.Logic.{◌≢◌}
 use mathlib.Core.Option.{Option, none, some, map, bind}
 use native.Mathlib.Omega.{arith}
 use native.Mathlib.Numerals.{add-one}
-use borrow.Author.Tests.{leb-true, leb-false}
 use lib.Arith.{digits_lt}
-use lib.Dec.{leb, eqb}
+use lib.Dec.{eqb}
 use lib.ListN.{length, get_or, take}
 use lib.Seq.{take-suc, take-add}
-use Rattle.temporal.specs.Plan.{Contact, Plan, Terms, units, Appearance, leads_to, may_follow}
+use Rattle.temporal.specs.Plan.{Contact, Plan, Terms, Appearance, leads_to, may_follow}
 use Rattle.temporal.specs.Walk.{step, run, last_or, holds}
 use Rattle.temporal.specs.Bytes.{contact_at, records, plan_of}
-use Rattle.lists.proofs.ListLaws.{not_both, not_true_false}
-use Rattle.walks.proofs.RuleLaws.{InTime, follows_later, follows_intro, follows_inv, leads_from_sender, leads_none}
+use Rattle.lists.proofs.ListLaws.{not_both}
+use Rattle.walks.proofs.RuleLaws.{leads_from_sender, leads_none}
 use Rattle.walks.proofs.PlanLaws.{contact_there, contact_inv, contacts_length}
 use Rattle.walks.proofs.WalkLaws.{StepBy, step_inv, step_intro, step_position, run_append}
 use Rattle.plan.specs.declared.Contact as plan
 use Rattle.plan.specs.Record.{contact_of}
 use Rattle.ways.specs.declared.Pair.{Pair}
 use Rattle.ways.specs.declared.Spot.{Spot}
-use Rattle.ways.specs.declared.End.{End}
-use Rattle.ways.specs.declared.End.TheVariants as end
-use Rattle.ways.specs.declared.Found.TheVariants as found
+use Rattle.std.specs.Prelude.{Option as Answer, Some, None}
 use Rattle.ways.specs.Prefix.{end_after}
 use Rattle.ways.specs.Found.{spot_of, end_of, found_of, terms_in, plan_in, serves_at, first_from, Searchable}
 use Rattle.ways.proofs.SearchLaws.{search_finds, search_passes, search_ends}
@@ -38,43 +35,6 @@ no_value none n = refl
 no_value (some a) n = absurd (n a refl)
 
 -- ---- a step
-
--- whether a contact in slot u may follow slot t, from comparisons of numbers
-module _ (p : Plan) (t u : ℕ) where
-  pub follow_early : u ≤ t → false ≡ may_follow p t u
-  follow_early h = sym (not_true_false (may_follow p t u) (λ e. let later = follows_later p t u e in omega arith))
-
-  -- after the start any later one
-  pub follow_start : t < u → t ≡ 0 → true ≡ may_follow p t u
-  follow_start later h = sym (follows_intro p t u later (inl h))
-
-  -- after any other slot those from the turnaround on, as long as a reading is kept
-  module _ (g h : ℕ) (same : p.terms ≡ units g h) (later : t < u) (heard : t ≢ 0) where
-    turns : p.terms.turnaround ≡ g
-    turns = ap (λ (x : Terms). x.turnaround) same
-
-    keeps : p.terms.keeping ≡ h
-    keeps = ap (λ (x : Terms). x.keeping) same
-
-    in_time : may_follow p t u ≡ true → InTime p t u
-    in_time e = ⊎_elim (λ first. absurd (heard first)) (λ w. w) (follows_inv p t u e).1
-
-    pub follow_soon : u - t < g → false ≡ may_follow p t u
-    follow_soon short =
-        sym (not_true_false (may_follow p t u) (λ e. let turned = (in_time e).turned in let q = turns in omega arith))
-
-    pub follow_heard : g ≤ u - t → leb (u - t) h ≡ may_follow p t u
-    follow_heard long = go (leb (u - t) h) refl
-      where
-        go : (b : Bool) → leb (u - t) h ≡ b → b ≡ may_follow p t u
-        go true q =
-            let by = leb-true (u - t) h q in
-            let x = turns in
-            let y = keeps in
-            sym (follows_intro p t u later (inr (record { turned = omega arith; fresh = omega arith })))
-        go false q =
-            let past = leb-false (u - t) h q in
-            sym (not_true_false (may_follow p t u) (λ e. let fresh = (in_time e).fresh in let y = keeps in omega arith))
 
 module _ (bs : List ℕ) (n t : ℕ) (terms : Terms) (x : Appearance) (i : ℕ) where
   -- there is no such record
@@ -150,7 +110,7 @@ module _ (bs : List ℕ) (terms : Terms) (way : List ℕ) (x₀ : Spot) (k : ℕ
   pub walking_none : Walking bs terms way x₀ k 0 x₀
   walking_none = record { within = omega arith; there = λ n t. end_nil (plan_of bs n t terms) (spot_of x₀) }
 
-  module _ (i : ℕ) (x : Spot) (s : Walking bs terms way x₀ k i x) (more : i < k) (room : k ≤ length way) (r : End) (j : ℕ)
+  module _ (i : ℕ) (x : Spot) (s : Walking bs terms way x₀ k i x) (more : i < k) (room : k ≤ length way) (r : Answer Spot) (j : ℕ)
       (entry : j ≡ get_or way i 0) (answer : (n t : ℕ) → end_of r ≡ step (plan_of bs n t terms) (spot_of x) j) where
     -- one entry more
     one_more : (n t : ℕ) → end_after (plan_of bs n t terms) (spot_of x₀) (take (suc i) way) ≡ end_of r
@@ -161,14 +121,14 @@ module _ (bs : List ℕ) (terms : Terms) (way : List ℕ) (x₀ : Spot) (k : ℕ
         ∙ rw (s.there n t) (rw (← entry) (sym (answer n t)))
 
     -- an entry that leads on
-    pub walking_more : (y : Spot) → r ≡ end.At y → Walking bs terms way x₀ k (i + 1) y
+    pub walking_more : (y : Spot) → r ≡ Some y → Walking bs terms way x₀ k (i + 1) y
     unfolding end_of
     walking_more y e =
         record { within = omega arith; there = λ n t. rw add-one (one_more n t ∙ ap end_of e) }
 
     -- an entry that leads nowhere: so do all k
-    pub walking_off : r ≡ end.Nowhere → (n t : ℕ)
-        → end_of end.Nowhere ≡ end_after (plan_of bs n t terms) (spot_of x₀) (take k way)
+    pub walking_off : r ≡ None → (n t : ℕ)
+        → end_of None ≡ end_after (plan_of bs n t terms) (spot_of x₀) (take k way)
     unfolding end_of
     walking_off e n t =
         let whole : k ≡ suc i + (k - suc i) = omega arith in
@@ -178,7 +138,7 @@ module _ (bs : List ℕ) (terms : Terms) (way : List ℕ) (x₀ : Spot) (k : ℕ
 
   -- no entry is left
   pub walking_end : (i : ℕ) (x : Spot) → Walking bs terms way x₀ k i x → k ≤ i
-      → (n t : ℕ) → end_of (end.At x) ≡ end_after (plan_of bs n t terms) (spot_of x₀) (take k way)
+      → (n t : ℕ) → end_of (Some x) ≡ end_after (plan_of bs n t terms) (spot_of x₀) (take k way)
   unfolding end_of
   walking_end i x s past n t =
       let whole : i ≡ k = let h = s.within in omega arith in
@@ -186,14 +146,14 @@ module _ (bs : List ℕ) (terms : Terms) (way : List ℕ) (x₀ : Spot) (k : ℕ
 
 -- ---- a position that serves
 
-module _ (bs : List ℕ) (q : Pair) (l : List ℕ) (x : Spot) (need i : ℕ) (r : End)
+module _ (bs : List ℕ) (q : Pair) (l : List ℕ) (x : Spot) (need i : ℕ) (r : Answer Spot)
     (answer : (n t : ℕ) → end_of r ≡ step (plan_of bs n t (terms_in q)) (spot_of x) i) where
   -- a position that leads nowhere does not serve
-  pub serves_nowhere : r ≡ end.Nowhere → false ≡ serves_at (plan_in bs q) l (q.slots + 1) (spot_of x) need i
+  pub serves_nowhere : r ≡ None → false ≡ serves_at (plan_in bs q) l (q.slots + 1) (spot_of x) need i
   unfolding serves_at holds end_of
   serves_nowhere e = rw (← answer q.stations q.slots, e)
 
-  module _ (y : Spot) (e : r ≡ end.At y) where
+  module _ (y : Spot) (e : r ≡ Some y) where
     -- one that leads to y serves where the entry of y is the number
     pub serves_there :
         eqb (get_or l (y.station * (q.slots + 1) + y.slot) 0) need
@@ -221,11 +181,11 @@ module _ (bs : List ℕ) (f : ℕ → Bool) (from i m : ℕ) (rest : first_from 
   search_on h e = rest ∙ search_passes f i m h e
 
   -- no position is left
-  pub search_nothing : m ≡ length bs / 6 → m ≤ i → found_of found.Nothing ≡ first_from f from (records bs - from)
+  pub search_nothing : m ≡ length bs / 6 → m ≤ i → found_of None ≡ first_from f from (records bs - from)
   unfolding found_of records
   search_nothing size h = rw (← size) (sym (rest ∙ search_ends f i m h))
 
   -- a position that serves is found
-  pub search_here : m ≡ length bs / 6 → i < m → f i ≡ true → found_of (found.At i) ≡ first_from f from (records bs - from)
+  pub search_here : m ≡ length bs / 6 → i < m → f i ≡ true → found_of (Some i) ≡ first_from f from (records bs - from)
   unfolding found_of records
   search_here size h e = rw (← size) (sym (rest ∙ search_finds f i m h e))

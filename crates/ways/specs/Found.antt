@@ -1,6 +1,7 @@
 -- What the functions that list walks answer, and what they ask. Definitions only.
 -- Assumes nothing.
-use Rattle.std.specs.Prelude.{ℕ, zero, suc, ◌+◌, ◌-◌, ◌*◌, ◌<◌, ◌≤◌, ◌≡◌, Bool, true, false, cond, List, [], ltb, eqb, length, get_or, set, take}
+use Rattle.std.specs.Prelude.{ℕ, zero, suc, ◌+◌, ◌-◌, ◌*◌, ◌<◌, ◌≤◌, ◌≡◌, Bool, true, false, cond, List, [], ltb, eqb, length, get_or, set, take, Some, None}
+use Rattle.std.specs.Prelude.{Option as Answer}
 use Rattle.std.proofs.Math.Option.{Option, none, some, bind}
 use Rattle.temporal.specs.Plan.{Plan, Terms, units, Appearance, start}
 use Rattle.temporal.specs.Walk.{step, holds}
@@ -11,10 +12,6 @@ use Rattle.temporal.specs.Outcome.{over}
 use Rattle.temporal.specs.Cursor.{index_in}
 use Rattle.ways.specs.declared.Pair.{Pair}
 use Rattle.ways.specs.declared.Spot.{Spot}
-use Rattle.ways.specs.declared.End.{End}
-use Rattle.ways.specs.declared.End.TheVariants as end
-use Rattle.ways.specs.declared.Found.{Found}
-use Rattle.ways.specs.declared.Found.TheVariants as found
 use Rattle.ways.specs.Home.{Table}
 use Rattle.ways.specs.Prefix.{end_after, completes}
 
@@ -23,14 +20,14 @@ abbrev pub spot_of : Spot → Appearance
 spot_of x = record { station = x.station; slot = x.slot }
 
 -- where a walk ends, or none
-unfoldable pub end_of : End → Option Appearance
-end_of (end.At x) = some (spot_of x)
-end_of end.Nowhere = none
+unfoldable pub end_of : Answer Spot → Option Appearance
+end_of (Some x) = some (spot_of x)
+end_of None = none
 
 -- the position that a search found, or none
-unfoldable pub found_of : Found → Option ℕ
-found_of (found.At i) = some i
-found_of found.Nothing = none
+unfoldable pub found_of : Answer ℕ → Option ℕ
+found_of (Some i) = some i
+found_of None = none
 
 -- the terms, the plan, the complete list of the pair, and the test whether positions begin a member of it
 abbrev pub terms_in : Pair → Terms

@@ -53,20 +53,6 @@ pub struct Spot {
     pub slot: usize,
 }
 
-// Where positions lead.
-#[derive(Clone, Copy)]
-pub enum End {
-    At(Spot),
-    Nowhere,
-}
-
-// What a search for a position yields.
-#[derive(Clone, Copy)]
-pub enum Found {
-    At(usize),
-    Nothing,
-}
-
 // Lowers the entry at a place to one more than another entry, where that is less.
 fn lower(work: &mut [u64], at: usize, from: usize)
     requires { (at < length work.old) × (from < length work.old) }
@@ -105,24 +91,10 @@ fn begin_back(work: &mut [u64], n: usize, width: usize, z: usize)
     requires { (n * width ≤ length work.old) × (0 < width) × (z < n) }
     ensures { Begun n width z work.old work.new }
 {
-    let mut v = 0;
-    while v < n {
-        let at = v * width;
-        work[at] = 65535;
-        v += 1;
+    for v in 0..n {
+        work[v * width] = 65535;
     }
-    let home = z * width;
-    work[home] = 0;
-}
-
-// What one number is more than another; 0 where it is not.
-fn above(a: usize, b: usize) -> usize
-    ensures { result ≡ a - b }
-{
-    if a < b {
-        return 0;
-    }
-    a - b
+    work[z * width] = 0;
 }
 
 // Whether the record before position i is due to be stored: there is one, and that before position j lies too few slots after it to
@@ -131,13 +103,12 @@ fn is_due(plan: &[u8], g: usize, i: usize, j: usize) -> bool
     requires { (i ≤ j) × (0 < j) × (j * 6 ≤ length plan.now) }
     ensures { result ≡ is_due plan.now g i j }
 {
-    if 0 < i {
-        let c = plan::contact_at(plan, i - 1);
-        let d = plan::contact_at(plan, j - 1);
-        above(d.slot, c.slot) < g
-    } else {
-        false
+    if i == 0 {
+        return false;
     }
+    let c = plan::contact_at(plan, i - 1);
+    let d = plan::contact_at(plan, j - 1);
+    d.slot.saturating_sub(c.slot) < g
 }
 
 // Fills the completion table of destination z where nothing goes stale: one pass back over the records. The start's column holds what
@@ -150,6 +121,7 @@ fn complete_lasting(work: &mut [u64], plan: &[u8], n: usize, t: usize, g: usize,
     begin_back(work, n, width, z);
     let mut i = plan.len() / 6;
     let mut j = i;
+    // No `for`: i and j move by turns.
     while 0 < j {
         if is_due(plan, g, i, j) {
             i -= 1;
@@ -166,10 +138,8 @@ fn lower_run(work: &mut [u64], at: usize, size: usize, from: usize)
     requires { (at + size ≤ length work.old) × (from < length work.old) }
     ensures { work.new ≡ lowered_run work.old at from size }
 {
-    let mut i = 0;
-    while i < size {
+    for i in 0..size {
         lower(work, at + i, from);
-        i += 1;
     }
 }
 
@@ -183,10 +153,9 @@ fn fold_window(work: &mut [u64], plan: &[u8], width: usize, g: usize, h: usize, 
     let row = c.sender * width;
     let from = c.hearer * width + c.slot;
     lower(work, row, from);
-    let low = above(c.slot - 1, h) + 1;
-    let end = above(c.slot, g) + 1;
-    let size = above(end, low);
-    lower_run(work, row + low, size, from);
+    let low = (c.slot - 1).saturating_sub(h) + 1;
+    let end = c.slot.saturating_sub(g) + 1;
+    lower_run(work, row + low, end.saturating_sub(low), from);
 }
 
 // Clears the table, and puts the empty walk of the destination into every slot.
@@ -206,9 +175,7 @@ fn complete_window(work: &mut [u64], plan: &[u8], n: usize, t: usize, g: usize, 
 {
     let width = t + 1;
     begin_window(work, n, width, z);
-    let mut j = plan.len() / 6;
-    while 0 < j {
-        j -= 1;
+    for j in (0..plan.len() / 6).rev() {
         fold_window(work, plan, width, g, h, j);
     }
 }
@@ -220,57 +187,38 @@ pub fn complete(work: &mut [u64], plan: &[u8], n: usize, t: usize, g: usize, h: 
 {
     if t <= h + 1 {
         complete_lasting(work, plan, n, t, g, h, z);
-        return;
+    } else {
+        complete_window(work, plan, n, t, g, h, z);
     }
-    complete_window(work, plan, n, t, g, h, z);
-}
-
-// A 16-bit entry as a number.
-pub fn wide(x: u16) -> usize
-    ensures { (result ≡ x) × (result < 65536) }
-{
-    x as usize
 }
 
 // Whether a contact in slot u may follow an appearance in slot t.
+#[tactic(auto, unfolding(temporal::specs::Plan::may_follow))]
 fn may_follow(g: usize, h: usize, t: usize, u: usize) -> bool
     ensures { (p : Plan) → p.terms ≡ units g h → result ≡ may_follow p t u }
 {
-    if u <= t {
-        return false;
-    }
-    if t == 0 {
-        return true;
-    }
-    let wait = u - t;
-    if wait < g {
-        return false;
-    }
-    wait <= h
+    t < u && (t == 0 || (g <= u - t && u - t <= h))
 }
 
 // Where position i leads from an appearance. A position that is no record leads nowhere.
-fn step_on(plan: &[u8], g: usize, h: usize, x: Spot, i: usize) -> End
+fn step_on(plan: &[u8], g: usize, h: usize, x: Spot, i: usize) -> Option<Spot>
     ensures { (n t : ℕ) → end_of result ≡ step (plan_of plan.now n t (units g h)) (spot_of x) i }
 {
     if plan.len() / 6 <= i {
-        return End::Nowhere;
+        return None;
     }
     let c = plan::contact_at(plan, i);
-    if x.station != c.sender {
-        return End::Nowhere;
+    if x.station != c.sender || !may_follow(g, h, x.slot, c.slot) {
+        return None;
     }
-    if may_follow(g, h, x.slot, c.slot) {
-        return End::At(Spot {
-            station: c.hearer,
-            slot: c.slot,
-        });
-    }
-    End::Nowhere
+    Some(Spot {
+        station: c.hearer,
+        slot: c.slot,
+    })
 }
 
 // Where the first k entries of a buffer lead from the source. No entry is trusted.
-fn end_of(way: &[u16], plan: &[u8], q: Pair, k: usize) -> End
+fn end_of(way: &[u16], plan: &[u8], q: Pair, k: usize) -> Option<Spot>
     requires { k ≤ length way.now }
     ensures { end_of result ≡ end_after (plan_in plan.now q) (start q.source) (take k way.now) }
 {
@@ -278,16 +226,10 @@ fn end_of(way: &[u16], plan: &[u8], q: Pair, k: usize) -> End
         station: q.source,
         slot: 0,
     };
-    let mut i = 0;
-    while i < k {
-        let next = step_on(plan, q.turnaround, q.keeping, x, wide(way[i]));
-        let End::At(y) = next else {
-            return End::Nowhere;
-        };
-        x = y;
-        i += 1;
+    for &i in &way[..k] {
+        x = step_on(plan, q.turnaround, q.keeping, x, usize::from(i))?;
     }
-    End::At(x)
+    Some(x)
 }
 
 // Whether position i leads on from an appearance to one from which so many hops are left.
@@ -295,43 +237,39 @@ fn serves(work: &[u64], plan: &[u8], q: Pair, x: Spot, need: u64, i: usize) -> b
     requires { Searchable plan.now q work.now }
     ensures { result ≡ serves_at (plan_in plan.now q) work.now (q.slots + 1) (spot_of x) need i }
 {
-    let end = step_on(plan, q.turnaround, q.keeping, x, i);
-    let End::At(y) = end else {
+    let Some(y) = step_on(plan, q.turnaround, q.keeping, x, i) else {
         return false;
     };
-    let at = y.station * (q.slots + 1) + y.slot;
-    work[at] == need
+    work[y.station * (q.slots + 1) + y.slot] == need
 }
 
 // The first position from a given one on that leads home with so many hops left behind it.
-fn find(work: &[u64], plan: &[u8], q: Pair, x: Spot, need: u64, from: usize) -> Found
+fn find(work: &[u64], plan: &[u8], q: Pair, x: Spot, need: u64, from: usize) -> Option<usize>
     requires { Searchable plan.now q work.now }
     ensures { found_of result ≡ first_from (serves_at (plan_in plan.now q) work.now (q.slots + 1) (spot_of x) need)
         from (records plan.now - from) }
 {
-    let m = plan.len() / 6;
-    let mut i = from;
-    let found = loop {
-        if m <= i {
-            break Found::Nothing;
-        }
+    for i in from..plan.len() / 6 {
         if serves(work, plan, q, x, need, i) {
-            break Found::At(i);
+            return Some(i);
         }
-        i += 1;
-    };
-    found
+    }
+    None
 }
 
 // The first position from a given one on that leads home behind the first k entries of a buffer.
-pub fn found_behind(way: &[u16], work: &[u64], plan: &[u8], q: Pair, k: usize, from: usize) -> Found
+pub fn found_behind(
+    way: &[u16],
+    work: &[u64],
+    plan: &[u8],
+    q: Pair,
+    k: usize,
+    from: usize,
+) -> Option<usize>
     requires { Placeable plan.now q work.now k way.now }
     ensures { found_of result ≡ found_at plan.now q work.now k from way.now }
 {
-    let end = end_of(way, plan, q, k);
-    let End::At(x) = end else {
-        return Found::Nothing;
-    };
+    let x = end_of(way, plan, q, k)?;
     let need = (q.hops - (k + 1)) as u64;
     find(work, plan, q, x, need, from)
 }
@@ -342,13 +280,7 @@ fn place(way: &mut [u16], work: &[u64], plan: &[u8], q: Pair, k: usize, from: us
     ensures { ◌≡◌ {A = Placed} (record { answer = result; buffer = way.new })
         (put_at k way.old (found_at plan.now q work.now k from way.old)) }
 {
-    let end = end_of(way, plan, q, k);
-    let End::At(x) = end else {
-        return false;
-    };
-    let need = (q.hops - (k + 1)) as u64;
-    let found = find(work, plan, q, x, need, from);
-    let Found::At(i) = found else {
+    let Some(i) = found_behind(way, work, plan, q, k, from) else {
         return false;
     };
     way[k] = i as u16;
@@ -360,11 +292,8 @@ pub fn first_path(way: &mut [u16], work: &[u64], plan: &[u8], q: Pair)
     requires { Startable plan.now q work.now way.old }
     ensures { way.new ≡ over (get_or (list_in plan.now q) 0 []) way.old }
 {
-    let hops = q.hops;
-    let mut k = 0;
-    while k < hops {
+    for k in 0..q.hops {
         place(way, work, plan, q, k, 0);
-        k += 1;
     }
 }
 
@@ -373,11 +302,7 @@ pub fn offered(way: &[u16], plan: &[u8], q: Pair) -> bool
     requires { Listable plan.now q way.now }
     ensures { result ≡ is_offered plan.now q way.now }
 {
-    let end = end_of(way, plan, q, q.hops);
-    let End::At(x) = end else {
-        return false;
-    };
-    x.station == q.destination
+    end_of(way, plan, q, q.hops).is_some_and(|x| x.station == q.destination)
 }
 
 // Advances the first `leg` entries to the next ones that begin a shortest walk: a later last position, or else the legs
@@ -390,14 +315,9 @@ fn advance(way: &mut [u16], work: &[u64], plan: &[u8], q: Pair, leg: usize) -> b
         return false;
     }
     let last = leg - 1;
-    let from = wide(way[last]) + 1;
-    if place(way, work, plan, q, last, from) {
-        return true;
-    }
-    if advance(way, work, plan, q, last) {
-        return place(way, work, plan, q, last, 0);
-    }
-    false
+    let from = usize::from(way[last]) + 1;
+    place(way, work, plan, q, last, from)
+        || (advance(way, work, plan, q, last) && place(way, work, plan, q, last, 0))
 }
 
 // Moves a buffer that begins with a shortest walk on to the next one. False on the last, and the buffer stays.

@@ -16,12 +16,12 @@ place-requires t c = last_ready _ _ _ _ _ c.requires (omega arith) _ refl
 
 pub returns-then-place : goal.returns-then-place
 returns-then-place t c =
-    advance_here _ _ _ _ _ c.requires (omega arith) _ (ap (λ k. k + 1) c.wide-from.ensures.0) c.place.ensures c.if-place.true
+    advance_here _ _ _ _ _ c.requires (omega arith) _ (ap (λ k. k + 1) c.from-from.ensures) c.place.ensures c.if-place.true
 
 pub advance-requires : goal.advance-requires
 advance-requires t c = (
   omega (arith, c.decreases),
-  front_ready _ _ _ _ _ c.requires (omega arith) _ (ap (λ k. k + 1) c.wide-from.ensures.0) c.place.ensures c.if-place.false,
+  front_ready _ _ _ _ _ c.requires (omega arith) _ (ap (λ k. k + 1) c.from-from.ensures) c.place.ensures c.if-place.false,
 )
 
 pub place-requires-then-advance : goal.place-requires-then-advance
@@ -39,7 +39,7 @@ returns-then-advance t c =
     c.requires
     (omega (arith, c.if-leg-eq0.false))
     _
-    (ap (λ k. k + 1) c.wide-from.ensures.0)
+    (ap (λ k. k + 1) c.from-from.ensures)
     c.place.ensures
     c.if-place.false
     c.advance.ensures
@@ -47,8 +47,8 @@ returns-then-advance t c =
     (c.advance.auto.way ∙ c.place.auto.way)
     c.place-then-advance.ensures
 
-pub returns : goal.returns
-returns t c =
+pub returns-else-advance : goal.returns-else-advance
+returns-else-advance t c =
     advance_none
     _
     _
@@ -58,7 +58,7 @@ returns t c =
     c.requires
     (omega (arith, c.if-leg-eq0.false))
     _
-    (ap (λ k. k + 1) c.wide-from.ensures.0)
+    (ap (λ k. k + 1) c.from-from.ensures)
     c.place.ensures
     c.if-place.false
     c.advance.ensures

@@ -1,12 +1,7 @@
--- `ways::begin_back` meets its contract. The loop's invariant: the first entries of the stations below v are cleared. The measure is the
--- number of stations left.
+-- `ways::begin_back` meets its contract. The loop's invariant: the first entries of the stations below v are cleared.
 -- Assumes nothing.
-use Prim.Native.Nat.{◌-◌}
 use Rattle.ways.proofs.ColumnLaws.{Clearing}
 use Rattle.ways.proofs.begin_back.Given as goal
 
 abbrev pub invariant-loop-v : goal.invariant-loop-v
 invariant-loop-v l = Clearing l.n l.width l.initial.work l.v l.work
-
-abbrev pub decreases-loop-v : goal.decreases-loop-v
-decreases-loop-v l = l.n - l.v

@@ -46,14 +46,8 @@ loop-j-preserved-then-is_due c =
     passing_store _ _ _ _ _ _ _ _ _ s c.loop-j-test.true due _
     c.store_back.ensures
 
-pub overflow_sub-j : goal.overflow_sub-j
-overflow_sub-j c = omega arith
-
 pub fold_back-requires : goal.fold_back-requires
 fold_back-requires c = passing_room _ _ _ _ _ _ _ _ _ c.loop-j.invariant _ (omega arith)
-
-pub loop-j-smaller : goal.loop-j-smaller
-loop-j-smaller c = omega arith
 
 pub loop-j-preserved : goal.loop-j-preserved
 loop-j-preserved c =

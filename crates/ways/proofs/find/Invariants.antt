@@ -1,5 +1,4 @@
--- `ways::find` meets its contract. The loop's invariant: what the search finds from i on is what it finds. The measure is the
--- number of positions left.
+-- `ways::find` meets its contract. The loop's invariant: what the search finds from i on is what it finds.
 -- Assumes nothing.
 use Prim.Native.Nat.{◌+◌, ◌-◌}
 use mathlib.Core.Path.{◌≡◌}
@@ -8,8 +7,5 @@ use Rattle.ways.proofs.find.Given as goal
 
 abbrev pub invariant-loop-i : goal.invariant-loop-i
 invariant-loop-i l =
-    first_from (serves_at (plan_in l.plan l.q) l.work (l.q.slots + 1) (spot_of l.x) l.need) l.from (l.m - l.from)
-    ≡ first_from (serves_at (plan_in l.plan l.q) l.work (l.q.slots + 1) (spot_of l.x) l.need) l.i (l.m - l.i)
-
-abbrev pub decreases-loop-i : goal.decreases-loop-i
-decreases-loop-i l = l.m - l.i
+    first_from (serves_at (plan_in l.plan l.q) l.work (l.q.slots + 1) (spot_of l.x) l.need) l.from (l.i-end - l.from)
+    ≡ first_from (serves_at (plan_in l.plan l.q) l.work (l.q.slots + 1) (spot_of l.x) l.need) l.i (l.i-end - l.i)

