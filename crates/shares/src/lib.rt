@@ -19,14 +19,15 @@ fn doubled(d: Division, count: u64) -> Division
     let whole = d.whole * 2;
     let rest = d.rest;
     if rest < count - rest {
-        return Division {
+        Division {
             whole,
             rest: rest * 2,
-        };
-    }
-    Division {
-        whole: whole + 1,
-        rest: rest - (count - rest),
+        }
+    } else {
+        Division {
+            whole: whole + 1,
+            rest: rest - (count - rest),
+        }
     }
 }
 
@@ -39,10 +40,8 @@ fn long_share(through: u64, count: u64) -> u64
         whole: 0,
         rest: through,
     };
-    let mut i: usize = 0;
-    while i < 32 {
+    for _ in 0..32u32 {
         d = doubled(d, count);
-        i += 1;
     }
     d.whole
 }
