@@ -3,10 +3,10 @@ use Prim.Native.Nat.{ℕ, suc, ◌+◌, ◌-◌, ◌*◌, ◌<◌, ◌≤◌}
 use native.Mathlib.Omega.{arith}
 use native.Mathlib.Nat.{mul-le-mul_right, suc-mul}
 use mathlib.Core.Path.{◌≡◌, refl, ◌∙◌}
-use mathlib.Core.Bool.{false, ◌||◌}
+use mathlib.Core.Bool.{true, false, ◌||◌}
 use mathlib.Core.Logic.{◌≢◌}
 use mathlib.Core.List.{List, []}
-use borrow.Author.Tests.{lt-ltb, le-ltb, le-leb, lt-leb, eq-eqb, ne_eqb, leb-false, ltb-false}
+use borrow.Author.Tests.{lt-ltb, le-ltb, le-leb, lt-leb, ne_eqb, leb-false, ltb-false}
 use lib.Dec.{ltb, eqb}
 use lib.ListN.{length, take, drop}
 use Rattle.temporal.specs.Cause.{first, outside, station_causes}
@@ -19,25 +19,11 @@ unfolding first
 first_nothing = refl
 
 module _ (n t v : ℕ) (table : List ℕ) where
-  pub row_no_station : n ≡ 0 → row_number n t v table ≡ 1
-  unfolding row_number outside
-  row_no_station h = first_true 0 _ _ (rw (eq-eqb n 0 h))
-
-  pub row_many_stations : 256 < n → row_number n t v table ≡ 1
-  unfolding row_number outside
-  row_many_stations h = first_true 0 _ _ (rw (ne_eqb n 0 (omega arith), lt-ltb 256 n h))
+  pub row_outside : outside n t ≡ true → row_number n t v table ≡ 1
+  unfolding row_number
+  row_outside h = first_true 0 _ _ h
 
   module _ (some_station : n ≢ 0) (stations : n ≤ 256) where
-    pub row_no_slot : t ≡ 0 → row_number n t v table ≡ 1
-    unfolding row_number outside
-    row_no_slot h = first_true 0 _ _ (rw (ne_eqb n 0 some_station, le-ltb 256 n stations, eq-eqb t 0 h))
-
-    pub row_many_slots : 255 < t → row_number n t v table ≡ 1
-    unfolding row_number outside
-    row_many_slots h =
-        first_true 0 _ _
-        (rw (ne_eqb n 0 some_station, le-ltb 256 n stations, ne_eqb t 0 (omega arith), lt-ltb 255 t h))
-
     module _ (some_slot : t ≢ 0) (slots : t ≤ 255) where
       within : outside n t ≡ false
       unfolding outside

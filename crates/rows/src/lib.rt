@@ -6,19 +6,11 @@ ghost use Rattle.temporal.specs.Outcome.{row_number};
 ghost use Rattle.rows.specs.Part.{RowPart};
 
 // Row's number of refusal, 0 where row is accepted. It reads no plan.
+// A number and no Result: document 01 asks for the number by itself, and the C interface hands it on.
 pub fn row_number(table: &[u64], n: usize, t: usize, station: usize) -> usize
     ensures { result ≡ row_number n t station table.now }
 {
-    if n == 0 {
-        return 1;
-    }
-    if 256 < n {
-        return 1;
-    }
-    if t == 0 {
-        return 1;
-    }
-    if 255 < t {
+    if n == 0 || 256 < n || t == 0 || 255 < t {
         return 1;
     }
     if n <= station {
