@@ -1,12 +1,14 @@
 -- Numbers and their bytes: equal bytes are equal numbers, and bytes read are bytes written. Runs of stores.
 -- Assumes nothing.
-use Rattle.std.proofs.Common.{◌≡◌, ℕ, zero, suc, ◌+◌, ◌*◌, ◌/◌, ◌%◌, ◌^◌, ◌<◌, T, ltb, List, [], ◌∷◌, ◌++◌, length, get_or, drop, set, sym, refl, ap, ◌∙◌, subst, ap₂, add-zero, mod-lt, mod-eq_of_lt, mul-pos, div-one, arith, lt→ltb, drop_of_length-le, drop-cons}
-use native.Mathlib.Nat.{pow-succ', mod-one, mul-add-mod_self_right}
+use Rattle.std.proofs.Common.{◌≡◌, ℕ, zero, suc, ◌+◌, ◌*◌, ◌/◌, ◌%◌, ◌^◌, ◌<◌, T, ltb, List, [], ◌∷◌, ◌++◌, length, get_or, take, drop, set, sym, refl, ap, ◌∙◌, subst, ap₂, add-zero, mod-lt, mod-eq_of_lt, mul-pos, div-one, arith, lt→ltb, drop_of_length-le, drop-cons, slice_range, w16, w64, append_assoc, ◌-◌, ◌≤◌}
+use native.Mathlib.Nat.{pow-succ', mod-mod, mod-one, mul-add-mod_self_right}
 use mathlib.Core.List.{head-eq_of_cons-eq, tail-eq_of_cons-eq}
 use lib.Arith.{digits_lt, digits_div, digits_mod, mod-mul}
 use lib.Pow.{are_bytes}
 use lib.Ieee.Fits.{and_i, and_l, and_r}
-use lib.Seq.{sets}
+use lib.Seq.{sets, sets-eq, drop-drop}
+use borrow.Rule.Slice.PartMut.{put_mid}
+use Rattle.std.specs.Int.{bytes_high_first, to_be_bytes}
 use Rattle.temporal.specs.Drawing.{bytes_of}
 use Rattle.drawing.specs.Bytes.{number_at}
 
@@ -69,6 +71,14 @@ pub entries_all : (l : List ℕ) (at k : ℕ) → length l ≡ at + k → drop a
 entries_all l at zero e = drop_of_length-le l {i = at} (omega arith)
 entries_all l at (suc k) e = drop-cons l at 0 (omega arith) ∙ ap (λ r. get_or l at 0 ∷ r) (entries_all l (suc at) k (omega arith))
 
+-- as a range has them
+pub entries_some : (l : List ℕ) (at k : ℕ) → at + k ≤ length l → slice_range l at (at + k) ≡ entries_at l at k
+entries_some l at zero h = let e : at + 0 - at ≡ 0 = omega arith in rw e refl
+entries_some l at (suc k) h =
+    let e : at + suc k - at ≡ suc k = omega arith in
+    let next : suc at + k - suc at ≡ k = omega arith in
+    rw (e, drop-cons l at 0 (omega arith)) (ap (λ r. get_or l at 0 ∷ r) (rw next at (entries_some l (suc at) k (omega arith))))
+
 module _ (l : List ℕ) (small : (i : ℕ) → get_or l i 0 < 256) where
   pub number_below : (at k : ℕ) → number_at l at k < 256 ^ k
   unfolding number_at
@@ -97,19 +107,32 @@ sets_append (a ∷ x) y l i =
     let e : i + suc (length x) ≡ suc i + length x = omega arith in
     ap (λ k. sets (sets (set l i a) (suc i) x) k y) e ∙ sets_append x y (set l i a) (suc i)
 
--- the bytes of x, stored one by one
-pub eight_stores : (l : List ℕ) (i x : ℕ) →
-    set (set (set (set (set (set (set (set l i (x / 72057594037927936 % 256)) (i + 1) (x / 281474976710656 % 256))
-    (i + 2) (x / 1099511627776 % 256)) (i + 3) (x / 4294967296 % 256)) (i + 4) (x / 16777216 % 256)) (i + 5) (x / 65536 % 256))
-    (i + 6) (x / 256 % 256)) (i + 7) (x % 256) ≡
-    sets l i (bytes_of 8 x)
+-- a copy into a part of a list
+pub part_stored :
+    (l x part : List ℕ) (at : ℕ) → at + length x ≤ length l → part ≡ x → put_mid at (at + length x - at) l part ≡ sets l at x
+part_stored l x part at fits e =
+    let n : at + length x - at ≡ length x = omega arith in
+    rw (e, n, drop-drop (length x) at l) (sym (append_assoc (take at l) x (drop (at + length x) l)) ∙ sym (sets-eq x l at fits))
+
+-- the bytes of std
+pub bytes_high : (k x : ℕ) → bytes_high_first k x ≡ bytes_of k x
 unfolding bytes_of
-eight_stores l i x =
-    let one : i + 1 ≡ suc i = omega arith in
-    let two : i + 2 ≡ suc (suc i) = omega arith in
-    let three : i + 3 ≡ suc (suc (suc i)) = omega arith in
-    let four : i + 4 ≡ suc (suc (suc (suc i))) = omega arith in
-    let five : i + 5 ≡ suc (suc (suc (suc (suc i)))) = omega arith in
-    let six : i + 6 ≡ suc (suc (suc (suc (suc (suc i))))) = omega arith in
-    let seven : i + 7 ≡ suc (suc (suc (suc (suc (suc (suc i)))))) = omega arith in
-    rw (one, two, three, four, five, six, seven, div-one x) refl
+bytes_high zero x = refl
+bytes_high (suc zero) x = rw (div-one x) refl
+bytes_high (suc (suc k)) x = ap (λ r. x / 256 ^ suc k % 256 ∷ r) (bytes_high (suc k) x)
+
+bytes_length : (k x : ℕ) → length (bytes_of k x) ≡ k
+unfolding bytes_of
+bytes_length zero x = refl
+bytes_length (suc k) x = ap suc (bytes_length k x)
+
+pub double_stored : (l part : List ℕ) (at x : ℕ) → at + 8 ≤ length l → part ≡ to_be_bytes w64 x → put_mid at (at + 8 - at) l part ≡ sets l at (bytes_of 8 x)
+double_stored l part at x fits e =
+    rw (bytes_length 8 x) at (part_stored l (bytes_of 8 x) part at (omega (arith, bytes_length 8 x)) (e ∙ bytes_high 8 x))
+
+-- the two lowest bytes are those of what 2^16 leaves
+pub word_stored : (l part : List ℕ) (at x : ℕ) → at + 2 ≤ length l → part ≡ to_be_bytes w16 (x % 65536) → put_mid at (at + 2 - at) l part ≡ sets l at (bytes_of 2 x)
+word_stored l part at x fits e =
+    let same : bytes_of 2 (x % 65536) ≡ bytes_of 2 x = bytes_same 2 (x % 65536) x (mod-mod x 65536) in
+    rw (bytes_length 2 x) at
+    (part_stored l (bytes_of 2 x) part at (omega (arith, bytes_length 2 x)) (e ∙ bytes_high 2 (x % 65536) ∙ same))

@@ -1,18 +1,17 @@
 -- Reading a record back: the parts of the answer, and what is foreign.
 -- Assumes nothing.
-use Rattle.std.proofs.Common.{◌≡◌, ℕ, suc, ◌+◌, ◌*◌, ◌^◌, ◌<◌, ◌≤◌, Bool, true, false, not, T, List, length, get_or, pos, sym, ap, ◌∙◌, subst, ap₂, arith}
+use Rattle.std.proofs.Common.{◌≡◌, ℕ, ◌+◌, ◌*◌, ◌^◌, ◌<◌, ◌≤◌, Bool, true, false, not, T, Some, None, List, length, get_or, pos, sym, ap, ◌∙◌, subst, ap₂, arith, w16, w64, slice_range}
 use lib.Ieee.{Float, fin, binary64, mul, lt, to_unsigned, fits, of_bits, to_bits}
 use lib.Ieee.Bits.{of_bits-to_bits, to_bits-of_bits, nan_bits_is}
+use Rattle.std.specs.Int.{from_be_bytes}
 use Rattle.temporal.specs.Drawing.{share_bits, record_of, drawn_record, CouldWrite, ReadBack, foreign, station, Reads}
 use Rattle.drawing.specs.declared.Drawn.{Drawn}
-use Rattle.drawing.specs.declared.Number.TheVariants.{None, Whole}
-use Rattle.drawing.specs.declared.Parsed.TheVariants as parsed
 use Rattle.drawing.specs.Bytes.{number_at}
 use Rattle.drawing.specs.Doubles.{drawn_bytes}
 use Rattle.drawing.specs.Reading.{NumberOf, Parseable, ParsedAs, NumbersRead}
 use Rattle.drawing.proofs.ShareLaws.{share_below, share_injective}
 use Rattle.drawing.proofs.DoubleLaws.{scale, word_end, scaled_below, scaled_number, number_pattern, scaled_above}
-use Rattle.drawing.proofs.ByteLaws.{number_below}
+use Rattle.drawing.proofs.ByteLaws.{number_below, entries_some}
 use Rattle.drawing.proofs.RecordLaws.{record_read, Holds, could_hold, held_record}
 
 -- ---- the number whose share a double is
@@ -50,24 +49,13 @@ module _ (y : Float) (fit : fits binary64 y ≡ true) where
 
 -- ---- bytes as numbers
 
-pub word_is : (l : List ℕ) (at a b : ℕ) → a ≡ get_or l at 0 → b ≡ get_or l (at + 1) 0 → a * 256 + b ≡ number_at l at 2
+pub word_is : (l : List ℕ) (at : ℕ) → at + 2 ≤ length l → from_be_bytes w16 (slice_range l at (at + 2)) ≡ number_at l at 2
 unfolding number_at
-word_is l at a b p q =
-    let next : at + 1 ≡ suc at = omega arith in
-    let second : b ≡ get_or l (suc at) 0 = rw next at q in
-    omega arith
+word_is l at h = rw (entries_some l at 2 h) (omega arith)
 
-pub double_is : (l : List ℕ) (at a b c d : ℕ) → a ≡ number_at l at 2 → b ≡ number_at l (at + 2) 2 → c ≡ number_at l (at + 4) 2
-    → d ≡ number_at l (at + 6) 2 → (a * 65536 + b) * 4294967296 + (c * 65536 + d) ≡ number_at l at 8
+pub double_is : (l : List ℕ) (at : ℕ) → at + 8 ≤ length l → from_be_bytes w64 (slice_range l at (at + 8)) ≡ number_at l at 8
 unfolding number_at
-double_is l at a b c d p q r s =
-    let two : at + 2 ≡ suc (suc at) = omega arith in
-    let four : at + 4 ≡ suc (suc (suc (suc at))) = omega arith in
-    let six : at + 6 ≡ suc (suc (suc (suc (suc (suc at))))) = omega arith in
-    let q' : b ≡ number_at l (suc (suc at)) 2 = rw two at q in
-    let r' : c ≡ number_at l (suc (suc (suc (suc at)))) 2 = rw four at r in
-    let s' : d ≡ number_at l (suc (suc (suc (suc (suc (suc at)))))) 2 = rw six at s in
-    omega arith
+double_is l at h = rw (entries_some l at 8 h) (omega arith)
 
 -- ---- bytes as a record
 
@@ -106,7 +94,7 @@ module _ (bytes : List ℕ) (small : (i : ℕ) → get_or bytes i 0 < 256) (size
       to_bits-of_bits binary64 b (omega arith) (subst (λ (t : Bool). T (not t)) (nan_bits_is binary64 b) (number_pattern b h))
 
   pub parsed_record : (d : Drawn) → d.station ≡ number_at bytes 0 2 → d.low ≡ of_bits binary64 low → d.high ≡ of_bits binary64 high
-      → low < 2047 * 2 ^ 52 → high < 2047 * 2 ^ 52 → ParsedAs bytes (parsed.Record d)
+      → low < 2047 * 2 ^ 52 → high < 2047 * 2 ^ 52 → ParsedAs bytes (Some d)
   unfolding ParsedAs drawn_bytes
   parsed_record d s p q h l =
       let a : to_bits binary64 d.low ≡ low = ap (to_bits binary64) p ∙ kept_bits low h in
@@ -143,7 +131,7 @@ module _ (d : Drawn) (p : Parseable d) where
   no_high n v load pairs w =
       let a = w.load_low in let b = w.pairs_low in n (load + pairs) (omega arith) (holds v load pairs w).high_is
 
-  pub numbers_read : (load sum : ℕ) (r : ReadBack) → NumberOf low_of (Whole load) → NumberOf high_of (Whole sum)
+  pub numbers_read : (load sum : ℕ) (r : ReadBack) → NumberOf low_of (Some load) → NumberOf high_of (Some sum)
       → NumbersRead d.station load sum r → Reads (drawn_bytes d) r
   unfolding Reads NumberOf NumbersRead drawn_bytes
   numbers_read load sum foreign m n k =

@@ -1,6 +1,6 @@
 -- Records of 18 bytes: what they hold determines them, and they determine what they hold.
 -- Assumes nothing.
-use Rattle.std.proofs.Common.{◌≡◌, ℕ, suc, ◌+◌, ◌/◌, ◌%◌, ◌^◌, ◌<◌, not, T, List, ◌++◌, length, get_or, take, drop, set, sym, refl, ap, ◌∙◌, subst, ap₂, div-one, arith}
+use Rattle.std.proofs.Common.{◌≡◌, ℕ, ◌+◌, ◌^◌, ◌<◌, not, T, List, ◌++◌, length, get_or, take, drop, sym, refl, ap, ◌∙◌, subst, ap₂, arith}
 use lib.Pow.{are_bytes}
 use lib.Seq.{sets, length-sets}
 use lib.Ieee.{binary64, is_nan, to_bits}
@@ -133,15 +133,15 @@ written_reads v load pairs h l k n = record { station_low = h; load_low = l; pai
 
 -- ---- what is written
 
--- two stores and two doubles are a record
-module _ (l once : List ℕ) (at v low : ℕ) (p : once ≡ sets (set (set l at (v / 256 % 256)) (at + 1) (v % 256)) (at + 2) (bytes_of 8 low))
+-- a station and two doubles are a record
+pub length_station : (l none : List ℕ) (at v : ℕ) → none ≡ sets l at (bytes_of 2 v) → length none ≡ length l
+length_station l none at v o = ap length o ∙ length-sets l at (bytes_of 2 v)
+
+module _ (l none once : List ℕ) (at v low : ℕ) (o : none ≡ sets l at (bytes_of 2 v)) (p : once ≡ sets none (at + 2) (bytes_of 8 low))
   where
     begun : once ≡ sets l at (bytes_of 2 v ++ bytes_of 8 low)
     unfolding bytes_of
-    begun =
-        let next : at + 1 ≡ suc at = omega arith in
-        let first : set (set l at (v / 256 % 256)) (at + 1) (v % 256) ≡ sets l at (bytes_of 2 v) = rw (next, div-one v) refl in
-        p ∙ ap (λ m. sets m (at + 2) (bytes_of 8 low)) first ∙ sets_append (bytes_of 2 v) (bytes_of 8 low) l at
+    begun = p ∙ ap (λ m. sets m (at + 2) (bytes_of 8 low)) o ∙ sets_append (bytes_of 2 v) (bytes_of 8 low) l at
 
     pub length_begun : length once ≡ length l
     length_begun = ap length begun ∙ length-sets l at (bytes_of 2 v ++ bytes_of 8 low)

@@ -1,26 +1,21 @@
 -- What the parts of reading a record answer. Definitions only.
 -- Assumes nothing.
-use Rattle.std.specs.Prelude.{◌≡◌, ℕ, ◌+◌, ◌*◌, ◌^◌, ◌<◌, List, ◌≢◌, to_bits}
+use Rattle.std.specs.Prelude.{◌≡◌, ℕ, ◌+◌, ◌*◌, ◌^◌, ◌<◌, List, ◌≢◌, Option, Some, None, to_bits}
 use Rattle.std.specs.Float.{binary64}
 use Rattle.temporal.specs.Drawing.{share_bits, ReadBack, foreign, station, Reads}
 use Rattle.drawing.specs.declared.Drawn.{Drawn}
-use Rattle.drawing.specs.declared.Number.{Number}
-use Rattle.drawing.specs.declared.Number.TheVariants as number
-use Rattle.drawing.specs.declared.Parsed.{Parsed}
-use Rattle.drawing.specs.declared.Parsed.TheVariants as parsed
 use Rattle.drawing.specs.declared.Reading.{Reading}
-use Rattle.drawing.specs.declared.Reading.TheVariants as reading
 use Rattle.drawing.specs.Doubles.{drawn_bytes}
 
 -- the answer in the definitions' words
-abbrev pub read_result : Reading → ReadBack
-read_result reading.Foreign = foreign
-read_result (reading.Station v load pairs) = station v load pairs
+abbrev pub read_result : Option Reading → ReadBack
+read_result None = foreign
+read_result (Some r) = station r.station r.load r.pairs
 
 -- the number below 2^53 whose share has these bits; none where no number's share has them
-unfoldable pub NumberOf : ℕ → Number → Type 0
-NumberOf b number.None = (x : ℕ) → x < 2 ^ 53 → share_bits x ≢ b
-NumberOf b (number.Whole x) = (x < 2 ^ 53) × (share_bits x ≡ b)
+unfoldable pub NumberOf : ℕ → Option ℕ → Type 0
+NumberOf b None = (x : ℕ) → x < 2 ^ 53 → share_bits x ≢ b
+NumberOf b (Some x) = (x < 2 ^ 53) × (share_bits x ≡ b)
 
 -- a station of 16 bits and doubles that are finite and carry no minus sign
 pub record Parseable (d : Drawn) : Type 0 where
@@ -29,9 +24,9 @@ pub record Parseable (d : Drawn) : Type 0 where
   pub high_finite : to_bits binary64 d.high < 2047 * 2 ^ 52
 
 -- the record that bytes are; none only where the bytes are foreign
-unfoldable pub ParsedAs : List ℕ → Parsed → Type 0
-ParsedAs bytes parsed.Foreign = Reads bytes foreign
-ParsedAs bytes (parsed.Record d) = Parseable d × (drawn_bytes d ≡ bytes)
+unfoldable pub ParsedAs : List ℕ → Option Drawn → Type 0
+ParsedAs bytes None = Reads bytes foreign
+ParsedAs bytes (Some d) = Parseable d × (drawn_bytes d ≡ bytes)
 
 -- station, load and pairs within the limits, where the pairs and the load add up to a sum
 pub record Limits (v load pairs sum : ℕ) : Type 0 where

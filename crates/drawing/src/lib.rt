@@ -9,11 +9,17 @@ ghost use Rattle.drawing.specs.Bytes.{number_at};
 ghost use Rattle.drawing.specs.Doubles.{carried_bits, DrawnAs, drawn_bytes};
 ghost use Rattle.drawing.specs.Reading.{read_result, NumberOf, Parseable, ParsedAs, NumbersRead};
 
-// What a station carries: a low and a high double, or nothing.
+// The bits of the double infinity; no share has these or higher ones.
+const INFINITY: u64 = 0x7ff0_0000_0000_0000;
+
+// Loads and numbers of pairs are below 2^49.
+const LIMIT: u64 = 1 << 49;
+
+// What a station carries.
 #[derive(Clone, Copy)]
-pub enum Figures {
-    Idle,
-    Carries(f64, f64),
+pub struct Figures {
+    pub low: f64,
+    pub high: f64,
 }
 
 // What a record holds.
@@ -32,15 +38,18 @@ pub fn share_value(x: u64) -> f64
     x as f64 / 4294967296.0
 }
 
-// The figures of a station with a load and a number of pairs.
-pub fn figures_of(load: u64, pairs: u64) -> Figures
+// The figures of a station with a load and a number of pairs; none of an idle one.
+pub fn figures_of(load: u64, pairs: u64) -> Option<Figures>
     requires { (load < 2 ^ 49) × (pairs < 2 ^ 49) }
     ensures { carried_bits result ≡ carried load pairs }
 {
     if pairs == 0 {
-        return Figures::Idle;
+        return None;
     }
-    Figures::Carries(share_value(load), share_value(load + pairs))
+    Some(Figures {
+        low: share_value(load),
+        high: share_value(load + pairs),
+    })
 }
 
 // What is drawn of a station; an idle one has zeros.
@@ -48,30 +57,23 @@ pub fn drawn_of(station: usize, load: u64, pairs: u64) -> Drawn
     requires { (load < 2 ^ 49) × (pairs < 2 ^ 49) }
     ensures { DrawnAs station load pairs result.station result.low result.high }
 {
-    let figures = figures_of(load, pairs);
-    match figures {
-        Figures::Idle => Drawn {
+    match figures_of(load, pairs) {
+        Some(Figures { low, high }) => Drawn { station, low, high },
+        None => Drawn {
             station,
             low: 0.0,
             high: 0.0,
         },
-        Figures::Carries(low, high) => Drawn { station, low, high },
     }
 }
 
 // Writes 64 bits from a place on, high byte first.
+#[tactic(auto, using(crate::proofs::ByteLaws::double_stored))]
 fn write_double(records: &mut [u8], at: usize, bits: u64)
     requires { at + 8 ≤ length records.old }
     ensures { records.new ≡ sets records.old at (bytes_of 8 bits) }
 {
-    records[at] = (bits / 72057594037927936 % 256) as u8;
-    records[at + 1] = (bits / 281474976710656 % 256) as u8;
-    records[at + 2] = (bits / 1099511627776 % 256) as u8;
-    records[at + 3] = (bits / 4294967296 % 256) as u8;
-    records[at + 4] = (bits / 16777216 % 256) as u8;
-    records[at + 5] = (bits / 65536 % 256) as u8;
-    records[at + 6] = (bits / 256 % 256) as u8;
-    records[at + 7] = (bits % 256) as u8;
+    records[at..at + 8].copy_from_slice(&bits.to_be_bytes());
 }
 
 // Writes a record from a place on: the station in 16 bits, then both doubles.
@@ -80,9 +82,8 @@ pub fn write_record(records: &mut [u8], at: usize, drawn: Drawn)
     requires no_nan { T (not (is_nan drawn.low)) × T (not (is_nan drawn.high)) }
     ensures { records.new ≡ sets records.old at (drawn_bytes drawn) }
 {
-    let station = drawn.station;
-    records[at] = (station / 256 % 256) as u8;
-    records[at + 1] = (station % 256) as u8;
+    let station = (drawn.station % 65536) as u16;
+    records[at..at + 2].copy_from_slice(&station.to_be_bytes());
     write_double(records, at + 2, f64::to_bits(drawn.low));
     write_double(records, at + 10, f64::to_bits(drawn.high));
 }
@@ -96,137 +97,103 @@ pub fn draw_station(records: &mut [u8], at: usize, station: usize, load: u64, pa
     write_record(records, at, drawn_of(station, load, pairs));
 }
 
-// The whole number below 2^53 whose share a double is, or none.
+// What is read back of bytes: a station with its load and its number of pairs.
 #[derive(Clone, Copy)]
-enum Number {
-    None,
-    Whole(u64),
-}
-
-// What bytes hold: a record of a station and two numbers that are not negative, or none.
-#[derive(Clone, Copy)]
-enum Parsed {
-    Foreign,
-    Record(Drawn),
-}
-
-// What is read back of bytes: a station with its load and its number of pairs, or that no station could have written them.
-#[derive(Clone, Copy)]
-pub enum Reading {
-    Foreign,
-    Station(usize, u64, u64),
-}
-
-// A byte as a number.
-fn wide(x: u8) -> u64
-    ensures { (result ≡ x) × (result < 256) }
-{
-    x as u64
+pub struct Reading {
+    pub station: usize,
+    pub load: u64,
+    pub pairs: u64,
 }
 
 // The 16 bits from a place on.
-fn read_word(bytes: &[u8], at: usize) -> u64
+#[tactic(auto, using(crate::proofs::ReadLaws::word_is))]
+fn read_word(bytes: &[u8], at: usize) -> u16
     requires { at + 2 ≤ length bytes.now }
-    ensures { (result ≡ number_at bytes.now at 2) × (result < 65536) }
+    ensures { result ≡ number_at bytes.now at 2 }
 {
-    wide(bytes[at]) * 256 + wide(bytes[at + 1])
+    let mut word = [0; 2];
+    word.copy_from_slice(&bytes[at..at + 2]);
+    u16::from_be_bytes(word)
 }
 
 // The 64 bits from a place on.
+#[tactic(auto, using(crate::proofs::ReadLaws::double_is))]
 fn read_double(bytes: &[u8], at: usize) -> u64
     requires { at + 8 ≤ length bytes.now }
     ensures { result ≡ number_at bytes.now at 8 }
 {
-    let high = read_word(bytes, at) * 65536 + read_word(bytes, at + 2);
-    let low = read_word(bytes, at + 4) * 65536 + read_word(bytes, at + 6);
-    high * 4294967296 + low
+    let mut word = [0; 8];
+    word.copy_from_slice(&bytes[at..at + 8]);
+    u64::from_be_bytes(word)
 }
 
-// The record that bytes are. Bits from the infinity's on are of no share.
+// The record that bytes are, or none. Bits from the infinity's on are of no share.
 #[tactic(auto, using(crate::proofs::RecordLaws::foreign_length), unfolding(crate::specs::Reading::ParsedAs))]
-fn parse_record(bytes: &[u8]) -> Parsed
+fn parse_record(bytes: &[u8]) -> Option<Drawn>
     ensures { ParsedAs bytes.now result }
 {
     if bytes.len() != 18 {
-        return Parsed::Foreign;
+        return None;
     }
     let low = read_double(bytes, 2);
-    if 9218868437227405312 <= low {
-        return Parsed::Foreign;
-    }
     let high = read_double(bytes, 10);
-    if 9218868437227405312 <= high {
-        return Parsed::Foreign;
+    if INFINITY <= low || INFINITY <= high {
+        return None;
     }
-    Parsed::Record(Drawn {
-        station: read_word(bytes, 0) as usize,
+    Some(Drawn {
+        station: usize::from(read_word(bytes, 0)),
         low: f64::from_bits(low),
         high: f64::from_bits(high),
     })
 }
 
-// The number whose share a double is: a guess, whose share is compared with the double bit by bit.
-fn number_of(value: f64) -> Number
+// The whole number below 2^53 whose share a double is, or none: a guess, whose share is compared with the double bit by bit.
+fn number_of(value: f64) -> Option<u64>
     requires { to_bits binary64 value < 2047 * 2 ^ 52 }
     ensures { NumberOf (to_bits binary64 value) result }
 {
     let scaled = value * 4294967296.0;
     if scaled < 18446744073709551616.0 {
         let x = std::num::truncating_f64_to_u64(scaled);
-        if x < 9007199254740992 {
-            if f64::to_bits(share_value(x)) == f64::to_bits(value) {
-                return Number::Whole(x);
-            }
+        if x < 9007199254740992 && f64::to_bits(share_value(x)) == f64::to_bits(value) {
+            return Some(x);
         }
     }
-    Number::None
+    None
 }
 
 // The station, load and pairs of a load and its sum with the pairs.
-fn read_numbers(station: usize, load: u64, sum: u64) -> Reading
+#[tactic(auto, unfolding(crate::specs::Reading::NumbersRead))]
+fn read_numbers(station: usize, load: u64, sum: u64) -> Option<Reading>
     ensures { NumbersRead station load sum (read_result result) }
 {
-    if 256 <= station {
-        return Reading::Foreign;
+    if 256 <= station || LIMIT <= load {
+        return None;
     }
-    if 562949953421312 <= load {
-        return Reading::Foreign;
+    let pairs = sum.checked_sub(load)?;
+    if LIMIT <= pairs || pairs == 0 && load != 0 {
+        return None;
     }
-    if sum < load {
-        return Reading::Foreign;
-    }
-    let pairs = sum - load;
-    if 562949953421312 <= pairs {
-        return Reading::Foreign;
-    }
-    if pairs == 0 {
-        if load != 0 {
-            return Reading::Foreign;
-        }
-    }
-    Reading::Station(station, load, pairs)
+    Some(Reading {
+        station,
+        load,
+        pairs,
+    })
 }
 
 // What a record says.
-fn read_drawn(drawn: Drawn) -> Reading
+#[tactic(auto, using(crate::proofs::ReadLaws::no_low, crate::proofs::ReadLaws::no_high, crate::proofs::ReadLaws::numbers_read))]
+fn read_drawn(drawn: Drawn) -> Option<Reading>
     requires { Parseable drawn }
     ensures { Reads (drawn_bytes drawn) (read_result result) }
 {
-    let Number::Whole(load) = number_of(drawn.low) else {
-        return Reading::Foreign;
-    };
-    let Number::Whole(sum) = number_of(drawn.high) else {
-        return Reading::Foreign;
-    };
-    read_numbers(drawn.station, load, sum)
+    read_numbers(drawn.station, number_of(drawn.low)?, number_of(drawn.high)?)
 }
 
-// Reads bytes back.
-pub fn read_record(bytes: &[u8]) -> Reading
+// Reads bytes back; none where no station could have written them.
+#[tactic(auto, unfolding(crate::specs::Reading::ParsedAs))]
+pub fn read_record(bytes: &[u8]) -> Option<Reading>
     ensures { Reads bytes.now (read_result result) }
 {
-    let Parsed::Record(drawn) = parse_record(bytes) else {
-        return Reading::Foreign;
-    };
-    read_drawn(drawn)
+    read_drawn(parse_record(bytes)?)
 }

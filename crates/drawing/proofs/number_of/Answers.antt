@@ -8,6 +8,7 @@ use Rattle.drawing.proofs.ShareLaws.{share_below}
 use Rattle.drawing.proofs.DoubleLaws.{bits_number}
 use Rattle.drawing.proofs.ReadLaws.{double_above, none_large, none_guessed, none_same}
 use Rattle.drawing.proofs.number_of.Goals as goal
+use Rattle.drawing.proofs.number_of.Goals.{else-x-lt9007199254740992-via-then-x-lt9007199254740992+else-share_value-value, else-x-lt9007199254740992-via-else-x-lt9007199254740992}
 
 pub truncating_f64_to_u64-x-requires : goal.truncating_f64_to_u64-x-requires
 unfolding of_bits
@@ -24,15 +25,15 @@ pub returns-then-share_value-value : goal.returns-then-share_value-value
 unfolding NumberOf
 returns-then-share_value-value c = (c.if-x-lt9007199254740992.true, sym c.share_value.ensures ∙ c.if-share_value-value.true)
 
-pub returns-else-share_value-value : goal.returns-else-share_value-value
-unfolding of_bits
-returns-else-share_value-value c =
-    none_same _ c.well_formed.0.1 _ c.truncating_f64_to_u64-x.ensures _ c.share_value.ensures
-    c.if-share_value-value.false
-
 pub returns-else-x-lt9007199254740992 : goal.returns-else-x-lt9007199254740992
 unfolding of_bits
-returns-else-x-lt9007199254740992 c = none_guessed _ c.well_formed.0.1 _ c.truncating_f64_to_u64-x.ensures c.if-x-lt9007199254740992.false
+returns-else-x-lt9007199254740992 c =
+    elim c.else-x-lt9007199254740992.branch [
+      | else-x-lt9007199254740992-via-then-x-lt9007199254740992+else-share_value-value w ↦
+          none_same _ c.well_formed.0.1 _ c.truncating_f64_to_u64-x.ensures _ w.share_value.ensures w.if-share_value-value.false
+      | else-x-lt9007199254740992-via-else-x-lt9007199254740992 w ↦
+          none_guessed _ c.well_formed.0.1 _ c.truncating_f64_to_u64-x.ensures w.if-x-lt9007199254740992.false
+    ]
 
 pub returns-else-scaled : goal.returns-else-scaled
 unfolding of_bits
