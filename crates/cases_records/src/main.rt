@@ -9,13 +9,13 @@
 use drawing::Reading;
 
 // Writes what is read.
-fn write_reading(rt: &impl Print, reading: Reading) {
+fn write_reading(rt: &impl Print, reading: Option<Reading>) {
     match reading {
-        Reading::Foreign => cases::write_part(rt, b" foreign", 8),
-        Reading::Station(station, load, pairs) => {
-            cases::write_number(rt, station as u64);
-            cases::write_number(rt, load);
-            cases::write_number(rt, pairs);
+        None => cases::write_part(rt, b" foreign", 8),
+        Some(reading) => {
+            cases::write_number(rt, reading.station as u64);
+            cases::write_number(rt, reading.load);
+            cases::write_number(rt, reading.pairs);
         }
     }
 }

@@ -5,6 +5,7 @@ use native.Mathlib.Omega.{arith}
 use mathlib.Core.Path.{◌≡◌, sym, ap, ap₂, subst, ◌∙◌}
 use mathlib.Core.Bool.{◌||◌}
 use mathlib.Core.List.{List, [], ◌∷◌, ◌++◌}
+use Rattle.std.specs.Prelude.{Option}
 use mathlib.Core.Logic.{◌↔◌, ⊎_elim}
 use borrow.Author.Tests.{ltb-false}
 use lib.Pow.{pow-add, pow_pos}
@@ -144,7 +145,7 @@ module _ (bs : List ℕ) (n t : ℕ) (terms : Terms) (old : DrawnBuffers) (r : L
       (true_or_false (too_many_anywhere (plan_of bs n t terms)))
 
   pub read_back :
-      (v : ℕ) → v < n → (b : Reading) → Reads (record_at new v) (read_result b) →
+      (v : ℕ) → v < n → (b : Option Reading) → Reads (record_at new v) (read_result b) →
       read_result b ≡ station v (get_or new.tables.load_table v 0) (get_or new.tables.pairs_table v 0)
   unfolding plan_of
   read_back v h b q =
@@ -158,7 +159,7 @@ module _ (bs : List ℕ) (n t : ℕ) (terms : Terms) (old : DrawnBuffers) (r : L
 
 -- ---- all bytes
 
-module _ (bytes : List ℕ) (a : Reading) (q : Reads bytes (read_result a)) where
+module _ (bytes : List ℕ) (a : Option Reading) (q : Reads bytes (read_result a)) where
   pub foreign_exactly : (read_result a ≡ foreign) ↔ ((v load pairs : ℕ) → CouldWrite v load pairs bytes → ⊥)
   unfolding Reads
   foreign_exactly = (

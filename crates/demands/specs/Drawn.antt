@@ -1,7 +1,7 @@
 -- Document 02's C-24: what holds of the loads for the drawing program, of the doubles in their records, and of records read back.
 -- Definitions only.
 -- Assumes nothing.
-use Rattle.std.specs.Prelude.{ℕ, ◌+◌, ◌*◌, ◌^◌, ◌≤◌, ◌<◌, ◌≡◌, ◌↔◌, ◌≢◌, List, length, get_or, take, drop}
+use Rattle.std.specs.Prelude.{ℕ, ◌+◌, ◌*◌, ◌^◌, ◌≤◌, ◌<◌, ◌≡◌, ◌↔◌, ◌≢◌, List, Option, length, get_or, take, drop}
 use Rattle.temporal.specs.Plan.{Plan, Terms}
 use Rattle.temporal.specs.Load.{pairs, load, common_count, exact_sum}
 use Rattle.temporal.specs.Bytes.{plan_of}
@@ -63,16 +63,16 @@ pub record DrawnDemand : Type 0 where
   -- reading a record back gives the station, load and pairs that wrote it
   pub read_back :
       (bs : List ℕ) (n t : ℕ) (terms : Terms) (old : DrawnBuffers) (r : LoadsAnswer) (new : DrawnBuffers) →
-      DrawnAccepts bs n t terms old r new → (v : ℕ) → v < n → (a : Reading) → Reads (record_at new v) (read_result a) →
+      DrawnAccepts bs n t terms old r new → (v : ℕ) → v < n → (a : Option Reading) → Reads (record_at new v) (read_result a) →
       read_result a ≡ station v (get_or new.tables.load_table v 0) (get_or new.tables.pairs_table v 0)
   -- Of all bytes: foreign is answered exactly where no station, load and pairs within the limits could have written them, so where they
   -- are not 18; and another answer is the one that could.
   pub foreign_exactly :
-      (bytes : List ℕ) (a : Reading) → Reads bytes (read_result a) →
+      (bytes : List ℕ) (a : Option Reading) → Reads bytes (read_result a) →
       (read_result a ≡ foreign) ↔ ((v load pairs : ℕ) → CouldWrite v load pairs bytes → ⊥)
-  pub foreign_length : (bytes : List ℕ) (a : Reading) → Reads bytes (read_result a) → length bytes ≢ 18 → read_result a ≡ foreign
+  pub foreign_length : (bytes : List ℕ) (a : Option Reading) → Reads bytes (read_result a) → length bytes ≢ 18 → read_result a ≡ foreign
   pub read_exactly :
-      (bytes : List ℕ) (a : Reading) → Reads bytes (read_result a) → (v load pairs : ℕ) →
+      (bytes : List ℕ) (a : Option Reading) → Reads bytes (read_result a) → (v load pairs : ℕ) →
       (read_result a ≡ station v load pairs) ↔ CouldWrite v load pairs bytes
   -- some kinds of them; and what the limits alone allow is read, as load 0 with pairs, or a load larger than pairs × 2^32
   pub kinds : (s low high : ℕ) → s < 65536 → low < 2 ^ 64 → high < 2 ^ 64 → ForeignKinds s low high

@@ -2,22 +2,22 @@
 use Prim.Native.Nat.{ℕ}
 use mathlib.Core.Path.{◌≡◌, refl, subst}
 use mathlib.Core.List.{List}
+use Rattle.std.specs.Prelude.{Option, Some, None}
 use Rattle.temporal.specs.Drawing.{foreign, station, Reads}
 use Rattle.drawing.specs.Reading.{read_result}
 use Rattle.drawing.specs.declared.Reading.{Reading}
-use Rattle.drawing.specs.declared.Reading.TheVariants as reading
 use Rattle.joftaki_c.specs.Reading.{ReadSlots, read_slots, ReadGiven}
 
-module _ (bytes : List ℕ) (r : Reading) (found : Reads bytes (read_result r)) (old : ReadSlots) where
-  pub given_station : (v load pairs : ℕ) → r ≡ reading.Station v load pairs → ReadGiven bytes 0 old (read_slots v load pairs)
-  given_station v load pairs e =
+module _ (bytes : List ℕ) (r : Option Reading) (found : Reads bytes (read_result r)) (old : ReadSlots) where
+  pub given_station : (a : Reading) → r ≡ Some a → ReadGiven bytes 0 old (read_slots a.station a.load a.pairs)
+  given_station a e =
       record {
-        answer = station v load pairs;
+        answer = station a.station a.load a.pairs;
         reads = subst (λ a. Reads bytes (read_result a)) e found;
         code = refl;
         slots = refl;
       }
 
-  pub given_foreign : r ≡ reading.Foreign → ReadGiven bytes 102 old old
+  pub given_foreign : r ≡ None → ReadGiven bytes 102 old old
   given_foreign e =
       record { answer = foreign; reads = subst (λ a. Reads bytes (read_result a)) e found; code = refl; slots = refl }

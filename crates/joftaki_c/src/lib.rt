@@ -41,7 +41,6 @@ ghost use Rattle.joftaki_c.specs.Code.{reply_code, reply_hops, way_given, way_ex
 ghost use Rattle.joftaki_c.specs.Reading.{read_slots, ReadGiven};
 
 use band::BandAnswer;
-use drawing::Reading;
 use foremost::ForemostAnswer;
 use judging::Judgement;
 use listing::WayAnswer;
@@ -247,13 +246,13 @@ pub extern "C" fn joftaki_read_record(
         (read_slots station.new load.new pairs.new) }
 {
     match drawing::read_record(bytes) {
-        Reading::Station(v, sum, count) => {
-            *station = v;
-            *load = sum;
-            *pairs = count;
+        Some(reading) => {
+            *station = reading.station;
+            *load = reading.load;
+            *pairs = reading.pairs;
             0
         }
-        Reading::Foreign => 102,
+        None => 102,
     }
 }
 
