@@ -27,8 +27,7 @@ use Rattle.temporal.proofs.CauseLaws.{
 use Rattle.plan.specs.Fault.{call_number}
 use Rattle.plan.specs.declared.CallFault.{CallFault}
 use Rattle.plan.proofs.Answers.{call-number-within}
-use Rattle.calls.specs.declared.CallCheck.{CallCheck}
-use Rattle.calls.specs.declared.CallCheck.TheVariants.{Free, Refused}
+use Rattle.std.specs.Prelude.{Result, Ok, Err}
 
 first_nothing : first [] ≡ 0
 unfolding first
@@ -81,7 +80,7 @@ module _ (terms : Terms) where
       }
 
 -- neither holds where none was found
-pub terms_free_by : (terms : Terms) (r : CallCheck) → call_check_number r ≡ first (terms_causes terms) → r ≡ Free → first (terms_causes terms) ≡ 0
+pub terms_free_by : (terms : Terms) (r : Result (Unit {0}) CallFault) → call_check_number r ≡ first (terms_causes terms) → r ≡ Ok tt → first (terms_causes terms) ≡ 0
 terms_free_by terms r found e = sym found ∙ ap call_check_number e
 
 -- ---- a pair
@@ -137,19 +136,19 @@ module _ (n t : ℕ) (terms : Terms) (s z lent named area : ℕ) where
   call_stations e = sym (first_append_none (terms_causes terms) _ e)
 
   -- what was found of 12 and 14 decides
-  module _ (r : CallCheck) (found : call_check_number r ≡ first (terms_causes terms)) where
-    pub call_refused : (f : CallFault) → r ≡ Refused f → call_number f ≡ pair_call_fault n t terms s z lent named area
+  module _ (r : Result (Unit {0}) CallFault) (found : call_check_number r ≡ first (terms_causes terms)) where
+    pub call_refused : (f : CallFault) → r ≡ Err f → call_number f ≡ pair_call_fault n t terms s z lent named area
     call_refused f e = call_terms (call_number f) (ap call_check_number (sym e) ∙ found) (call-number-within f).0
 
-    pub call_passed : r ≡ Free → stations_fault n t s z lent named area ≡ pair_call_fault n t terms s z lent named area
+    pub call_passed : r ≡ Ok tt → stations_fault n t s z lent named area ≡ pair_call_fault n t terms s z lent named area
     call_passed e = call_stations (sym found ∙ ap call_check_number e)
 
 -- ---- an operation that begins with the plan's causes, 12 and 14
 
 module _ {Values Buffers : Type 0} (zeros : Values) (old : Buffers) (work : Outcome Values Buffers) (bs : List ℕ) (n t : ℕ) (terms : Terms)
-    (m : List ℕ) (ok : plan_fault bs n t ≡ 0) (r : CallCheck) (found : call_check_number r ≡ first (terms_causes terms)) where
+    (m : List ℕ) (ok : plan_fault bs n t ≡ 0) (r : Result (Unit {0}) CallFault) (found : call_check_number r ≡ first (terms_causes terms)) where
   -- 12 or 14
-  pub terms_refused : (f : CallFault) → r ≡ Refused f
+  pub terms_refused : (f : CallFault) → r ≡ Err f
       → refused_with zeros old work (call_number f) ≡ entered (plan_causes bs n t ++ (terms_causes terms ++ m)) zeros old work
   terms_refused f e =
       let number : call_number f ≡ first (terms_causes terms) = ap call_check_number (sym e) ∙ found in

@@ -5,8 +5,8 @@ use Rattle.temporal.specs.Plan.{Terms}
 use Rattle.temporal.specs.Cause.{first, ends_causes, pair_causes}
 use Rattle.temporal.specs.Outcome.{work_size}
 use Rattle.plan.specs.Fault.{call_number}
-use Rattle.calls.specs.declared.CallCheck.{CallCheck}
-use Rattle.calls.specs.declared.CallCheck.TheVariants.{Free, Refused}
+use Rattle.std.specs.Prelude.{Result, Ok, Err}
+use Rattle.plan.specs.declared.CallFault.{CallFault}
 
 -- the first of 6, 7 and 8 of a call that names a pair, lends `lent` entries where `named` are asked, and `area` entries of the work
 -- area; 0 where none holds
@@ -18,6 +18,6 @@ unfoldable pub pair_call_fault : ℕ → ℕ → Terms → ℕ → ℕ → ℕ �
 pair_call_fault n t terms s z lent named area = first (pair_causes terms n s z (ltb lent named || ltb area (work_size n t)))
 
 -- 0 where no such cause holds
-abbrev pub call_check_number : CallCheck → ℕ
-call_check_number Free = 0
-call_check_number (Refused f) = call_number f
+abbrev pub call_check_number : Result (Unit {0}) CallFault → ℕ
+call_check_number (Ok x) = 0
+call_check_number (Err f) = call_number f

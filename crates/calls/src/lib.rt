@@ -9,44 +9,34 @@ ghost use Rattle.calls.specs.Call.{stations_fault, pair_call_fault, call_check_n
 
 use plan::CallFault;
 
-// Whether such a cause refuses a call.
-#[derive(Clone, Copy)]
-pub enum CallCheck {
-    Free,
-    Refused(CallFault),
-}
+// The most slots for which a reading is kept.
+const MOST_KEEPING: usize = 255;
 
 // Whether the turnaround is outside 1 to 16: 12.
 fn wrong_turnaround(g: usize) -> bool
     ensures { (h : ℕ) → result ≡ wrong_turnaround (units g h) }
 {
-    if g == 0 {
-        return true;
-    }
-    16 < g
+    g == 0 || 16 < g
 }
 
 // Whether a reading is kept for fewer slots than the turnaround, or for over 255: 14.
 fn wrong_keeping(g: usize, h: usize) -> bool
     ensures { result ≡ wrong_keeping (units g h) }
 {
-    if h < g {
-        return true;
-    }
-    255 < h
+    h < g || MOST_KEEPING < h
 }
 
 // 12 and 14 of a call that says the units' terms.
-pub fn terms_call(g: usize, h: usize) -> CallCheck
+pub fn terms_call(g: usize, h: usize) -> Result<(), CallFault>
     ensures { call_check_number result ≡ first (terms_causes (units g h)) }
 {
     if wrong_turnaround(g) {
-        return CallCheck::Refused(CallFault::Turnaround);
+        return Err(CallFault::Turnaround);
     }
     if wrong_keeping(g, h) {
-        return CallCheck::Refused(CallFault::Keeping);
+        return Err(CallFault::Keeping);
     }
-    CallCheck::Free
+    Ok(())
 }
 
 // 6, 7 and 8 of a call that names a pair and lends `lent` entries where `named` are asked, and `area` of the work area.
@@ -58,26 +48,20 @@ fn stations_call(
     lent: usize,
     named: usize,
     area: usize,
-) -> CallCheck
+) -> Result<(), CallFault>
     requires { (n ≤ 256) × (t ≤ 255) }
     ensures { call_check_number result ≡ stations_fault n t source destination lent named area }
 {
-    if n <= source {
-        return CallCheck::Refused(CallFault::Station);
-    }
-    if n <= destination {
-        return CallCheck::Refused(CallFault::Station);
+    if n <= source || n <= destination {
+        return Err(CallFault::Station);
     }
     if source == destination {
-        return CallCheck::Refused(CallFault::SameStation);
+        return Err(CallFault::SameStation);
     }
-    if lent < named {
-        return CallCheck::Refused(CallFault::Short);
+    if lent < named || area < 4 * (n * (t + 1)) {
+        return Err(CallFault::Short);
     }
-    if area < 4 * (n * (t + 1)) {
-        return CallCheck::Refused(CallFault::Short);
-    }
-    CallCheck::Free
+    Ok(())
 }
 
 // 12, 14, 6, 7 and 8 of a call that names a pair and lends such entries.
@@ -91,12 +75,10 @@ pub fn pair_call(
     lent: usize,
     named: usize,
     area: usize,
-) -> CallCheck
+) -> Result<(), CallFault>
     requires { (n ≤ 256) × (t ≤ 255) }
     ensures { call_check_number result ≡ pair_call_fault n t (units g h) source destination lent named area }
 {
-    let CallCheck::Refused(fault) = terms_call(g, h) else {
-        return stations_call(n, t, source, destination, lent, named, area);
-    };
-    CallCheck::Refused(fault)
+    terms_call(g, h)?;
+    stations_call(n, t, source, destination, lent, named, area)
 }

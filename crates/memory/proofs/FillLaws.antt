@@ -1,48 +1,48 @@
 -- A stretch of entries filled one by one: the loop, and what stands in every entry afterwards. Assumes nothing.
-use Prim.Native.Nat.{ℕ, zero, suc, ◌+◌, ◌-◌, ◌<◌, ◌≤◌}
+use Prim.Native.Nat.{ℕ, zero, suc, ◌+◌, ◌<◌, ◌≤◌}
 use native.Mathlib.Omega.{arith}
-use mathlib.Core.Path.{◌≡◌, refl, sym, ap, subst, ◌∙◌}
-use mathlib.Core.List.{List}
+use mathlib.Core.Path.{◌≡◌, refl, sym, ap, ◌∙◌}
+use mathlib.Core.List.{List, [], ◌∷◌, ◌++◌}
 use mathlib.Core.Logic.{◌⊎◌, inl, inr, ⊎_elim}
-use lib.ListN.{length, get_or, set, drop, replicate, length-set, length-replicate, get_or-replicate}
+use lib.ListN.{length, get_or, set, drop, take, replicate, length-set, length-replicate, get_or-replicate}
 use lib.Seq.{get_or-set_same, get_or-set_other, drop-set-lt}
+use Rattle.std.proofs.Math.ListN.{drop_of_length-le}
+use Rattle.std.proofs.lemmas.List.{append-nil, length-take-le}
+use Rattle.std.proofs.Common.{append_assoc}
+use Rattle.std.proofs.lemmas.List.Edits.{sets, sets-eq}
+use Rattle.std.proofs.Math.Numerals.{add-one}
 use Rattle.temporal.specs.Outcome.{over}
 use Rattle.lists.proofs.BufferLaws.{over_by}
 use Rattle.memory.specs.Fill.{filled}
 
--- the first j of size entries are written
-pub record Filling (to size x : ℕ) (old : List ℕ) (j : ℕ) (now : List ℕ) : Type 0 where
-  pub within : j ≤ size
-  pub same : length now ≡ length old
-  pub rest : filled now (to + j) (size - j) x ≡ filled old to size x
+-- one entry more of a list whose first entries are one value
+fill_step : {A : Type 0} (i : ℕ) (x : A) (l : List A) → i < length l → set (replicate i x ++ drop i l) i x ≡ replicate (suc i) x ++ drop (suc i) l
+fill_step zero x [] h = absurd (omega arith)
+fill_step zero x (y ∷ l) h = refl
+fill_step (suc i) x [] h = absurd (omega arith)
+fill_step (suc i) x (y ∷ l) h = ap (λ m. x ∷ m) (fill_step i x l (omega arith))
 
-module _ (to size x : ℕ) (old : List ℕ) where
-  -- at first no entry is written
-  pub filling_none : Filling to size x old 0 old
-  filling_none =
-      let a : to + 0 ≡ to = omega arith in
-      let c : size - 0 ≡ size = omega arith in
-      record { within = omega arith; same = refl; rest = rw (a, c) }
+pub fill_next : {A : Type 0} (i : ℕ) (x : A) (l : List A) → i < length l → set (replicate i x ++ drop i l) i x ≡ replicate (i + 1) x ++ drop (i + 1) l
+fill_next i x l h = let e = add-one i in rw e (fill_step i x l h)
 
-  -- one entry more
-  pub filling_more : (j : ℕ) (now : List ℕ) → j < size → Filling to size x old j now
-      → Filling to size x old (j + 1) (set now (to + j) x)
-  unfolding filled
-  filling_more j now h y =
-      let a : to + (j + 1) ≡ to + j + 1 = omega arith in
-      let c : size - j ≡ suc (size - (j + 1)) = omega arith in
-      record {
-        within = omega arith;
-        same = length-set now (to + j) x ∙ y.same;
-        rest = rw a (sym (ap (λ k. filled now (to + j) k x) c) ∙ y.rest);
-      }
+-- at last all of the first k are
+pub fill_all : {A : Type 0} (k i : ℕ) (x : A) (table : List A) → k ≤ length table → i ≡ k
+    → (replicate i x ++ drop i (take k table)) ++ drop k table ≡ over (replicate k x) table
+unfolding over
+fill_all k i x table fits e =
+    let none : drop i (take k table) ≡ [] = drop_of_length-le (take k table) (omega (arith, length-take-le k table fits)) in
+    rw (none, e, append-nil (replicate k x), length-replicate k x)
 
-  -- at last all are
-  pub filling_all : (j : ℕ) (now : List ℕ) → size ≤ j → Filling to size x old j now → now ≡ filled old to size x
-  unfolding filled
-  filling_all j now h y =
-      let c : size - j ≡ 0 = omega arith in
-      sym (ap (λ k. filled now (to + j) k x) c) ∙ y.rest
+filled_sets : (w : List ℕ) (to k x : ℕ) → filled w to k x ≡ sets w to (replicate k x)
+unfolding filled
+filled_sets w to zero x = refl
+filled_sets w to (suc k) x = filled_sets (set w to x) (to + 1) k x ∙ ap (λ i. sets (set w to x) i (replicate k x)) (add-one to)
+
+-- a stretch filled is one written as a list
+pub filled_is : (w : List ℕ) (to k x : ℕ) → to + k ≤ length w → filled w to k x ≡ take to w ++ (replicate k x ++ drop (to + k) w)
+filled_is w to k x fits =
+    let n = length-replicate k x in
+    filled_sets w to k x ∙ sets-eq (replicate k x) w to (omega arith) ∙ rw (append_assoc (take to w) (replicate k x) (drop (to + length (replicate k x)) w)) (ap (λ j. take to w ++ (replicate k x ++ drop (to + j) w)) n)
 
 -- the length stays
 pub filled_length : (w : List ℕ) (to k x : ℕ) → length (filled w to k x) ≡ length w
@@ -86,11 +86,3 @@ filled_start w k x fits =
     let same : 0 + i ≡ i = omega arith in
     sym (ap (λ j. get_or (filled w 0 k x) j 0) same) ∙ filled_at w 0 k x i h (omega arith) ∙ sym (get_or-replicate k i x 0 h))
     (filled_beyond w 0 k x k (omega arith))
-
--- one entry more of a stretch at the beginning
-pub filling_next :
-    (size x : ℕ) (old : List ℕ) (j : ℕ) (now : List ℕ) → j < size → Filling 0 size x old j now →
-    Filling 0 size x old (j + 1) (set now j x)
-filling_next size x old j now h f =
-    let same : 0 + j ≡ j = omega arith in
-    subst (λ i. Filling 0 size x old (j + 1) (set now i x)) same (filling_more 0 size x old j now h f)

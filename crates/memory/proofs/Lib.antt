@@ -1,2 +1,1 @@
 pub mod FillLaws
-mod CopyLaws

@@ -11,30 +11,16 @@ pub fn fill_part(table: &mut [u64], to: usize, size: usize, x: u64)
     requires { to + size ≤ length table.old }
     ensures { table.new ≡ filled table.old to size x }
 {
-    let mut i = 0;
-    while i < size {
-        table[to + i] = x;
-        i += 1;
-    }
+    table[to..to + size].fill(x);
 }
 
-// Writes one number to the first k entries.
-pub fn fill64(table: &mut [u64], k: usize, x: u64)
+// Writes one value to the first k entries.
+pub fn fill<T: Copy>(table: &mut [T], k: usize, x: T)
     requires { k ≤ length table.old }
     ensures { table.new ≡ over (replicate k x) table.old }
 {
-    fill_part(table, 0, k, x);
-}
-
-// Writes one number to the first k entries.
-pub fn fill16(table: &mut [u16], k: usize, x: u16)
-    requires { k ≤ length table.old }
-    ensures { table.new ≡ over (replicate k x) table.old }
-{
-    let mut i = 0;
-    while i < k {
-        table[i] = x;
-        i += 1;
+    for entry in table[..k].iter_mut() {
+        *entry = x;
     }
 }
 
@@ -43,19 +29,7 @@ pub fn clear(table: &mut [u64], k: usize)
     requires { k ≤ length table.old }
     ensures { table.new ≡ over (replicate k 0) table.old }
 {
-    fill_part(table, 0, k, 0);
-}
-
-// Writes one number to the first k entries.
-pub fn fill8(table: &mut [u8], k: usize, x: u8)
-    requires { k ≤ length table.old }
-    ensures { table.new ≡ over (replicate k x) table.old }
-{
-    let mut i = 0;
-    while i < k {
-        table[i] = x;
-        i += 1;
-    }
+    table[..k].fill(0);
 }
 
 // Copies k entries of a list, from a place on, to the beginning of a table.
@@ -63,10 +37,5 @@ pub fn copy(table: &mut [u64], list: &[u64], from: usize, k: usize)
     requires { Copyable list.now from k table.old }
     ensures { Copied list.now from k table.old table.new }
 {
-    let mut i = 0;
-    while i < k {
-        let at = from + i;
-        table[i] = list[at];
-        i += 1;
-    }
+    table[..k].copy_from_slice(&list[from..from + k]);
 }

@@ -16,8 +16,8 @@ use Rattle.plan.specs.declared.CallFault.{CallFault}
 use Rattle.plan.specs.declared.CallFault.TheVariants as call-fault
 use Rattle.plan.specs.declared.Fault.{Fault}
 use Rattle.plan.specs.declared.Fault.TheVariants as fault
-use Rattle.plan.specs.declared.CheckAnswer.{CheckAnswer}
-use Rattle.plan.specs.declared.CheckAnswer.TheVariants.{Accepted, Refused}
+use Rattle.std.specs.Prelude.{Result, Ok, Err}
+use Rattle.std.specs.Result.{IsErrAnd}
 
 -- no fault has the number 0
 pub number-positive : (f : PlanFault) → 0 < plan_number f
@@ -53,11 +53,16 @@ fault-number-within (fault.Plan f) = (number-positive f, omega (arith, plan-numb
 fault-number-within (fault.Call f) = call-number-within f
 
 module _ (bs : List ℕ) (n t i : ℕ) (inside : i < records bs) (rest : plan_fault bs n t ≡ fault_from bs n t i)
-    (r : CheckAnswer) (answer : check_number r ≡ first (record_causes bs n t i)) where
-  pub refused-decides : (f : PlanFault) → r ≡ Refused f → plan_number f ≡ plan_fault bs n t
+    (r : Result (Unit {0}) PlanFault) (answer : check_number r ≡ first (record_causes bs n t i)) where
+  pub refused-decides : (f : PlanFault) → r ≡ Err f → plan_number f ≡ plan_fault bs n t
   refused-decides f e =
       let here : plan_number f ≡ first (record_causes bs n t i) = ap check_number (sym e) ∙ answer in
       here ∙ sym (rest ∙ records_stop bs n t i inside (subst (λ k. 0 < k) here (number-positive f)))
 
-  pub accepted-passes : r ≡ Accepted → plan_fault bs n t ≡ fault_from bs n t (i + 1)
+  pub accepted-passes : r ≡ Ok tt → plan_fault bs n t ≡ fault_from bs n t (i + 1)
   accepted-passes e = rest ∙ records_pass bs n t i inside (sym answer ∙ ap check_number e)
+
+-- what the exit of a `?` answers
+pub err_is : {A E : Type 0} (r : Result A E) (e : E) → IsErrAnd r (λ y. y ≡ e) → r ≡ Err e
+err_is (Ok x) e h = absurd h
+err_is (Err y) e h = ap Err h

@@ -1,14 +1,12 @@
 -- Document 01's number for each fault and for each answer. Definitions only.
 -- Assumes nothing.
-use Rattle.std.specs.Prelude.{ℕ}
+use Rattle.std.specs.Prelude.{ℕ, Result, Ok, Err}
 use Rattle.plan.specs.declared.PlanFault.{PlanFault}
 use Rattle.plan.specs.declared.PlanFault.TheVariants as plan-fault
 use Rattle.plan.specs.declared.CallFault.{CallFault}
 use Rattle.plan.specs.declared.CallFault.TheVariants as call-fault
 use Rattle.plan.specs.declared.Fault.{Fault}
 use Rattle.plan.specs.declared.Fault.TheVariants as fault
-use Rattle.plan.specs.declared.CheckAnswer.{CheckAnswer}
-use Rattle.plan.specs.declared.CheckAnswer.TheVariants as check-answer
 
 -- causes 1 to 5
 abbrev pub plan_number : PlanFault → ℕ
@@ -38,6 +36,11 @@ fault_number (fault.Plan f) = plan_number f
 fault_number (fault.Call f) = call_number f
 
 -- 0 where a plan is accepted
-abbrev pub check_number : CheckAnswer → ℕ
-check_number check-answer.Accepted = 0
-check_number (check-answer.Refused f) = plan_number f
+abbrev pub check_number : Result (Unit {0}) PlanFault → ℕ
+check_number (Ok x) = 0
+check_number (Err f) = plan_number f
+
+-- 0 where an operation answers
+abbrev pub answer_number : {A : Type 0} → Result A Fault → ℕ
+answer_number (Ok x) = 0
+answer_number (Err f) = fault_number f

@@ -7,11 +7,19 @@ ghost use Rattle.temporal.specs.Plan.{window_first, window_end};
 ghost use Rattle.temporal.specs.Bytes.{word_at, contact_at};
 ghost use Rattle.temporal.specs.Struck.{lacking_record, position_with};
 ghost use Rattle.temporal.specs.Cause.{first, is_above, record_causes, plan_fault};
+ghost use Rattle.plan.specs.declared.Fault.TheVariants.{Plan, Call};
 ghost use Rattle.plan.specs.Fault.{plan_number, call_number, fault_number, check_number};
 ghost use Rattle.plan.specs.Record.{contact_of, in_slot, SlotRecords};
 
+// The most stations, slots and records of a plan.
+const MOST_STATIONS: usize = 256;
+
+const MOST_SLOTS: usize = 255;
+
+const MOST_RECORDS: usize = 8192;
+
 // A fault of the plan, document 01's causes 1 to 5 in turn.
-#[derive(Clone, Copy)]
+#[derive(Clone, Copy, Debug, PartialEq, Eq)]
 pub enum PlanFault {
     Limits,
     Length,
@@ -21,7 +29,7 @@ pub enum PlanFault {
 }
 
 // A fault of the call, document 01's causes 6 to 10 in turn, then document 02's.
-#[derive(Clone, Copy)]
+#[derive(Clone, Copy, Debug, PartialEq, Eq)]
 pub enum CallFault {
     Station,
     SameStation,
@@ -38,17 +46,26 @@ pub enum CallFault {
 }
 
 // Why an operation refuses.
-#[derive(Clone, Copy)]
+#[derive(Clone, Copy, Debug, PartialEq, Eq)]
 pub enum Fault {
     Plan(PlanFault),
     Call(CallFault),
 }
 
-// What check answers.
-#[derive(Clone, Copy)]
-pub enum CheckAnswer {
-    Accepted,
-    Refused(PlanFault),
+impl From<PlanFault> for Fault {
+    ghost from_gives = { λ f r. r ≡ Plan f };
+
+    fn from(fault: PlanFault) -> Fault {
+        Fault::Plan(fault)
+    }
+}
+
+impl From<CallFault> for Fault {
+    ghost from_gives = { λ f r. r ≡ Call f };
+
+    fn from(fault: CallFault) -> Fault {
+        Fault::Call(fault)
+    }
 }
 
 // Document 01's number of a fault of the plan.
@@ -95,12 +112,12 @@ pub fn fault_number(fault: Fault) -> usize
 }
 
 // Document 01's number of check's answer, 0 where the plan is accepted.
-pub fn check_number(answer: CheckAnswer) -> usize
+pub fn check_number(answer: Result<(), PlanFault>) -> usize
     ensures { result ≡ check_number answer }
 {
     match answer {
-        CheckAnswer::Accepted => 0,
-        CheckAnswer::Refused(f) => plan_number(f),
+        Ok(()) => 0,
+        Err(fault) => plan_number(fault),
     }
 }
 
@@ -112,19 +129,12 @@ pub struct Contact {
     pub hearer: usize,
 }
 
-// A byte as a number below 256.
-fn wide(x: u8) -> usize
-    ensures { (result ≡ x) × (result < 256) }
-{
-    x as usize
-}
-
 // The 16-bit number whose first byte stands at k, high byte first.
 fn word_at(plan: &[u8], k: usize) -> usize
     requires { k + 1 < length plan.now }
     ensures { result ≡ word_at plan.now k }
 {
-    wide(plan[k]) * 256 + wide(plan[k + 1])
+    u16::from_be_bytes([plan[k], plan[k + 1]]) as usize
 }
 
 // The record at position i. It is no operation: the crates above read records of accepted plans by it.
@@ -144,12 +154,7 @@ pub fn contact_at(plan: &[u8], i: usize) -> Contact
 pub fn in_slot(plan: &[u8], j: usize, u: usize) -> bool
     ensures { result ≡ in_slot plan.now j u }
 {
-    if j < plan.len() / 6 {
-        let c = contact_at(plan, j);
-        c.slot == u
-    } else {
-        false
-    }
+    j < plan.len() / 6 && contact_at(plan, j).slot == u
 }
 
 // The next four functions read a plan without the record at position out, as if its bytes lacked those six; where there is no such record,
@@ -158,10 +163,7 @@ fn position_with(out: usize, j: usize) -> usize
     requires { j < 18446744073709551615 }
     ensures { result ≡ position_with out j }
 {
-    if j < out {
-        return j;
-    }
-    j + 1
+    if j < out { j } else { j + 1 }
 }
 
 // The record at position j.
@@ -176,10 +178,7 @@ pub fn kept_contact(plan: &[u8], out: usize, j: usize) -> Contact
 pub fn kept_in_slot(plan: &[u8], out: usize, j: usize, u: usize) -> bool
     ensures { result ≡ in_slot (lacking_record plan.now out) j u }
 {
-    if j < plan.len() {
-        return in_slot(plan, position_with(out, j), u);
-    }
-    false
+    j < plan.len() && in_slot(plan, position_with(out, j), u)
 }
 
 // The position past the records of slot u that stand from j on.
@@ -187,6 +186,7 @@ pub fn kept_slot_end(plan: &[u8], out: usize, j: usize, u: usize) -> usize
     requires { j * 6 ≤ length (lacking_record plan.now out) }
     ensures { SlotRecords (lacking_record plan.now out) u j result }
 {
+    // The loop ends at the first record of another slot, so it counts to no end that is known before.
     let mut i = j;
     while kept_in_slot(plan, out, i, u) {
         i += 1;
@@ -222,80 +222,46 @@ fn is_above(c: Contact, d: Contact) -> bool
 }
 
 // The first of the causes 3, 4 and 5 of the record at i. It is compared with its neighbour once it passed 3 and 4.
-fn check_record(plan: &[u8], n: usize, t: usize, i: usize) -> CheckAnswer
+fn check_record(plan: &[u8], n: usize, t: usize, i: usize) -> Result<(), PlanFault>
     requires { i * 6 + 5 < length plan.now }
     ensures { check_number result ≡ first (record_causes plan.now n t i) }
 {
     let c = contact_at(plan, i);
-    if c.slot == 0 {
-        return CheckAnswer::Refused(PlanFault::Slot);
+    if c.slot == 0 || t < c.slot {
+        return Err(PlanFault::Slot);
     }
-    if t < c.slot {
-        return CheckAnswer::Refused(PlanFault::Slot);
+    if c.sender == c.hearer || n <= c.sender || n <= c.hearer {
+        return Err(PlanFault::Ends);
     }
-    if c.sender == c.hearer {
-        return CheckAnswer::Refused(PlanFault::Ends);
-    }
-    if n <= c.sender {
-        return CheckAnswer::Refused(PlanFault::Ends);
-    }
-    if n <= c.hearer {
-        return CheckAnswer::Refused(PlanFault::Ends);
-    }
-    if i == 0 {
-        return CheckAnswer::Accepted;
-    }
-    if is_above(contact_at(plan, i - 1), c) {
-        CheckAnswer::Accepted
+    if i == 0 || is_above(contact_at(plan, i - 1), c) {
+        Ok(())
     } else {
-        CheckAnswer::Refused(PlanFault::Order)
+        Err(PlanFault::Order)
     }
 }
 
 // Operation 1, check: accepts a plan of n stations and t slots exactly where no cause 1 to 5 holds, and else gives the
 // first in document 01's order, record by record.
-pub fn check(plan: &[u8], n: usize, t: usize) -> CheckAnswer
+pub fn check(plan: &[u8], n: usize, t: usize) -> Result<(), PlanFault>
     ensures { check_number result ≡ plan_fault plan.now n t }
 {
-    if n == 0 {
-        return CheckAnswer::Refused(PlanFault::Limits);
+    if n == 0 || MOST_STATIONS < n || t == 0 || MOST_SLOTS < t {
+        return Err(PlanFault::Limits);
     }
-    if 256 < n {
-        return CheckAnswer::Refused(PlanFault::Limits);
+    if plan.len() % 6 != 0 || MOST_RECORDS < plan.len() / 6 {
+        return Err(PlanFault::Length);
     }
-    if t == 0 {
-        return CheckAnswer::Refused(PlanFault::Limits);
+    for i in 0..plan.len() / 6 {
+        check_record(plan, n, t, i)?;
     }
-    if 255 < t {
-        return CheckAnswer::Refused(PlanFault::Limits);
-    }
-    let size = plan.len();
-    if size % 6 != 0 {
-        return CheckAnswer::Refused(PlanFault::Length);
-    }
-    let m = size / 6;
-    if 8192 < m {
-        return CheckAnswer::Refused(PlanFault::Length);
-    }
-    let mut i = 0;
-    while i < m {
-        let answer = check_record(plan, n, t, i);
-        if let CheckAnswer::Refused(fault) = answer {
-            return CheckAnswer::Refused(fault);
-        }
-        i += 1;
-    }
-    CheckAnswer::Accepted
+    Ok(())
 }
 
 // The first slot after the start that a contact in slot u may follow, where a reading is kept for h slots.
 pub fn window_first(h: usize, u: usize) -> usize
     ensures { result ≡ window_first h u }
 {
-    if u <= h {
-        return 1;
-    }
-    u - h
+    u.saturating_sub(h).max(1)
 }
 
 // The slot past the last that a contact in slot u may follow, with turnaround g.
@@ -303,8 +269,5 @@ pub fn window_end(g: usize, u: usize) -> usize
     requires { 0 < g }
     ensures { result ≡ window_end g u }
 {
-    if u < g {
-        return 1;
-    }
-    u - g + 1
+    u.saturating_sub(g) + 1
 }

@@ -1,9 +1,16 @@
--- `memory::clear` meets its contract: a stretch filled from the first entry on, as a whole list.
+-- `memory::clear` meets its contract.
 -- Assumes nothing.
-use native.Mathlib.Omega.{arith}
-use mathlib.Core.Path.{◌∙◌}
-use Rattle.memory.proofs.FillLaws.{filled_start}
+use Prim.Native.Nat.{ℕ}
+use mathlib.Core.Path.{ap, ◌∙◌}
+use mathlib.Core.List.{◌++◌}
+use lib.ListN.{drop, replicate, length-replicate}
+use Rattle.std.proofs.lemmas.List.{length-take-le}
+use Rattle.temporal.specs.Outcome.{over}
 use Rattle.memory.proofs.clear.Goals as goal
 
 pub returns : goal.returns
-returns c = c.fill_part.ensures ∙ filled_start _ _ _ (omega arith)
+unfolding over
+returns c =
+    rw (length-replicate {A = ℕ} c.args.k 0)
+    (ap (λ l. l ++ drop c.args.k c.args.table.now)
+    (c.fill.ensures.after (λ y e. e) ∙ ap (λ n. replicate n 0) (length-take-le _ _ c.requires)))

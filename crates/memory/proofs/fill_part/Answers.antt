@@ -1,30 +1,17 @@
--- `memory::fill_part` meets its contract. The loop's invariant: writing the entries from i on gives what writing all gives. The
--- measure is the number of entries left.
+-- `memory::fill_part` meets its contract.
 -- Assumes nothing.
 use native.Mathlib.Omega.{arith}
-use Rattle.memory.proofs.FillLaws.{filling_none, filling_more, filling_all}
+use mathlib.Core.Path.{◌≡◌, ap, sym, ◌∙◌}
+use Prim.Native.Nat.{◌+◌, ◌-◌}
+use lib.ListN.{length, take, drop, replicate}
+use Rattle.std.proofs.lemmas.List.{length-take-le, length-drop, drop-drop}
+use Rattle.memory.proofs.FillLaws.{filled_is}
 use Rattle.memory.proofs.fill_part.Goals as goal
 
-pub loop-i-init : goal.loop-i-init
-loop-i-init c = filling_none _ _ _ _
-
-pub overflow_add-table : goal.overflow_add-table
-overflow_add-table c = omega arith
-
-pub bounds-table-to : goal.bounds-table-to
-bounds-table-to c = omega arith
-
-pub overflow_add-i : goal.overflow_add-i
-overflow_add-i c = omega arith
-
-pub loop-i-smaller : goal.loop-i-smaller
-loop-i-smaller c = omega arith
-
-pub loop-i-preserved : goal.loop-i-preserved
-loop-i-preserved c = filling_more _ _ _ _ _ _ (omega arith) c.loop-i.invariant
-
-pub shape_of-table : goal.shape_of-table
-shape_of-table c = c.loop-i.invariant.same
-
 pub returns : goal.returns
-returns c = filling_all _ _ _ _ _ _ (omega arith) c.loop-i.invariant
+returns c =
+    let k : c.args.to + c.args.size - c.args.to ≡ c.args.size = omega arith in
+    let n : length (take c.args.size (drop c.args.to c.args.table.now)) ≡ c.args.size =
+    length-take-le _ _ (omega (arith, length-drop c.args.to c.args.table.now)) in
+    let h : c.fill.new.self ≡ replicate c.args.size c.args.x = c.fill.ensures.after (λ y e. e) ∙ ap (λ j. replicate j c.args.x) (rw k n) in
+    rw (k, h, drop-drop c.args.size c.args.to c.args.table.now) (sym (filled_is _ _ _ _ c.requires))

@@ -1,7 +1,6 @@
--- `plan::check` meets its contract. The loop's invariant: the plan's first cause is the first cause of the records from i
--- on. The measure is the number of records left.
+-- `plan::check` meets its contract. The loop's invariant: the plan's first cause is the first cause of the records from i on.
 -- Assumes nothing.
-use Prim.Native.Nat.{ℕ, ◌-◌, ◌*◌, ◌≤◌}
+use Prim.Native.Nat.{ℕ, ◌*◌}
 use mathlib.Core.Path.{◌≡◌}
 use mathlib.Core.List.{List}
 use lib.ListN.{length}
@@ -10,15 +9,11 @@ use Rattle.temporal.specs.Cause.{plan_fault}
 use Rattle.walks.proofs.CheckLaws.{fault_from}
 use Rattle.plan.proofs.check.Given as goal
 
--- the records below i have no cause
+-- the records below i, of m, have no cause
 pub record Passed (bs : List ℕ) (n t m i : ℕ) : Type 0 where
-  pub within : i ≤ m
   pub whole : length bs ≡ m * 6
   pub count : m ≡ records bs
   pub rest : plan_fault bs n t ≡ fault_from bs n t i
 
 abbrev pub invariant-loop-i : goal.invariant-loop-i
-invariant-loop-i l = Passed l.plan l.n l.t l.m l.i
-
-abbrev pub decreases-loop-i : goal.decreases-loop-i
-decreases-loop-i l = l.m - l.i
+invariant-loop-i l = Passed l.plan l.n l.t l.i-end l.i

@@ -9,7 +9,7 @@ use Rattle.plan.proofs.in_slot.Goals as goal
 
 pub returns-then-j-plan : goal.returns-then-j-plan
 unfolding in_slot records
-returns-then-j-plan c = rw (lt-ltb _ _ c.if-j-plan.true) (ap (λ x. eqb x.slot c.args.u) c.contact_at-c.ensures)
+returns-then-j-plan c = rw (lt-ltb _ _ c.if-j-plan.true) (ap (λ x. eqb x.slot c.args.u) c.contact_at.ensures)
 
 pub returns-else-j-plan : goal.returns-else-j-plan
 unfolding in_slot records

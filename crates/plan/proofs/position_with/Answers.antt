@@ -8,5 +8,5 @@ use Rattle.plan.proofs.position_with.Goals as goal
 pub returns-then-j-out : goal.returns-then-j-out
 returns-then-j-out c = sym (position_before _ _ (omega arith))
 
-pub returns : goal.returns
-returns c = sym (position_after _ _ (omega arith))
+pub returns-else-j-out : goal.returns-else-j-out
+returns-else-j-out c = sym (position_after _ _ (omega arith))

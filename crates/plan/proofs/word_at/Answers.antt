@@ -6,4 +6,4 @@ use Rattle.plan.proofs.word_at.Goals as goal
 
 pub returns : goal.returns
 unfolding word_at
-returns c = omega arith
+returns c = omega (arith, c.from_be_bytes.ensures)

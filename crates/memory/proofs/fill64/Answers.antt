@@ -1,9 +1,0 @@
--- `memory::fill64` meets its contract: a stretch filled from the first entry on, as a whole list.
--- Assumes nothing.
-use native.Mathlib.Omega.{arith}
-use mathlib.Core.Path.{◌∙◌}
-use Rattle.memory.proofs.FillLaws.{filled_start}
-use Rattle.memory.proofs.fill64.Goals as goal
-
-pub returns : goal.returns
-returns c = c.fill_part.ensures ∙ filled_start _ _ _ (omega arith)
