@@ -1,18 +1,18 @@
 -- Loads, differences and zeros written to a table of changes, as the machine's words hold them. Assumes nothing.
 use Prim.Native.Nat.{ℕ, ◌+◌, ◌^◌, ◌≤◌, ◌<◌}
 use native.Mathlib.Omega.{arith}
-use mathlib.Core.Path.{◌≡◌, sym, ap, ap₂, subst, ◌∙◌}
-use mathlib.Core.List.{List}
+use mathlib.Core.Path.{◌≡◌, refl, sym, ap, ap₂, subst, ◌∙◌}
+use mathlib.Core.List.{List, ◌++◌}
 use lib.IntN.{ℤ, pos, ◌-ℤ◌}
-use lib.ListN.{get_or, set}
+use lib.ListN.{length, get_or, set, take, drop, replicate, length-replicate}
+use lib.Seq.{length-take-le}
 use mir.Syntax.{w64}
 use mir.Val.{SFits, to_z, of_z}
 use mir.ValLaws.{to_z-of_z}
-use Rattle.temporal.specs.Lists.{below}
 use Rattle.temporal.specs.Outcome.{over}
 use Rattle.walks.proofs.StruckLoads.{difference_fits}
 use Rattle.changes.specs.Changes.{Writable, IsLoad, Subtractable, load_at, difference_at, with_zeros}
-use Rattle.changes.proofs.WritingLaws.{Writing, writing_behind, writing_more, writing_all, map_one}
+use Rattle.changes.proofs.WritingLaws.{Writing, writing_behind, writing_more}
 
 -- a load fits 64 bits with a sign
 pub load_fits : (a : ℕ) → a < 2 ^ 49 → SFits w64 (pos a)
@@ -62,11 +62,10 @@ module _ (loads : List ℕ) (at n : ℕ) (old : List ℤ) (v : ℕ) (h : v < n) 
         (sym (stored ∙ ap₂ ◌-ℤ◌ (load_read (get_or loads (at + v) 0) (pre.writable.small v h)) entry_read))
         (writing_more (difference_at loads at old) n old v table pre.writable.changes_room h w)
 
--- the value of every entry that is cleared
-abbrev pub zero_at : ℕ → ℤ
-zero_at v = pos 0
-
--- at last all entries are cleared
-pub zeros_all : (n : ℕ) (old : List ℤ) (v : ℕ) (table : List ℤ) → n ≤ v → Writing zero_at n old v table → table ≡ with_zeros n old
-unfolding with_zeros below
-zeros_all n old v table h w = writing_all zero_at n old v table h w ∙ ap (λ l. over l old) (map_one (pos 0) 0 n)
+-- zeros in place of the first entries
+pub zeros_filled : (n : ℕ) (old part : List ℤ) → n ≤ length old → part ≡ replicate (length (take n old)) (pos 0) →
+    part ++ drop n old ≡ with_zeros n old
+unfolding with_zeros over
+zeros_filled n old part h e =
+    let size : length (take n old) ≡ n = length-take-le n old h in
+    rw (e, size, length-replicate n (pos 0)) refl

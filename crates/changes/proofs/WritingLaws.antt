@@ -3,7 +3,7 @@ use Prim.Native.Nat.{ℕ, zero, suc, ◌+◌, ◌<◌, ◌≤◌}
 use native.Mathlib.Omega.{arith}
 use mathlib.Core.Path.{◌≡◌, refl, sym, ap, ap₂, ◌∙◌}
 use mathlib.Core.List.{List, [], ◌∷◌, ◌++◌, map}
-use lib.ListN.{length, get_or, set, drop, replicate, length-set, length-map}
+use lib.ListN.{length, get_or, set, drop, length-set, length-map}
 use lib.Seq.{set_at, append_snoc, drop-cons, get_or-append-add, get_or-drop}
 use Rattle.temporal.specs.Lists.{from, below}
 use Rattle.temporal.specs.Outcome.{over}
@@ -81,9 +81,3 @@ module _ {A : Type 0} (f : ℕ → A) where
     writing_all v table h w =
         let last : v ≡ n = omega (arith, w.within) in
         w.so_far ∙ ap (λ k. over (map f (below k)) old) last
-
--- one value everywhere
-pub map_one : {A : Type 0} (x : A) (i k : ℕ) → map (λ _. x) (from i k) ≡ replicate k x
-unfolding from
-map_one x i zero = refl
-map_one x i (suc k) = ap (◌∷◌ x) (map_one x (suc i) k)

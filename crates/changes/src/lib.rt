@@ -10,12 +10,8 @@ pub fn write_loads(changes: &mut [i64], loads: &[u64], at: usize, n: usize)
     requires { Writable loads.now at n changes.old }
     ensures { changes.new ≡ with_loads loads.now at n changes.old }
 {
-    let mut v = 0;
-    while v < n {
-        let load = loads[at + v];
-        let entry = load as i64;
-        changes[v] = entry;
-        v += 1;
+    for v in 0..n {
+        changes[v] = loads[at + v] as i64;
     }
 }
 
@@ -24,14 +20,8 @@ pub fn subtract_loads(changes: &mut [i64], loads: &[u64], at: usize, n: usize)
     requires { Subtractable loads.now at n changes.old }
     ensures { changes.new ≡ with_differences loads.now at n changes.old }
 {
-    let mut v = 0;
-    while v < n {
-        let load = loads[at + v];
-        let entry = load as i64;
-        let old = changes[v];
-        let change = entry - old;
-        changes[v] = change;
-        v += 1;
+    for v in 0..n {
+        changes[v] = loads[at + v] as i64 - changes[v];
     }
 }
 
@@ -40,9 +30,5 @@ pub fn clear_changes(changes: &mut [i64], n: usize)
     requires { n ≤ length changes.old }
     ensures { changes.new ≡ with_zeros n changes.old }
 {
-    let mut v = 0;
-    while v < n {
-        changes[v] = 0;
-        v += 1;
-    }
+    changes[..n].fill(0);
 }

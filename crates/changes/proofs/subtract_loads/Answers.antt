@@ -1,6 +1,6 @@
--- `changes::subtract_loads` meets its contract. The loop's invariant: the entries before v are differences, the others untouched. The
--- measure is the number of entries left.
+-- `changes::subtract_loads` meets its contract. The loop's invariant: the entries before v are differences, the others untouched.
 -- Assumes nothing.
+use Prim.Native.Nat.{◌<◌}
 use native.Mathlib.Omega.{arith}
 use Rattle.changes.specs.Changes.{with_differences}
 use Rattle.changes.proofs.WritingLaws.{writing_none, writing_all}
@@ -10,34 +10,16 @@ use Rattle.changes.proofs.subtract_loads.Goals as goal
 pub loop-v-init : goal.loop-v-init
 loop-v-init c = writing_none _ _ _
 
-pub overflow_add-load : goal.overflow_add-load
-overflow_add-load c = omega arith
+pub overflow_cast-changes : goal.overflow_cast-changes
+overflow_cast-changes c = load_fits _ (c.requires.writable.small _ (omega arith))
 
-pub bounds-loads-at : goal.bounds-loads-at
-bounds-loads-at c = omega arith
-
-pub overflow_cast-entry : goal.overflow_cast-entry
-overflow_cast-entry c = load_fits _ (c.requires.writable.small _ (omega arith))
-
-pub slice_copy_out-old : goal.slice_copy_out-old
-slice_copy_out-old c = omega arith
-
-pub overflow_sub-change : goal.overflow_sub-change
-overflow_sub-change c =
+pub overflow_sub-changes : goal.overflow_sub-changes
+overflow_sub-changes c =
     let pre = c.requires in
-    let inside = c.loop-v-test.true in
+    let inside : c.loop-v.v < c.args.n = omega arith in
     let load = load_is _ _ _ _ _ inside pre.writable in
     let entry = entry_is _ _ _ _ _ inside pre _ c.loop-v.invariant in
     search (loads_fit, load, entry)
-
-pub bounds-changes-v : goal.bounds-changes-v
-bounds-changes-v c = omega arith
-
-pub overflow_add-v : goal.overflow_add-v
-overflow_add-v c = omega arith
-
-pub loop-v-smaller : goal.loop-v-smaller
-loop-v-smaller c = omega arith
 
 pub loop-v-preserved : goal.loop-v-preserved
 loop-v-preserved c =

@@ -1,5 +1,4 @@
--- `changes::write_loads` meets its contract. The loop's invariant: the entries before v are loads, the others untouched. The measure is
--- the number of entries left.
+-- `changes::write_loads` meets its contract. The loop's invariant: the entries before v are loads, the others untouched.
 -- Assumes nothing.
 use native.Mathlib.Omega.{arith}
 use Rattle.changes.specs.Changes.{with_loads}
@@ -10,23 +9,8 @@ use Rattle.changes.proofs.write_loads.Goals as goal
 pub loop-v-init : goal.loop-v-init
 loop-v-init c = writing_none _ _ _
 
-pub overflow_add-load : goal.overflow_add-load
-overflow_add-load c = omega arith
-
-pub bounds-loads-at : goal.bounds-loads-at
-bounds-loads-at c = omega arith
-
-pub overflow_cast-entry : goal.overflow_cast-entry
-overflow_cast-entry c = load_fits _ (c.requires.small _ (omega arith))
-
-pub bounds-changes-v : goal.bounds-changes-v
-bounds-changes-v c = omega arith
-
-pub overflow_add-v : goal.overflow_add-v
-overflow_add-v c = omega arith
-
-pub loop-v-smaller : goal.loop-v-smaller
-loop-v-smaller c = omega arith
+pub overflow_cast-changes : goal.overflow_cast-changes
+overflow_cast-changes c = load_fits _ (c.requires.small _ (omega arith))
 
 pub loop-v-preserved : goal.loop-v-preserved
 loop-v-preserved c = load_more _ _ _ _ _ (omega arith) c.requires _ c.loop-v.invariant
