@@ -2,9 +2,11 @@
 use Prim.Native.Nat.{ℕ, suc, ◌+◌, ◌-◌, ◌<◌, ◌≤◌}
 use native.Mathlib.Omega.{arith}
 use native.Mathlib.Numerals.{add-one}
-use mathlib.Core.Path.{◌≡◌}
+use mathlib.Core.Path.{◌≡◌, refl, sym}
 use mathlib.Core.Bool.{Bool, true, false}
+use Rattle.std.specs.Prelude.{IsTrue, ◌↔◌}
 use Rattle.temporal.specs.Lists.{from, below, any}
+use Rattle.lists.proofs.ListLaws.{any_true, any_false, mem_below, not_both, not_true_false}
 
 module _ (f : ℕ → Bool) (j k : ℕ) where
   -- one number that passes decides
@@ -26,3 +28,12 @@ module _ (f : ℕ → Bool) (j k : ℕ) where
 pub any_start : (f : ℕ → Bool) (k : ℕ) → any f (below k) ≡ any f (from 0 (k - 0))
 unfolding below
 any_start f k = let same : k - 0 ≡ k = omega arith in rw same
+
+-- an answer that is true exactly where some number below k passes
+pub any_by : (f : ℕ → Bool) (k : ℕ) (b : Bool) → (IsTrue b ↔ ((j : ℕ) × (j < k) × IsTrue (f j))) → b ≡ any f (below k)
+any_by f k true h =
+    let some = h.0 refl in
+    sym ((any_true f (below k)).1 (some.0, (mem_below k).1 some.1, some.2))
+any_by f k false h =
+    sym ((any_false f (below k)).1 (λ j m.
+    not_true_false (f j) (λ e. absurd (not_both (h.1 (j, (mem_below k).0 m, e)) refl))))

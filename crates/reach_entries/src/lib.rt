@@ -28,9 +28,7 @@ fn merge(hops: &mut [u16], counts: &mut [u64], at: usize, h: u16, c: u64)
     if h < old {
         hops[at] = h;
         counts[at] = c;
-        return;
-    }
-    if h == old {
+    } else if h == old {
         counts[at] = entries::add_counts(counts[at], c);
     }
 }
@@ -87,18 +85,9 @@ pub fn settle(
         settled_table width u (table_of hops.now counts.now)
         (table_of station_hops.old station_counts.old) 0 n }
 {
-    let mut v = 0;
-    while v < n {
+    for v in 0..n {
         settle_one(station_hops, station_counts, hops, counts, v, v * width + u);
-        v += 1;
     }
-}
-
-// Hops as a number of 64 bits.
-fn wide(h: u16) -> u64
-    ensures { result ≡ h }
-{
-    h as u64
 }
 
 // Whether the entry at j has a count over 2^64 - 1.
@@ -106,7 +95,7 @@ fn entry_overflows(hops: &[u16], counts: &[u64], j: usize) -> bool
     requires { (j < length hops.now) × (j < length counts.now) }
     ensures { result ≡ table_overflows (table_of hops.now counts.now) j }
 {
-    entries::too_many(wide(hops[j]), counts[j])
+    entries::too_many(u64::from(hops[j]), counts[j])
 }
 
 // Whether one of the first k entries has a count over 2^64 - 1.
@@ -114,14 +103,7 @@ fn any_overflows(hops: &[u16], counts: &[u64], k: usize) -> bool
     requires { (k ≤ length hops.now) × (k ≤ length counts.now) }
     ensures { result ≡ any (table_overflows (table_of hops.now counts.now)) (below k) }
 {
-    let mut j = 0;
-    while j < k {
-        if entry_overflows(hops, counts, j) {
-            return true;
-        }
-        j += 1;
-    }
-    false
+    (0..k).any(|j| entry_overflows(hops, counts, j))
 }
 
 // Folds the record at j in.
@@ -169,10 +151,10 @@ pub fn begin(
         (tables_of hops.old counts.old station_hops.old station_counts.old) }
 {
     let places = n * width;
-    memory::fill16(hops, places, 65535);
-    memory::fill64(counts, places, 0);
-    memory::fill16(station_hops, n, 65535);
-    memory::fill64(station_counts, n, 0);
+    memory::fill(hops, places, 65535);
+    memory::fill(counts, places, 0);
+    memory::fill(station_hops, n, 65535);
+    memory::fill(station_counts, n, 0);
     let at = source * width;
     hops[at] = 0;
     counts[at] = 1;
@@ -195,10 +177,10 @@ pub fn clear(
         station_counts.old) }
 {
     let places = n * width;
-    memory::fill16(hops, places, 0);
-    memory::fill64(counts, places, 0);
-    memory::fill16(station_hops, n, 0);
-    memory::fill64(station_counts, n, 0);
+    memory::fill(hops, places, 0);
+    memory::fill(counts, places, 0);
+    memory::fill(station_hops, n, 0);
+    memory::fill(station_counts, n, 0);
 }
 
 // Whether an appearance or a station has a count over 2^64 - 1.
@@ -214,8 +196,5 @@ pub fn overflowed(
     ensures { result ≡ tables_overflow n width
         (tables_of hops.now counts.now station_hops.now station_counts.now) }
 {
-    if any_overflows(hops, counts, n * width) {
-        return true;
-    }
-    any_overflows(station_hops, station_counts, n)
+    any_overflows(hops, counts, n * width) || any_overflows(station_hops, station_counts, n)
 }

@@ -5,5 +5,5 @@ use Rattle.reach_entries.proofs.clear.Goals as goal
 
 pub returns : goal.returns
 returns c =
-    emptied_by _ _ _ _ _ _ _ c.fill16.ensures c.fill64.ensures c.fill16-2.ensures
-    c.fill64-2.ensures
+    emptied_by _ _ _ _ _ _ _ c.fill.ensures c.fill-2.ensures c.fill-3.ensures
+    c.fill-4.ensures

@@ -5,8 +5,10 @@ use Rattle.reach_entries.proofs.PassLaws.{overflowing_appearance, overflowing_st
 use Rattle.reach_entries.proofs.overflowed.Goals as goal
 
 pub returns-then-any_overflows : goal.returns-then-any_overflows
-returns-then-any_overflows c = sym (overflowing_appearance _ _ _ (sym c.any_overflows.ensures ∙ c.if-any_overflows.true))
+returns-then-any_overflows c =
+    c.if-any_overflows.true ∙ sym (overflowing_appearance _ _ _ (sym c.any_overflows.ensures ∙ c.if-any_overflows.true))
 
-pub returns : goal.returns
-returns c =
-    c.any_overflows-2.ensures ∙ sym (overflowing_station _ _ _ (sym c.any_overflows.ensures ∙ c.if-any_overflows.false))
+pub returns-else-any_overflows : goal.returns-else-any_overflows
+returns-else-any_overflows c =
+    c.any_overflows-else-any_overflows.ensures ∙
+    sym (overflowing_station _ _ _ (sym c.any_overflows.ensures ∙ c.if-any_overflows.false))

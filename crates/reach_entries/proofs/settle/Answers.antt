@@ -1,5 +1,5 @@
 -- `reach_entries::settle` meets its contract. The loop's invariant: settling the stations from v on gives what settling all from the
--- first gives. The measure is the number of stations left.
+-- first gives.
 -- Assumes nothing.
 use lib.Arith.{digits_lt}
 use native.Mathlib.Omega.{arith}
@@ -20,21 +20,9 @@ settle_one-requires c =
     let spot = digits_lt c.loop-v-test.true c.requires.1 in
     record { to_hops = omega arith; to_counts = omega arith; from_hops = omega arith; from_counts = omega arith }
 
-pub overflow_add-v-in-loop-v : goal.overflow_add-v-in-loop-v
-overflow_add-v-in-loop-v c = omega arith
-
-pub loop-v-smaller : goal.loop-v-smaller
-loop-v-smaller c = omega arith
-
 pub loop-v-preserved : goal.loop-v-preserved
 loop-v-preserved c =
     rw c.settle_one.ensures (settling_more _ _ _ _ _ _ _ (omega arith) c.loop-v.invariant)
-
-pub shape_of-station_hops : goal.shape_of-station_hops
-shape_of-station_hops c = c.loop-v.invariant.hops
-
-pub shape_of-station_counts : goal.shape_of-station_counts
-shape_of-station_counts c = c.loop-v.invariant.counts
 
 pub returns : goal.returns
 returns c = settling_all _ _ _ _ _ _ _ (omega arith) c.loop-v.invariant
