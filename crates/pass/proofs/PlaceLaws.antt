@@ -270,7 +270,7 @@ module _ (lay : Lanes) (n block base s : ℕ) (col : ℕ → ℕ) (w : List ℕ)
           go false q = ap (λ z. sweep_of false (set (set z.work (base + v) 65535) (base + v + n) 0)) q
 
     -- nothing waits
-    pub settled_none : 65535 ≤ get_or w (base + v) 0 → sweep_of false w ≡ settled_next known lay n block base s col w v
+    pub settled_none : 65535 ≤ get_or w (base + v) 0 → sweep_of (ltb (get_or w (base + v) 0) 65535) w ≡ settled_next known lay n block base s col w v
     unfolding settled_next settled_one halts_at
     settled_none none = rw (le-ltb (get_or w (base + v) 0) 65535 none)
 
@@ -370,11 +370,10 @@ module _ (bs : List ℕ) (n j e : ℕ) (fits : HearersFit bs n j e) (up : j ≤ 
 -- ---- the beginning
 
 -- the first i of k parts are empty
-pub record Emptying (n size k : ℕ) (old : List ℕ) (at i : ℕ) (now : List ℕ) : Type 0 where
+pub record Emptying (n size k : ℕ) (old : List ℕ) (i : ℕ) (now : List ℕ) : Type 0 where
   pub within : i ≤ k
-  pub place : at ≡ i * size
   pub same : length now ≡ length old
-  pub rest : emptied_from n size now at (k - i) ≡ emptied_from n size old 0 k
+  pub rest : emptied_from n size now (i * size) (k - i) ≡ emptied_from n size old 0 k
 
 -- two fills empty a part
 pub emptied_by : (n : ℕ) (w : List ℕ) (at : ℕ) (one out : List ℕ) → one ≡ filled w at n 65535 → out ≡ filled one (at + n) n 0
@@ -389,41 +388,40 @@ emptied_length n w at = filled_length (filled w at n 65535) (at + n) n 0 ∙ fil
 
 module _ (n size k : ℕ) (old : List ℕ) where
   -- at first no part is
-  pub emptying_none : Emptying n size k old 0 0 old
+  pub emptying_none : Emptying n size k old 0 old
   emptying_none =
+      let place : 0 * size ≡ 0 = omega arith in
       let same : k - 0 ≡ k = omega arith in
-      record { within = omega arith; place = omega arith; same = refl; rest = ap (emptied_from n size old 0) same }
+      record { within = omega arith; same = refl; rest = rw (place, same) }
 
   -- there is room for one more
-  pub emptying_room : (at i : ℕ) (now : List ℕ) → 2 * n ≤ size → k * size ≤ length old → i < k
-      → Emptying n size k old at i now → (at + 2 * n ≤ length now) × (at + size ≤ length old)
-  emptying_room at i now small fits h x =
+  pub emptying_room : (i : ℕ) (now : List ℕ) → 2 * n ≤ size → k * size ≤ length old → i < k
+      → Emptying n size k old i now → (i * size + 2 * n ≤ length now) × (i * size + size ≤ length old)
+  emptying_room i now small fits h x =
       let a = mul-le-mul_right {m = suc i} {n = k} size h in
       let b = suc-mul i size in
-      let place = x.place in
       let same = x.same in
       (omega arith, omega arith)
 
   -- one part more
-  pub emptying_more : (at i : ℕ) (now now' : List ℕ) → i < k → Emptying n size k old at i now → now' ≡ emptied n now at
-      → Emptying n size k old (at + size) (i + 1) now'
+  pub emptying_more : (i : ℕ) (now now' : List ℕ) → i < k → Emptying n size k old i now → now' ≡ emptied n now (i * size)
+      → Emptying n size k old (i + 1) now'
   unfolding emptied_from
-  emptying_more at i now now' h x e =
+  emptying_more i now now' h x e =
       let more : k - i ≡ suc (k - (i + 1)) = omega arith in
-      let place = x.place in
+      let place : (i + 1) * size ≡ i * size + size = omega (arith, suc-mul i size) in
       record {
         within = omega arith;
-        place = omega (arith, suc-mul i size, place);
-        same = ap length e ∙ emptied_length n now at ∙ x.same;
-        rest = rw e (sym (ap (emptied_from n size now at) more) ∙ x.rest);
+        same = ap length e ∙ emptied_length n now (i * size) ∙ x.same;
+        rest = rw (e, place) (sym (ap (emptied_from n size now (i * size)) more) ∙ x.rest);
       }
 
   -- at last all are
-  pub emptying_all : (at i : ℕ) (now : List ℕ) → k ≤ i → Emptying n size k old at i now → now ≡ emptied_from n size old 0 k
+  pub emptying_all : (i : ℕ) (now : List ℕ) → k ≤ i → Emptying n size k old i now → now ≡ emptied_from n size old 0 k
   unfolding emptied_from
-  emptying_all at i now h x =
+  emptying_all i now h x =
       let none : k - i ≡ 0 = omega arith in
-      sym (ap (emptied_from n size now at) none) ∙ x.rest
+      sym (ap (emptied_from n size now (i * size)) none) ∙ x.rest
 
 -- parts that are emptied, two stores and a row of ones begin the pass
 pub begun_by : (n block q s row one : ℕ) (w d out : List ℕ) → d ≡ emptied_from n (part_size n block) w 0 (1 + q) → row ≡ row_at n block s

@@ -1,5 +1,5 @@
 -- The station that a pass waits for: what its settled entry says of the slot in which it is reached. Assumes nothing.
-use Rattle.std.proofs.Common.{◌≡◌, ℕ, ◌<◌, ◌≤◌, Bool, true, false, cond, ltb, ◌⊎◌, Ok, Err, List, [], get_or, sym, refl, ◌∙◌, ⊎_elim, arith, ltb-false, ltb-true, le-ltb, lt-ltb}
+use Rattle.std.proofs.Common.{◌≡◌, ℕ, ◌<◌, ◌≤◌, Bool, true, false, cond, ltb, ◌⊎◌, List, [], get_or, refl, ◌∙◌, ⊎_elim, arith, ltb-false, ltb-true}
 use Rattle.temporal.specs.Plan.{Terms}
 use Rattle.temporal.specs.Lists.{below, any}
 use Rattle.temporal.specs.Shortest.{hops, count}
@@ -13,37 +13,13 @@ use Rattle.walks.proofs.Accepted.{accepted}
 use Rattle.walks.proofs.Adequacy.{bounded_ends}
 use Rattle.walks.proofs.ForemostLaws.{arrival_past, arrival_by, arrival_outside, shortest_by_last}
 use Rattle.entries.proofs.HopLaws.{few_slots}
-use Rattle.pass.specs.declared.Stopped.TheVariants as stopped
 use Rattle.pass.specs.Entry.{reached_entry}
-use Rattle.pass.specs.PassedColumns.{last_ended}
 use Rattle.pass.proofs.ColumnLaws.{may_leave}
 use Rattle.pass.specs.Column.{Lanes}
 use Rattle.pass.proofs.MaskLaws.{Filled}
 use Rattle.pass.proofs.StateLaws.{AreaState}
 use Rattle.pass.proofs.PlanWalks.{walks_at}
 use Rattle.pass.proofs.EndLaws.{at_hops}
-
--- ---- what code tests
-
-pub reached_inside : (n : ℕ) (w : List ℕ) (v : ℕ) → v < n → ltb (get_or w v 0) 65535 ≡ reached_entry n w v
-unfolding reached_entry
-reached_inside n w v h = sym (rw (lt-ltb v n h))
-
-pub reached_outside : (n : ℕ) (w : List ℕ) (v : ℕ) → n ≤ v → false ≡ reached_entry n w v
-unfolding reached_entry
-reached_outside n w v h = sym (rw (le-ltb v n h))
-
-pub last_waits : (n t until : ℕ) (over : Bool) → until < n → Ok t ≡ last_ended n t until over
-unfolding last_ended
-last_waits n t until over h = sym (rw (lt-ltb until n h))
-
-pub last_over : (n t until : ℕ) (over : Bool) → n ≤ until → over ≡ true → Err stopped.StationTooMany ≡ last_ended n t until over
-unfolding last_ended
-last_over n t until over h e = sym (rw (le-ltb until n h, e))
-
-pub last_settled : (n t until : ℕ) (over : Bool) → n ≤ until → over ≡ false → Ok t ≡ last_ended n t until over
-unfolding last_ended
-last_settled n t until over h e = sym (rw (le-ltb until n h, e))
 
 -- what is reached is a station
 pub reached_station : (n : ℕ) (w : List ℕ) (v : ℕ) → reached_entry n w v ≡ true → v < n

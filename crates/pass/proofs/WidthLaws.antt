@@ -5,12 +5,10 @@ use lib.Pow.{pow-lt}
 use Rattle.entries.specs.Entry.{merged_count}
 use Rattle.lanes.specs.Lane.{without_lane, ones, lanes_of, width_of}
 use Rattle.lanes.proofs.LaneLaws.{lanes_fill, lane_asked}
-use Rattle.pass.specs.declared.Stopped.TheVariants as stopped
 use Rattle.pass.specs.declared.Columns.{Columns}
 use Rattle.pass.specs.Row.{row_at}
 use Rattle.pass.specs.Column.{column_of, lanes_by}
 use Rattle.pass.specs.Sweep.{cleared_column, masked, too_wide, begun_area}
-use Rattle.pass.specs.PassedColumns.{stopped_end}
 use Rattle.pass.proofs.PlaceLaws.{masked_none, masked_own}
 use Rattle.pass.proofs.MaskLaws.{Filled}
 
@@ -31,16 +29,6 @@ begun_split n block q s split x one w out e f g = g ∙ ap (begun_area n block q
 -- and a count that is too wide for one split is for an equal one
 pub wide_split : (x split h c l d : ℕ) → x ≡ split → too_wide (lanes_by x) h c l d ≡ too_wide (lanes_by split) h c l d
 wide_split x split h c l d e = ap (λ y. too_wide (lanes_by y) h c l d) e
-
--- why a pass stops, by the split
-module _ (x split : ℕ) (is : x ≡ split) where
-  pub stopped_whole : x ≡ 0 → stopped.AppearanceTooMany ≡ stopped_end split
-  unfolding stopped_end
-  stopped_whole e = rw (eq-eqb split 0 (sym is ∙ e))
-
-  pub stopped_wide : x ≢ 0 → stopped.TooWide ≡ stopped_end split
-  unfolding stopped_end
-  stopped_wide d = rw (ne_eqb split 0 (λ e. d (is ∙ e)))
 
 -- ---- a column cleared
 
@@ -103,7 +91,7 @@ module _ (split h c l d : ℕ) where
         ne_eqb (2 ^ split) 1 (omega arith)
 
     -- over 2^64 - 1
-    pub wide_over : m ≡ 0 → true ≡ too_wide (lanes_by split) h c l d
+    pub wide_over : m ≡ 0 → eqb m 0 ≡ too_wide (lanes_by split) h c l d
     unfolding too_wide
     wide_over e = rw (many, ← is, eq-eqb m 0 e)
 

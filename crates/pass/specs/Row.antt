@@ -1,12 +1,16 @@
 -- Rows of the work area, stretches of neighbouring entries: one written from itself and another, entry by entry.
 -- Definitions only.
 -- Assumes nothing.
-use Rattle.std.specs.Prelude.{ℕ, zero, suc, ◌+◌, ◌*◌, ◌%◌, ◌^◌, ◌≤◌, cond, List, length, ◌==◌, nat_lt, slice_index, slice_set}
+use Rattle.std.specs.Prelude.{◌≡◌, ℕ, zero, suc, ◌+◌, ◌*◌, ◌%◌, ◌^◌, ◌≤◌, cond, List, length, ◌==◌, nat_lt, slice_index, slice_set}
 
 -- k entries from one place on, each written with f of itself and of the entry as far behind another place
 unfoldable pub combined : (ℕ → ℕ → ℕ) → List ℕ → ℕ → ℕ → ℕ → List ℕ
 combined f w to from zero = w
 combined f w to from (suc k) = combined f (slice_set w to (f (slice_index w to) (slice_index w from))) (to + 1) (from + 1) k
+
+-- a relation of two numbers and a result gives g of them
+abbrev pub Computes : (ℕ → ℕ → ℕ → Type 0) → (ℕ → ℕ → ℕ) → Type 0
+Computes post g = (a b r : ℕ) → post a b r → r ≡ g a b
 
 -- the second takes the place of the first
 unfoldable pub second : ℕ → ℕ → ℕ

@@ -3,7 +3,7 @@
 // lives in a lent work area: what may be sent on, and behind it what is heard and waits, in a part for each slot of the turnaround.
 #![tactic(auto)]
 
-ghost use Rattle.std.specs.Prelude.{◌≡◌, ◌+◌, ◌-◌, ◌*◌, ◌/◌, ◌^◌, ◌<◌, ◌≤◌, min, false, not, ◌&&◌, length, ◌==◌, slice_index};
+ghost use Rattle.std.specs.Prelude.{◌≡◌, ℕ, ◌+◌, ◌-◌, ◌*◌, ◌/◌, ◌^◌, ◌<◌, ◌≤◌, min, false, not, ◌&&◌, length, ◌==◌, slice_index};
 ghost use Rattle.temporal.specs.Lists.{any, below};
 ghost use Rattle.temporal.specs.Plan.{units};
 ghost use Rattle.temporal.specs.Bytes.{contact_at};
@@ -11,7 +11,7 @@ ghost use Rattle.temporal.specs.Struck.{lacking_record};
 ghost use Rattle.plan.specs.Record.{SlotRecords};
 ghost use Rattle.entries.specs.Entry.{merged_count};
 ghost use Rattle.lanes.specs.Lane.{ones};
-ghost use Rattle.pass.specs.Row.{combined, second, wrapped, merged_row, part_size, row_at, part_at, RowsFit};
+ghost use Rattle.pass.specs.Row.{combined, second, wrapped, merged_row, part_size, row_at, part_at, RowsFit, Computes};
 ghost use Rattle.pass.specs.Entry.{merged_area, absorbed, area_overflows, reached_entry, Absorbable};
 ghost use Rattle.pass.specs.Sweep.{
   sent_area,
@@ -62,16 +62,29 @@ pub fn smaller(a: usize, b: usize) -> usize
     a
 }
 
-// Copies a row to another.
+// Writes each entry of a row, the first one first, with f of itself and of its fellow in another row.
+pub fn combine_rows<F: Fn(u64, u64) -> u64>(
+    work: &mut [u64],
+    to: usize,
+    from: usize,
+    size: usize,
+    f: F,
+)
+    requires fit { RowsFit work.old to from size }
+    requires callable { F.IsAlwaysCallable f }
+    ensures { (g : ℕ → ℕ → ℕ) → Computes (F.post f) g → work.new ≡ combined g work.old to from size }
+{
+    for j in 0..size {
+        work[to + j] = f(work[to + j], work[from + j]);
+    }
+}
+
+// Copies a row to another. The rows may overlap, so copy_within is not the same.
 pub fn copy_row(work: &mut [u64], to: usize, from: usize, size: usize)
     requires { RowsFit work.old to from size }
     ensures { work.new ≡ combined second work.old to from size }
 {
-    let mut j = 0;
-    while j < size {
-        work[to + j] = work[from + j];
-        j += 1;
-    }
+    combine_rows(work, to, from, size, |_, b| b);
 }
 
 // Adds a row to another, modulo 2^64.
@@ -79,11 +92,7 @@ fn add_row(work: &mut [u64], to: usize, from: usize, size: usize)
     requires { RowsFit work.old to from size }
     ensures { work.new ≡ combined wrapped work.old to from size }
 {
-    let mut j = 0;
-    while j < size {
-        work[to + j] = std::num::wrapping_add_u64(work[to + j], work[from + j]);
-        j += 1;
-    }
+    combine_rows(work, to, from, size, |a, b| a.wrapping_add(b));
 }
 
 // Takes a row beside l hops into a row beside h hops.
@@ -93,9 +102,7 @@ fn merge_row(work: &mut [u64], to: usize, from: usize, size: usize, h: u64, l: u
 {
     if l < h {
         copy_row(work, to, from, size);
-        return;
-    }
-    if l == h {
+    } else if l == h {
         add_row(work, to, from, size);
     }
 }
@@ -110,9 +117,7 @@ fn merge(work: &mut [u64], n: usize, at: usize, l: u64, d: u64)
     if l < old {
         work[at] = l;
         work[counted] = d;
-        return;
-    }
-    if l == old {
+    } else if l == old {
         work[counted] = entries::add_counts(work[counted], d);
     }
 }
@@ -158,12 +163,9 @@ fn send(work: &mut [u64], known: bool, n: usize, block: usize, base: usize, v: u
             let row = base + row_at(n, block, x);
             let from = row_at(n, block, v);
             absorb(work, n, block, at, row, from, h + 1, d);
-            return;
+        } else if !known {
+            merge(work, n, at, h + 1, d);
         }
-        if known {
-            return;
-        }
-        merge(work, n, at, h + 1, d);
     }
 }
 
@@ -187,41 +189,30 @@ fn fold_record(
 }
 
 // The column that stands for station v, or none.
+#[tactic(auto, unfolding(crate::specs::Column::column_of))]
 pub fn column_of(columns: Columns, set: &[u8], v: usize, none: usize) -> usize
     ensures { result ≡ column_of columns set.now none v }
 {
     match columns {
-        Columns::From(low, _) => {
-            if v < low {
-                return none;
-            }
-            return v - low;
-        }
+        Columns::From(low, _) => if v < low { none } else { v - low },
         Columns::Members(destination) => {
-            if v == destination {
-                return none;
+            if v != destination && v < set.len() && set[v] == 1 {
+                0
+            } else {
+                none
             }
-            if v < set.len() {
-                if set[v] == 1 {
-                    return 0;
-                }
-            }
-            return none;
         }
     }
 }
 
 // In how many halves the entries of a row are split, again and again.
+#[tactic(auto, unfolding(crate::specs::Column::split_of))]
 pub fn split_of(columns: Columns) -> usize
     ensures { result ≡ split_of columns }
 {
     match columns {
-        Columns::From(_, split) => {
-            return split;
-        }
-        Columns::Members(_) => {
-            return 0;
-        }
+        Columns::From(_, split) => split,
+        Columns::Members(_) => 0,
     }
 }
 
@@ -267,12 +258,12 @@ fn merged_count(h: u64, c: u64, l: u64, d: u64) -> u64
     ensures { result ≡ merged_count h c l d }
 {
     if l < h {
-        return d;
+        d
+    } else if l == h {
+        entries::add_counts(c, d)
+    } else {
+        c
     }
-    if l == h {
-        return entries::add_counts(c, d);
-    }
-    c
 }
 
 // Whether the count of d walks of l hops, taken in beside c of h hops, does not fit a lane.
@@ -284,10 +275,7 @@ pub fn too_wide(split: usize, h: u64, c: u64, l: u64, d: u64) -> bool
         return false;
     }
     let merged = merged_count(h, c, l, d);
-    if merged == 0 {
-        return true;
-    }
-    lanes::limit_of(split) < merged
+    merged == 0 || lanes::limit_of(split) < merged
 }
 
 // The same for the settled entry of station v.
@@ -304,10 +292,7 @@ pub fn wide_at(work: &[u64], n: usize, v: usize, l: u64, d: u64, columns: Column
 fn over(known: bool, d: u64) -> bool
     ensures { result ≡ (not known && d == 0) }
 {
-    if known {
-        return false;
-    }
-    d == 0
+    !known && d == 0
 }
 
 // Takes what waits for v in the part that begins at base into its settled entry, but where that has fewer hops. Where the count would not
@@ -363,10 +348,7 @@ fn settle_waiting(
 {
     let at = base + v;
     let counted = at + n;
-    if over(known, work[counted]) {
-        return true;
-    }
-    if take_in(work, n, block, base, source, columns, set, v) {
+    if over(known, work[counted]) || take_in(work, n, block, base, source, columns, set, v) {
         return true;
     }
     work[at] = 65535;
@@ -391,14 +373,12 @@ fn settle_one(
         settled_next known (lanes_by (split_of columns)) n block base source (column_of columns set.now (block * 2 ^ split_of columns))
         work.old v }
 {
-    if work[base + v] < 65535 {
-        return settle_waiting(work, known, n, block, base, source, columns, set, v);
-    }
-    false
+    work[base + v] < 65535 && settle_waiting(work, known, n, block, base, source, columns, set, v)
 }
 
 // The station that is settled as number i of a slot whose records stand from j on: the hearer of its record, or where all stations are
 // settled, station i.
+#[tactic(auto, unfolding(crate::specs::Sweep::station_at))]
 pub fn station_at(plan: &[u8], out: usize, all: bool, j: usize, i: usize) -> usize
     requires { (all ≡ false → (j + i) * 6 + 5 < length (lacking_record plan.now out)) × (j + i < 18446744073709551616) }
     ensures { result ≡ station_at (lacking_record plan.now out) all j i }
@@ -406,8 +386,7 @@ pub fn station_at(plan: &[u8], out: usize, all: bool, j: usize, i: usize) -> usi
     if all {
         return i;
     }
-    let c = plan::kept_contact(plan, out, j + i);
-    c.hearer
+    plan::kept_contact(plan, out, j + i).hearer
 }
 
 // Settles a slot whose records are those from j to before end: for their hearers, or where they are more than the stations, for every
@@ -431,14 +410,12 @@ fn settle_slot(
         (column_of columns set.now (block * 2 ^ split_of columns)) j end work.old result work.new }
 {
     let all = n < end - j;
-    let many = smaller(n, end - j);
-    let mut i = 0;
-    while i < many {
+    let many = n.min(end - j);
+    for i in 0..many {
         let v = station_at(plan, out, all, j, i);
         if settle_one(work, known, n, block, base, source, columns, set, v) {
             return true;
         }
-        i += 1;
     }
     false
 }
@@ -457,12 +434,8 @@ fn empty_parts(work: &mut [u64], n: usize, size: usize, k: usize)
     requires { (2 * n ≤ size) × (k * size ≤ length work.old) }
     ensures { work.new ≡ emptied_from n size work.old 0 k }
 {
-    let mut at = 0;
-    let mut i = 0;
-    while i < k {
-        empty_part(work, n, at);
-        at += size;
-        i += 1;
+    for i in 0..k {
+        empty_part(work, n, i * size);
     }
 }
 
@@ -497,6 +470,7 @@ pub fn begin_columns(
 }
 
 // Where the part begins in which waits what is heard in slot u, of q parts.
+#[tactic(auto, unfolding(crate::specs::Row::part_at))]
 fn part_at(n: usize, block: usize, q: usize, u: usize) -> usize
     requires { (0 < q) × ((1 + q) * part_size n block < 18446744073709551616) }
     ensures { result ≡ part_at n block q u }
@@ -509,49 +483,45 @@ fn any_overflows(work: &[u64], n: usize) -> bool
     requires { 2 * n ≤ length work.now }
     ensures { result ≡ any (area_overflows n work.now) (below n) }
 {
-    let mut v = 0;
-    while v < n {
+    for v in 0..n {
         if entries::too_many(work[v], work[v + n]) {
             return true;
         }
-        v += 1;
     }
     false
 }
 
 // Whether the station until has a settled walk. Where it is no station's number it has none.
+#[tactic(auto, unfolding(crate::specs::Entry::reached_entry))]
 fn reached(work: &[u64], n: usize, until: usize) -> bool
     requires { n ≤ length work.now }
     ensures { result ≡ reached_entry n work.now until }
 {
-    if until < n {
-        return work[until] < 65535;
-    }
-    false
+    until < n && work[until] < 65535
 }
 
 // The slot in which a pass is settled past the last one: where it waits for no station, every station's count is looked at.
+#[tactic(auto, unfolding(crate::specs::PassedColumns::last_ended))]
 pub fn end_pass(work: &[u64], n: usize, t: usize, until: usize) -> Result<usize, Stopped>
     requires { 2 * n ≤ length work.now }
     ensures { result ≡ last_ended n t until (any (area_overflows n work.now) (below n)) }
 {
-    if until < n {
-        return Ok(t);
-    }
-    if any_overflows(work, n) {
+    if n <= until && any_overflows(work, n) {
         return Err(Stopped::StationTooMany);
     }
     Ok(t)
 }
 
 // Why a pass stops while it settles.
+#[tactic(auto, unfolding(crate::specs::PassedColumns::stopped_end))]
 pub fn stop_reason(columns: Columns) -> Stopped
     ensures { result ≡ stopped_end (split_of columns) }
 {
     if split_of(columns) == 0 {
-        return Stopped::AppearanceTooMany;
+        Stopped::AppearanceTooMany
+    } else {
+        Stopped::TooWide
     }
-    Stopped::TooWide
 }
 
 // The position past the records of slot u, which stand from i on; j is that position where what waits is settled in the next slot.
@@ -560,9 +530,10 @@ pub fn settled_end(plan: &[u8], out: usize, q: usize, u: usize, i: usize, j: usi
     ensures { SlotRecords (lacking_record plan.now out) u i result }
 {
     if q == 1 {
-        return j;
+        j
+    } else {
+        plan::kept_slot_end(plan, out, i, u)
     }
-    plan::kept_slot_end(plan, out, i, u)
 }
 
 // The pass: the records slot by slot, until the station until is reached or the last slot is settled. What is heard in a slot
@@ -591,12 +562,13 @@ pub fn pass_columns(
         (column_of columns set.now (block * 2 ^ split_of columns)) block (area_size n (waiting t (units g h)) block)
         work.old work.new result }
 {
-    let q = smaller(g, t);
+    let q = g.min(t);
     begin_columns(work, n, block, q, source, columns);
     let mut base = part_at(n, block, q, 1);
     let mut u = 1;
     let mut j = 0;
     let mut i = 0;
+    // A step stays in slot u where it folds a record in.
     while u < t + q {
         if plan::kept_in_slot(plan, out, j, u) {
             fold_record(work, plan, out, known, n, block, base, j);

@@ -10,5 +10,5 @@ returns-then-l-h c = sym (count_fewer _ _ _ _ (omega arith))
 pub returns-then-l-h-2 : goal.returns-then-l-h-2
 returns-then-l-h-2 c = c.add_counts.ensures ∙ sym (count_equal _ _ _ _ (omega arith))
 
-pub returns : goal.returns
-returns c = sym (count_more _ _ _ _ (omega arith))
+pub returns-else-l-h-2 : goal.returns-else-l-h-2
+returns-else-l-h-2 c = sym (count_more _ _ _ _ (omega arith))

@@ -1,7 +1,6 @@
 -- `pass::part_at` meets its contract.
 -- Assumes nothing.
-use Rattle.std.proofs.Common.{refl, mod-lt, arith, rules}
-use Rattle.pass.specs.Row.{part_at}
+use Rattle.std.proofs.Common.{refl, mod-lt, arith}
 use Rattle.pass.proofs.PlaceLaws.{part_small}
 use Rattle.pass.proofs.part_at.Goals as goal
 
@@ -10,7 +9,3 @@ overflow_add-result c = omega (arith, mod-lt c.args.u c.requires.0)
 
 pub overflow_mul-result-3 : goal.overflow_mul-result-3
 overflow_mul-result-3 c = omega (arith, part_small _ _ c.args.q c.args.u _ c.requires.0 refl c.requires.1)
-
-pub returns : goal.returns
-unfolding part_at
-returns c = search rules

@@ -15,16 +15,16 @@ use Rattle.pass.proofs.pass_columns.Goals as goal
 
 pub begin_columns-requires : goal.begin_columns-requires
 begin_columns-requires c =
-    (rw c.smaller-q.ensures (ready_area _ _ _ _ _ _ _ _ c.requires.0), c.requires.0.source, c.requires.1)
+    (rw c.min-q.ensures (ready_area _ _ _ _ _ _ _ _ c.requires.0), c.requires.0.source, c.requires.1)
 
 pub part_at-base-requires : goal.part_at-base-requires
 part_at-base-requires c =
     let area = ready_area _ _ _ _ _ _ _ _ c.requires.0 in
-    rw c.smaller-q.ensures (area.parts, omega (arith, area.fits, c.well_formed.0.0))
+    rw c.min-q.ensures (area.parts, omega (arith, area.fits, c.well_formed.0.0))
 
 pub loop-u-init : goal.loop-u-init
 loop-u-init c =
-    passing_begun _ _ _ _ _ _ _ _ (filled_by _ c.requires.1) _ _ _ _ _ c.smaller-q.ensures c.requires.0 c.begin_columns.ensures c.requires.2 _ c.part_at-base.ensures
+    passing_begun _ _ _ _ _ _ _ _ (filled_by _ c.requires.1) _ _ _ _ _ c.min-q.ensures c.requires.0 c.begin_columns.ensures c.requires.2 _ c.part_at-base.ensures
 
 pub overflow_add-t : goal.overflow_add-t
 overflow_add-t c = omega (arith, (accepted _ _ _ c.loop-u.invariant.ready.accepted).slots, c.loop-u.invariant.parts)
@@ -55,10 +55,7 @@ overflow_add-u c =
 pub part_at-base-requires-in-loop-u : goal.part_at-base-requires-in-loop-u
 part_at-base-requires-in-loop-u c =
     let area = ready_area _ _ _ _ _ _ _ _ c.requires.0 in
-    rw c.smaller-q.ensures (area.parts, omega (arith, area.fits, c.well_formed.0.0))
-
-pub overflow_sub-u : goal.overflow_sub-u
-overflow_sub-u c = omega arith
+    rw c.min-q.ensures (area.parts, omega (arith, area.fits, c.well_formed.0.0))
 
 pub settled_end-end-requires : goal.settled_end-end-requires
 settled_end-end-requires c = (
@@ -87,7 +84,7 @@ shape_of-work-then-settle_slot c =
 
 pub returns-then-settle_slot : goal.returns-then-settle_slot
 returns-then-settle_slot c =
-    passed_entry _ _ _ _ _ _ false _ (filled_by _ c.requires.1) _ _ _ _ _ c.smaller-q.ensures c.requires.0 c.begin_columns.ensures _ _
+    passed_entry _ _ _ _ _ _ false _ (filled_by _ c.requires.1) _ _ _ _ _ c.min-q.ensures c.requires.0 c.begin_columns.ensures _ _
     (passed_over c.loop-u.invariant
     (sym c.kept_in_slot.ensures ∙ c.if-kept_in_slot.false) _ c.part_at-base-in-loop-u.ensures
     c.if-q-u.true c.loop-u-test.true _ c.settled_end-end.ensures _ _
@@ -101,9 +98,6 @@ reached-requires c =
     c.settle_slot.ensures) in
     omega arith
 
-pub overflow_sub-result : goal.overflow_sub-result
-overflow_sub-result c = omega arith
-
 pub shape_of-work-then-reached : goal.shape_of-work-then-reached
 shape_of-work-then-reached c =
     next_length c.loop-u.invariant
@@ -113,14 +107,11 @@ shape_of-work-then-reached c =
 
 pub returns-then-reached : goal.returns-then-reached
 returns-then-reached c =
-    passed_entry _ _ _ _ _ _ false _ (filled_by _ c.requires.1) _ _ _ _ _ c.smaller-q.ensures c.requires.0 c.begin_columns.ensures _ _
+    passed_entry _ _ _ _ _ _ false _ (filled_by _ c.requires.1) _ _ _ _ _ c.min-q.ensures c.requires.0 c.begin_columns.ensures _ _
     (passed_reached c.loop-u.invariant
     (sym c.kept_in_slot.ensures ∙ c.if-kept_in_slot.false) _ c.part_at-base-in-loop-u.ensures
     c.if-q-u.true c.loop-u-test.true _ c.settled_end-end.ensures _ _
     c.settle_slot.ensures c.if-settle_slot.false (sym c.reached.ensures ∙ c.if-reached.true))
-
-pub loop-u-smaller-else-reached : goal.loop-u-smaller-else-reached
-loop-u-smaller-else-reached c = omega arith
 
 pub loop-u-preserved-else-reached : goal.loop-u-preserved-else-reached
 loop-u-preserved-else-reached c =
@@ -128,9 +119,6 @@ loop-u-preserved-else-reached c =
     (sym c.kept_in_slot.ensures ∙ c.if-kept_in_slot.false) _ c.part_at-base-in-loop-u.ensures
     c.if-q-u.true c.loop-u-test.true _ c.settled_end-end.ensures _ _
     c.settle_slot.ensures c.if-settle_slot.false (sym c.reached.ensures ∙ c.if-reached.false)
-
-pub loop-u-smaller : goal.loop-u-smaller
-loop-u-smaller c = omega arith
 
 pub loop-u-preserved : goal.loop-u-preserved
 loop-u-preserved c =
@@ -147,5 +135,5 @@ shape_of-work c =
 
 pub returns : goal.returns
 returns c =
-    passed_entry _ _ _ _ _ _ false _ (filled_by _ c.requires.1) _ _ _ _ _ c.smaller-q.ensures c.requires.0 c.begin_columns.ensures _ _
+    passed_entry _ _ _ _ _ _ false _ (filled_by _ c.requires.1) _ _ _ _ _ c.min-q.ensures c.requires.0 c.begin_columns.ensures _ _
     (passed_end c.loop-u.invariant _ (omega arith) c.end_pass.ensures)

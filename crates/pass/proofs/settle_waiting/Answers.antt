@@ -4,14 +4,17 @@
 use Rattle.std.proofs.Common.{sym, ◌∙◌, arith, lt-length-set}
 use Rattle.pass.proofs.PlaceLaws.{settled_over, settled_stop, settled_go}
 use Rattle.pass.proofs.settle_waiting.Goals as goal
+use Rattle.pass.proofs.settle_waiting.Goals.{then-over-via-then-over, then-over-via-else-over+then-take_in}
 
 pub returns-then-over : goal.returns-then-over
-returns-then-over c = settled_over _ _ _ _ _ _ _ _ _ c.requires.3 (sym c.if-over.true ∙ c.over.ensures)
-
-pub returns-then-take_in : goal.returns-then-take_in
-returns-then-take_in c =
-    settled_stop _ _ _ _ _ _ _ _ _ _ c.requires.3 (sym c.if-over.false ∙ c.over.ensures)
-    (rw c.if-take_in.true at c.take_in.ensures)
+returns-then-over c =
+    elim c.then-over.branch [
+      | then-over-via-then-over w ↦
+          rw w.work-is (settled_over _ _ _ _ _ _ _ _ _ c.requires.3 (sym w.if-over.true ∙ c.over.ensures))
+      | then-over-via-else-over+then-take_in w ↦
+          rw w.work-is (settled_stop _ _ _ _ _ _ _ _ _ _ c.requires.3 (sym w.if-over.false ∙ c.over.ensures)
+          (rw w.if-take_in.true at w.take_in.ensures))
+    ]
 
 pub bounds-work-counted-2 : goal.bounds-work-counted-2
 bounds-work-counted-2 c =

@@ -10,5 +10,5 @@ returns-then-split-eq0 c = wide_whole _ _ _ _ _ (omega arith)
 pub returns-then-merged-eq0 : goal.returns-then-merged-eq0
 returns-then-merged-eq0 c = wide_over _ _ _ _ _ _ (omega arith) c.merged_count-merged.ensures (omega arith)
 
-pub returns : goal.returns
-returns c = wide_by _ _ _ _ _ _ (omega arith) c.merged_count-merged.ensures _ (omega arith) c.limit_of.ensures _ refl
+pub returns-else-merged-eq0 : goal.returns-else-merged-eq0
+returns-else-merged-eq0 c = wide_by _ _ _ _ _ _ (omega arith) c.merged_count-merged.ensures _ (omega arith) c.limit_of.ensures _ refl
