@@ -3,7 +3,7 @@
 // records.
 #![tactic(auto)]
 
-ghost use Rattle.std.specs.Prelude.{◌≡◌, ◌*◌, ◌-◌, ◌<◌, ◌≤◌, min, length};
+ghost use Rattle.std.specs.Prelude.{◌≡◌, ◌*◌, ◌-◌, ◌<◌, ◌≤◌, length};
 ghost use Rattle.temporal.specs.Plan.{units, Keeps};
 ghost use Rattle.reach_entries.specs.Table.{table_of, Fits};
 ghost use Rattle.reach_entries.specs.Pass.{tables_of, ReachReady, FilledTables};
@@ -58,10 +58,9 @@ fn unmark_record(counts: &mut [u64], plan: &[u8], n: usize, width: usize, i: usi
     let c = plan::contact_at(plan, i);
     let mark = c.hearer * width;
     let count = counts[mark];
-    if count < 2 {
-        return;
+    if 2 <= count {
+        counts[mark] = count - 2;
     }
-    counts[mark] = count - 2;
 }
 
 // The same for the records from i to before end.
@@ -69,10 +68,8 @@ fn unmark(counts: &mut [u64], plan: &[u8], n: usize, width: usize, i: usize, end
     requires { (n * width ≤ length counts.old) × (0 < width) × HearersFit plan.now n i end }
     ensures { counts.new ≡ unmarked_by plan.now width counts.old i (end - i) }
 {
-    let mut k = i;
-    while k < end {
+    for k in i..end {
         unmark_record(counts, plan, n, width, k);
-        k += 1;
     }
 }
 
@@ -94,8 +91,7 @@ fn settle_records(
         (tables_of hops.now counts.old station_hops.old station_counts.old)
         (tables_of hops.now counts.new station_hops.new station_counts.new) }
 {
-    let mut k = i;
-    while k < end {
+    for k in i..end {
         settle_record(
             station_hops,
             station_counts,
@@ -107,7 +103,6 @@ fn settle_records(
             u,
             k,
         );
-        k += 1;
     }
     unmark(counts, plan, n, width, i, end);
 }
@@ -133,20 +128,20 @@ fn settle_slot(
 {
     if n / 3 < end - i {
         reach_entries::settle(station_hops, station_counts, hops, counts, n, width, u);
-        return;
+    } else {
+        settle_records(
+            station_hops,
+            station_counts,
+            hops,
+            counts,
+            plan,
+            n,
+            width,
+            u,
+            i,
+            end,
+        );
     }
-    settle_records(
-        station_hops,
-        station_counts,
-        hops,
-        counts,
-        plan,
-        n,
-        width,
-        u,
-        i,
-        end,
-    );
 }
 
 // The end of slot u: the slot that lies `wait` slots before the next is settled, unless that is slot 0 or earlier. The records from i
@@ -188,16 +183,6 @@ fn end_slot(
     end
 }
 
-// How many slots what is heard waits before it is sent on: as the turnaround says, but no more than there are.
-fn waiting(g: usize, t: usize) -> usize
-    ensures { result ≡ min g t }
-{
-    if g < t {
-        return g;
-    }
-    t
-}
-
 // Fills the four tables from a source where nothing goes stale, slot by slot, and goes on until the last slot is settled. The records
 // from j on are not folded in yet, those from i on not settled.
 pub fn fill_lasting(
@@ -219,12 +204,14 @@ pub fn fill_lasting(
         (tables_of hops.new counts.new station_hops.new station_counts.new) }
 {
     let width = t + 1;
-    let wait = waiting(g, t);
+    // What is heard waits before it is sent on as many slots as the turnaround says, but no more than there are.
+    let wait = g.min(t);
     let end = t + wait;
     reach_entries::begin(hops, counts, station_hops, station_counts, n, width, source);
     let mut u = 1;
     let mut j = 0;
     let mut i = 0;
+    // A while: each turn goes on by a record or by a slot.
     while u < end {
         if plan::in_slot(plan, j, u) {
             reach_entries::fold_record(

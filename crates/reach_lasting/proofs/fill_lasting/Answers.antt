@@ -11,7 +11,7 @@ pub overflow_add-width : goal.overflow_add-width
 overflow_add-width c = omega (arith, (accepted _ _ _ c.requires.0.accepted).slots)
 
 pub overflow_add-end : goal.overflow_add-end
-overflow_add-end c = omega (arith, c.waiting-wait.ensures, (accepted _ _ _ c.requires.0.accepted).slots)
+overflow_add-end c = omega (arith, c.min-wait.ensures, (accepted _ _ _ c.requires.0.accepted).slots)
 
 pub begin-requires : goal.begin-requires
 begin-requires c =
@@ -19,7 +19,7 @@ begin-requires c =
 
 pub loop-u-init : goal.loop-u-init
 loop-u-init c =
-    running_begin _ _ _ _ _ _ _ _ _ _ c.requires.0 c.requires.1 refl c.waiting-wait.ensures refl c.begin.ensures
+    running_begin _ _ _ _ _ _ _ _ _ _ c.requires.0 c.requires.1 refl c.min-wait.ensures refl c.begin.ensures
 
 pub fold_record-requires : goal.fold_record-requires
 fold_record-requires c =
@@ -60,22 +60,6 @@ pub loop-u-preserved : goal.loop-u-preserved
 loop-u-preserved c =
     running_settle _ _ _ _ _ _ _ _ _ _ _ _ _ c.loop-u.invariant c.loop-u-test.true _ _
     (sym c.in_slot.ensures ∙ c.if-in_slot.false) c.end_slot-i.ensures
-
-pub shape_of-hops : goal.shape_of-hops
-shape_of-hops c =
-    c.loop-u.invariant.state.appearances_beyond.hops_length ∙ c.begin.auto.hops
-
-pub shape_of-counts : goal.shape_of-counts
-shape_of-counts c =
-    c.loop-u.invariant.state.appearances_beyond.counts_length ∙ c.begin.auto.counts
-
-pub shape_of-station_hops : goal.shape_of-station_hops
-shape_of-station_hops c =
-    c.loop-u.invariant.state.stations_beyond.hops_length ∙ c.begin.auto.station_hops
-
-pub shape_of-station_counts : goal.shape_of-station_counts
-shape_of-station_counts c =
-    c.loop-u.invariant.state.stations_beyond.counts_length ∙ c.begin.auto.station_counts
 
 pub returns : goal.returns
 returns c =

@@ -1,8 +1,8 @@
 -- `reach_lasting::settle_records` meets its contract. The loop's invariant: the hearers of the records below k are taken in and marked, the
--- other stations are as they were. The measure is the number of records left.
+-- other stations are as they were.
 -- Assumes nothing.
 use native.Mathlib.Omega.{arith}
-use mathlib.Core.Path.{refl, ◌∙◌}
+use mathlib.Core.Path.{refl}
 use Rattle.reach_lasting.proofs.SweepLaws.{sweeping_none, sweeping_fits, sweeping_more, sweeping_all}
 use Rattle.reach_lasting.proofs.settle_records.Goals as goal
 
@@ -17,12 +17,6 @@ settle_record-requires c = (
   c.requires.hearers _ c.loop-k.invariant.0.from c.loop-k-test.true,
 )
 
-pub overflow_add-k : goal.overflow_add-k
-overflow_add-k c = omega arith
-
-pub loop-k-smaller : goal.loop-k-smaller
-loop-k-smaller c = omega arith
-
 pub loop-k-preserved : goal.loop-k-preserved
 loop-k-preserved c =
     let next = sweeping_more _ _ _ _ _ _ _ c.requires _ _ c.loop-k.invariant.0 c.loop-k-test.true _
@@ -32,16 +26,6 @@ loop-k-preserved c =
 pub unmark-requires : goal.unmark-requires
 unmark-requires c =
     ((sweeping_fits _ _ _ _ _ _ _ c.requires _ _ c.loop-k.invariant.0).counts, omega (arith, c.requires.slot), c.requires.hearers)
-
-pub shape_of-station_hops : goal.shape_of-station_hops
-shape_of-station_hops c = c.loop-k.invariant.0.beyond.hops_length
-
-pub shape_of-station_counts : goal.shape_of-station_counts
-shape_of-station_counts c = c.loop-k.invariant.0.beyond.counts_length
-
-pub shape_of-counts : goal.shape_of-counts
-shape_of-counts c =
-    c.unmark.auto.counts ∙ c.loop-k.invariant.0.same
 
 pub returns : goal.returns
 returns c =

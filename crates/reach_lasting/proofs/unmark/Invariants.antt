@@ -1,12 +1,8 @@
 -- `reach_lasting::unmark` meets its contract. The loop's invariant: taking the marks of the records from k on away gives what taking away all
--- gives. The measure is the number of records left.
+-- gives.
 -- Assumes nothing.
-use Prim.Native.Nat.{◌-◌}
 use Rattle.reach_lasting.proofs.MarkLaws.{Unmarking}
 use Rattle.reach_lasting.proofs.unmark.Given as goal
 
 abbrev pub invariant-loop-k : goal.invariant-loop-k
 invariant-loop-k l = Unmarking l.plan l.width l.i l.end l.initial.counts l.k l.counts
-
-abbrev pub decreases-loop-k : goal.decreases-loop-k
-decreases-loop-k l = l.end - l.k

@@ -18,17 +18,17 @@ pub bounds-counts-mark : goal.bounds-counts-mark
 bounds-counts-mark c =
     mark_place _ _ _ _ c.contact_at-c.ensures _ _ c.requires.2 c.requires.1 c.requires.0
 
-pub returns-then-count-lt2 : goal.returns-then-count-lt2
-returns-then-count-lt2 c = record_free _ _ _ _ c.contact_at-c.ensures _ c.if-count-lt2.true
+pub returns-else-count-ge2 : goal.returns-else-count-ge2
+returns-else-count-ge2 c = record_free _ _ _ _ c.contact_at-c.ensures _ c.if-count-ge2.false
 
-pub offset_bounds-counts-mark-2 : goal.offset_bounds-counts-mark-2
-offset_bounds-counts-mark-2 c =
+pub offset_bounds-counts-mark-then-count-ge2 : goal.offset_bounds-counts-mark-then-count-ge2
+offset_bounds-counts-mark-then-count-ge2 c =
     let spot = mark_place _ _ _ _ c.contact_at-c.ensures _ _ c.requires.2 c.requires.1 c.requires.0 in
     omega (arith, c.well_formed.0.0, c.well_formed.0.1)
 
-pub bounds-counts-mark-2 : goal.bounds-counts-mark-2
-bounds-counts-mark-2 c =
+pub bounds-counts-mark-then-count-ge2 : goal.bounds-counts-mark-then-count-ge2
+bounds-counts-mark-then-count-ge2 c =
     mark_place _ _ _ _ c.contact_at-c.ensures _ _ c.requires.2 c.requires.1 c.requires.0
 
-pub returns : goal.returns
-returns c = record_unmarked _ _ _ _ c.contact_at-c.ensures _ c.if-count-lt2.false
+pub returns-then-count-ge2 : goal.returns-then-count-ge2
+returns-then-count-ge2 c = record_unmarked _ _ _ _ c.contact_at-c.ensures _ c.if-count-ge2.true
