@@ -26,10 +26,8 @@ fn gather(
         gathered width (table_of hops.now counts.now) v
         (table_of station_hops.old station_counts.old) from (end - from) }
 {
-    let mut t = from;
-    while t < end {
+    for t in from..end {
         reach_entries::settle_one(station_hops, station_counts, hops, counts, v, v * width + t);
-        t += 1;
     }
 }
 
@@ -148,12 +146,10 @@ fn settle_all(
         settled_slots n width (table_of hops.now counts.now)
         (emptied_stations n (table_of station_hops.old station_counts.old)) 0 width }
 {
-    memory::fill16(station_hops, n, 65535);
-    memory::fill64(station_counts, n, 0);
-    let mut u = 0;
-    while u < width {
+    memory::fill(station_hops, n, 65535);
+    memory::fill(station_counts, n, 0);
+    for u in 0..width {
         reach_entries::settle(station_hops, station_counts, hops, counts, n, width, u);
-        u += 1;
     }
 }
 
@@ -179,8 +175,7 @@ pub fn fill_window(
     let width = t + 1;
     reach_entries::begin(hops, counts, station_hops, station_counts, n, width, source);
     let m = plan.len() / 6;
-    let mut j = 0;
-    while j < m {
+    for j in 0..m {
         fold_window(
             hops,
             counts,
@@ -193,7 +188,6 @@ pub fn fill_window(
             h,
             j,
         );
-        j += 1;
     }
     settle_all(station_hops, station_counts, hops, counts, n, width);
 }

@@ -1,5 +1,4 @@
--- `reach_window::fill_window` meets its contract. The loop's invariant: the records below j are folded in. The measure is the number of records
--- left.
+-- `reach_window::fill_window` meets its contract. The loop's invariant: the records below j are folded in.
 -- Assumes nothing.
 use native.Mathlib.Omega.{arith}
 use mathlib.Core.Path.{refl}
@@ -16,15 +15,6 @@ loop-j-init c = windowing_begun _ _ _ _ _ _ _ _ c.requires _ refl refl c.begin.e
 pub fold_window-requires : goal.fold_window-requires
 fold_window-requires c =
     (windowing_foldable _ _ _ _ _ _ _ _ c.requires _ _ _ c.loop-j.invariant c.loop-j-test.true, c.requires.units.turns)
-
-pub overflow_add-j : goal.overflow_add-j
-overflow_add-j c =
-    let few = (accepted _ _ _ c.requires.accepted).few in
-    let all = c.loop-j.invariant.all in
-    omega arith
-
-pub loop-j-smaller : goal.loop-j-smaller
-loop-j-smaller c = omega arith
 
 pub loop-j-preserved : goal.loop-j-preserved
 loop-j-preserved c =

@@ -1,7 +1,5 @@
--- `reach_window::fill_window` meets its contract. The loop's invariant: the records below j are folded in. The measure is the number of records
--- left.
+-- `reach_window::fill_window` meets its contract. The loop's invariant: the records below j are folded in.
 -- Assumes nothing.
-use Prim.Native.Nat.{◌-◌}
 use Rattle.temporal.specs.Plan.{units}
 use Rattle.reach_entries.specs.Pass.{tables_of}
 use Rattle.reach_window.proofs.WindowLaws.{Windowing}
@@ -10,6 +8,3 @@ use Rattle.reach_window.proofs.fill_window.Given as goal
 abbrev pub invariant-loop-j : goal.invariant-loop-j
 invariant-loop-j l =
     Windowing l.plan l.n l.t (units l.g l.h) l.source l.width l.m (tables_of l.initial.hops l.initial.counts l.initial.station_hops l.initial.station_counts) l.j (tables_of l.hops l.counts l.station_hops l.station_counts)
-
-abbrev pub decreases-loop-j : goal.decreases-loop-j
-decreases-loop-j l = l.m - l.j
