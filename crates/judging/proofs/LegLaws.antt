@@ -3,18 +3,18 @@ use Prim.Native.Nat.{ℕ, zero, suc, ◌+◌, ◌-◌, ◌≤◌, ◌<◌}
 use mathlib.Core.Path.{◌≡◌, refl, sym, ap, ap₂, ◌∙◌}
 use mathlib.Core.Bool.{Bool, true, false}
 use mathlib.Core.List.{List, [], ◌∷◌, ◌++◌}
-use mathlib.Core.Logic.{by_cases}
+use mathlib.Core.Logic.{by_cases, ◌≢◌}
 use native.Mathlib.Omega.{arith}
 use native.Mathlib.Decide.{ℕ_discrete, dec_le}
 use native.Mathlib.Numerals.{add-one}
-use borrow.Author.Tests.{eqb-true, eqb-false, eq-eqb}
+use borrow.Author.Tests.{eqb-true, eq-eqb}
 use lib.Dec.{eqb}
 use lib.ListN.{length, get_or, take, replicate, length-replicate}
 use lib.Seq.{take-suc}
 use Rattle.lists.proofs.ListLaws.{not_both}
 use Rattle.ways.specs.declared.Pair.{Pair}
-use Rattle.ways.specs.declared.Found.{Found}
-use Rattle.ways.specs.declared.Found.TheVariants as found
+use Rattle.std.specs.Prelude.{Option, Some, None, is_some, not}
+use Rattle.std.specs.Option.{option_eq}
 use Rattle.ways.specs.Found.{found_of, begins, found_at, Placeable, Listable}
 use Rattle.ways.proofs.ListingLaws.{front, rise, found_some, found_none}
 use Rattle.judging.specs.Legs.{FirstLegs, LastLegs}
@@ -48,9 +48,9 @@ module _ (bs : List ℕ) (q : Pair) (l : List ℕ) (k : ℕ) (w : List ℕ) (g :
   standing : (m : ℕ) → begins bs q (take k w ++ m ∷ []) ≡ true → begins bs q (take k w) ≡ true
   standing m e = front bs q (replicate q.slots 0) (listable bs q l g.pair) (take k w) m e
 
-  module _ (from : ℕ) (f : Found) (is : found_of f ≡ found_at bs q l k from w) where
+  module _ (from : ℕ) (f : Option ℕ) (is : found_of f ≡ found_at bs q l k from w) where
     -- nothing is found
-    pub nothing_there : f ≡ found.Nothing → NoneBehind (begins bs q) (take k w) from
+    pub nothing_there : f ≡ None → NoneBehind (begins bs q) (take k w) from
     unfolding found_of
     nothing_there e =
         record {
@@ -60,7 +60,7 @@ module _ (bs : List ℕ) (q : Pair) (l : List ℕ) (k : ℕ) (w : List ℕ) (g :
         }
 
     -- a position is found
-    pub first_there : (j : ℕ) → f ≡ found.At j → FirstBehind (begins bs q) (take k w) from j
+    pub first_there : (j : ℕ) → f ≡ Some j → FirstBehind (begins bs q) (take k w) from j
     unfolding found_of
     first_there j e =
         let r = found_some bs q (replicate q.slots 0) (listable bs q l g.pair) l g.pair.table w k from g.leg entry
@@ -68,29 +68,33 @@ module _ (bs : List ℕ) (q : Pair) (l : List ℕ) (k : ℕ) (w : List ℕ) (g :
         record { low = r.low; serves = r.passes; first = r.sooner }
 
     -- whether it is the position asked about
-    pub tells_nothing : f ≡ found.Nothing → (i : ℕ) → Tells false (FirstBehind (begins bs q) (take k w) from i)
-    tells_nothing e i =
-        record { yes = λ h. absurd (not_both h refl); no = λ h a. (nothing_there e).no_position i a.low a.serves }
-
-    pub tells_first : (j : ℕ) → f ≡ found.At j → (i : ℕ) → Tells (eqb i j) (FirstBehind (begins bs q) (take k w) from i)
-    tells_first j e i =
-        let there = first_there j e in
-        record {
-          yes = λ h. let same = eqb-true i j h in rw same there;
-          no = λ h a.
-              let up = a.first j there.low there.serves in
-              let down = there.first i a.low a.serves in
-              not_both (eq-eqb i j (omega arith)) h;
-        }
+    pub tells_found : (r : Bool) (i : ℕ) → r ≡ option_eq eqb f (Some i) → Tells r (FirstBehind (begins bs q) (take k w) from i)
+    tells_found r i e = rw e (go f refl)
+      where
+        go : (o : Option ℕ) → f ≡ o → Tells (option_eq eqb o (Some i)) (FirstBehind (begins bs q) (take k w) from i)
+        go None same =
+            record { yes = λ h. absurd (not_both h refl); no = λ h a. (nothing_there same).no_position i a.low a.serves }
+        go (Some j) same =
+            let there = first_there j same in
+            record {
+              yes = λ h. let same = eqb-true j i h in rw (← same) there;
+              no = λ h a.
+                  let up = a.first j there.low there.serves in
+                  let down = there.first i a.low a.serves in
+                  not_both (eq-eqb j i (omega arith)) h;
+            }
 
     -- whether there is none
-    pub tells_none : f ≡ found.Nothing → Tells true (NoneBehind (begins bs q) (take k w) from)
-    tells_none e = record { yes = λ h. nothing_there e; no = λ h. absurd (not_both refl h) }
-
-    pub tells_some : (j : ℕ) → f ≡ found.At j → Tells false (NoneBehind (begins bs q) (take k w) from)
-    tells_some j e =
-        let there = first_there j e in
-        record { yes = λ h. absurd (not_both h refl); no = λ h a. a.no_position j there.low there.serves }
+    pub tells_none : (r : Bool) → is_some f ≡ not r → Tells r (NoneBehind (begins bs q) (take k w) from)
+    tells_none r e = go f refl r e
+      where
+        go : (o : Option ℕ) → f ≡ o → (r : Bool) → is_some o ≡ not r → Tells r (NoneBehind (begins bs q) (take k w) from)
+        go None same true e = record { yes = λ h. nothing_there same; no = λ h. absurd (not_both refl h) }
+        go None same false e = absurd (not_both e refl)
+        go (Some j) same true e = absurd (not_both refl e)
+        go (Some j) same false e =
+            let there = first_there j same in
+            record { yes = λ h. absurd (not_both h refl); no = λ h a. a.no_position j there.low there.serves }
 
 -- ---- where the search for a leg begins
 
@@ -193,16 +197,16 @@ search_behind w k i behind e =
 
 module _ (a b : List ℕ) where
   -- one entry more
-  pub alike_more : (k : ℕ) → k < length a → k < length b → take k a ≡ take k b → eqb (get_or a k 0) (get_or b k 0) ≡ true
+  pub alike_more : (k : ℕ) → k < length a → k < length b → take k a ≡ take k b → get_or a k 0 ≡ get_or b k 0
       → take (k + 1) a ≡ take (k + 1) b
   alike_more k below-a below-b same e =
       rw add-one
-      (take-suc a k 0 below-a ∙ ap₂ (λ u i. u ++ i ∷ []) same (eqb-true _ _ e) ∙ sym (take-suc b k 0 below-b))
+      (take-suc a k 0 below-a ∙ ap₂ (λ u i. u ++ i ∷ []) same e ∙ sym (take-suc b k 0 below-b))
 
   -- an entry that differs
-  pub alike_ends : (h k : ℕ) → k < h → take k a ≡ take k b → eqb (get_or a k 0) (get_or b k 0) ≡ false → Alike h a b k
-  alike_ends h k less same e = record { within = omega arith; alike = same; differ = λ _. eqb-false _ _ e }
+  pub alike_ends : (h k : ℕ) → k < h → take k a ≡ take k b → get_or a k 0 ≢ get_or b k 0 → Alike h a b k
+  alike_ends h k less same e = record { within = omega arith; alike = same; differ = λ _. e }
 
   -- none differs
-  pub alike_all : (h k : ℕ) → k ≤ h → h ≤ k → take k a ≡ take k b → Alike h a b k
-  alike_all h k most past same = record { within = most; alike = same; differ = λ less. absurd (omega arith) }
+  pub alike_all : (h k : ℕ) → h ≡ k → take k a ≡ take k b → Alike h a b h
+  alike_all h k all same = record { within = omega arith; alike = rw all same; differ = λ less. absurd (omega arith) }

@@ -20,10 +20,10 @@ ghost use Rattle.judging.specs.Judge.{
   Continued,
 };
 
-use ways::{Found, Pair};
+use ways::Pair;
 
 // What is said of a list of positions: exactly the complete list, its first few whole ways, or neither.
-#[derive(Clone, Copy)]
+#[derive(Clone, Copy, Debug, PartialEq, Eq)]
 pub enum Judgement {
     Complete,
     Beginning,
@@ -43,11 +43,7 @@ fn is_found(
     requires { LegJudgeable plan.now q work.now k way.now }
     ensures { Tells result (FirstBehind (begins plan.now q) (take k way.now) from i) }
 {
-    let found = ways::found_behind(way, work, plan, q, k, from);
-    let Found::At(j) = found else {
-        return false;
-    };
-    i == j
+    ways::found_behind(way, work, plan, q, k, from) == Some(i)
 }
 
 // Whether no position from a given one on leads home behind the first k legs of a way.
@@ -55,11 +51,7 @@ fn none_found(way: &[u16], work: &[u64], plan: &[u8], q: Pair, k: usize, from: u
     requires { LegJudgeable plan.now q work.now k way.now }
     ensures { Tells result (NoneBehind (begins plan.now q) (take k way.now) from) }
 {
-    let found = ways::found_behind(way, work, plan, q, k, from);
-    let Found::At(j) = found else {
-        return true;
-    };
-    false
+    ways::found_behind(way, work, plan, q, k, from).is_none()
 }
 
 // Where the search for leg k of a way begins.
@@ -70,8 +62,7 @@ fn search_from(way: &[u16], k: usize) -> usize
     if k == 0 {
         return 0;
     }
-    let last = k - 1;
-    ways::wide(way[last]) + 1
+    usize::from(way[k - 1]) + 1
 }
 
 // Whether leg k of a way is the first position that leads home behind the legs before it.
@@ -80,8 +71,7 @@ fn first_leg(way: &[u16], work: &[u64], plan: &[u8], q: Pair, k: usize) -> bool
     ensures { Tells result (FirstBehind (begins plan.now q) (take k way.now) 0 (get_or way.now k 0)) }
 {
     let from = search_from(way, k);
-    let i = ways::wide(way[k]);
-    is_found(way, work, plan, q, k, from, i)
+    is_found(way, work, plan, q, k, from, usize::from(way[k]))
 }
 
 // Whether leg k of a way is the last position that leads home behind the legs before it.
@@ -89,7 +79,7 @@ fn last_leg(way: &[u16], work: &[u64], plan: &[u8], q: Pair, k: usize) -> bool
     requires { LegJudgeable plan.now q work.now k way.now }
     ensures { Tells result (NoneBehind (begins plan.now q) (take k way.now) (get_or way.now k 0 + 1)) }
 {
-    let from = ways::wide(way[k]) + 1;
+    let from = usize::from(way[k]) + 1;
     none_found(way, work, plan, q, k, from)
 }
 
@@ -99,9 +89,8 @@ fn next_leg(a: &[u16], b: &[u16], work: &[u64], plan: &[u8], q: Pair, k: usize) 
     ensures { Tells result (FirstBehind (begins plan.now q) (take k a.now) (get_or a.now k 0 + 1)
         (get_or b.now k 0)) }
 {
-    let from = ways::wide(a[k]) + 1;
-    let i = ways::wide(b[k]);
-    is_found(a, work, plan, q, k, from, i)
+    let from = usize::from(a[k]) + 1;
+    is_found(a, work, plan, q, k, from, usize::from(b[k]))
 }
 
 // Whether each leg of a way from a given one on is the first position that leads home behind the legs before it.
@@ -109,12 +98,8 @@ fn first_legs(way: &[u16], work: &[u64], plan: &[u8], q: Pair, from: usize) -> b
     requires { WayJudgeable plan.now q work.now way.now }
     ensures { Tells result (FirstLegs (begins plan.now q) q.hops from way.now) }
 {
-    let hops = q.hops;
-    let mut k = from;
-    while k < hops {
-        if first_leg(way, work, plan, q, k) {
-            k += 1;
-        } else {
+    for k in from..q.hops {
+        if !first_leg(way, work, plan, q, k) {
             return false;
         }
     }
@@ -126,24 +111,12 @@ fn last_legs(way: &[u16], work: &[u64], plan: &[u8], q: Pair, from: usize) -> bo
     requires { WayJudgeable plan.now q work.now way.now }
     ensures { Tells result (LastLegs (begins plan.now q) q.hops from way.now) }
 {
-    let hops = q.hops;
-    let mut k = from;
-    while k < hops {
-        if last_leg(way, work, plan, q, k) {
-            k += 1;
-        } else {
+    for k in from..q.hops {
+        if !last_leg(way, work, plan, q, k) {
             return false;
         }
     }
     true
-}
-
-// Whether two entries at a place are the same.
-fn same_entry(a: &[u16], b: &[u16], k: usize) -> bool
-    requires { (k < length a.now) × (k < length b.now) }
-    ensures { result ≡ eqb (get_or a.now k 0) (get_or b.now k 0) }
-{
-    a[k] == b[k]
 }
 
 // How many first entries of two ways are the same, of h.
@@ -151,15 +124,12 @@ fn alike(a: &[u16], b: &[u16], h: usize) -> usize
     requires { (h ≤ length a.now) × (h ≤ length b.now) }
     ensures { Alike h a.now b.now result }
 {
-    let mut k = 0;
-    while k < h {
-        if same_entry(a, b, k) {
-            k += 1;
-        } else {
+    for k in 0..h {
+        if a[k] != b[k] {
             return k;
         }
     }
-    k
+    h
 }
 
 // Whether b follows a: at the first leg where they differ no position between leads home, and the legs behind it are the last ones
@@ -169,16 +139,10 @@ fn follows(a: &[u16], b: &[u16], work: &[u64], plan: &[u8], q: Pair) -> bool
     ensures { Tells result (Follows (begins plan.now q) q.hops a.now b.now) }
 {
     let leg = alike(a, b, q.hops);
-    if q.hops <= leg {
-        return false;
-    }
-    if next_leg(a, b, work, plan, q, leg) {
-        if last_legs(a, work, plan, q, leg + 1) {
-            return first_legs(b, work, plan, q, leg + 1);
-        }
-        return false;
-    }
-    false
+    leg < q.hops
+        && next_leg(a, b, work, plan, q, leg)
+        && last_legs(a, work, plan, q, leg + 1)
+        && first_legs(b, work, plan, q, leg + 1)
 }
 
 // Whether the way that begins at a place of a list follows the one before it.
@@ -187,9 +151,13 @@ fn follows_at(list: &[u16], work: &[u64], plan: &[u8], q: Pair, at: usize) -> bo
     ensures { Tells result (Follows (begins plan.now q) q.hops (take q.hops (drop (at - q.hops) list.now))
         (take q.hops (drop at list.now))) }
 {
-    let before = at - q.hops;
-    let end = at + q.hops;
-    follows(&list[before..at], &list[at..end], work, plan, q)
+    follows(
+        &list[at - q.hops..at],
+        &list[at..at + q.hops],
+        work,
+        plan,
+        q,
+    )
 }
 
 // Whether each way of a list behind the first one, which is that of the complete list, follows the one before it.
@@ -197,13 +165,8 @@ fn ways_follow(list: &[u16], work: &[u64], plan: &[u8], q: Pair) -> bool
     requires { WaysJudgeable plan.now q work.now list.now × FirstLegs (begins plan.now q) q.hops 0 list.now }
     ensures { Continued (list_in plan.now q) list.now result }
 {
-    let hops = q.hops;
-    let entries = list.len();
-    let mut at = hops;
-    while at < entries {
-        if follows_at(list, work, plan, q, at) {
-            at += hops;
-        } else {
+    for at in (q.hops..list.len()).step_by(q.hops) {
+        if !follows_at(list, work, plan, q, at) {
             return false;
         }
     }
@@ -225,16 +188,13 @@ fn judge_ways(list: &[u16], work: &[u64], plan: &[u8], q: Pair) -> Judgement
     requires { WaysJudgeable plan.now q work.now list.now }
     ensures { verdict_of result ≡ verdict_on (list_in plan.now q) list.now }
 {
-    if first_legs(list, work, plan, q, 0) {
-        if ways_follow(list, work, plan, q) {
-            if last_way(list, work, plan, q) {
-                return Judgement::Complete;
-            }
-            return Judgement::Beginning;
-        }
+    if !(first_legs(list, work, plan, q, 0) && ways_follow(list, work, plan, q)) {
         return Judgement::Wrong;
     }
-    Judgement::Wrong
+    if last_way(list, work, plan, q) {
+        return Judgement::Complete;
+    }
+    Judgement::Beginning
 }
 
 // The verdict on a list of positions by the complete list of a pair that has a walk.
@@ -242,11 +202,10 @@ pub fn judge(list: &[u16], work: &[u64], plan: &[u8], q: Pair) -> Judgement
     requires { Judgeable plan.now q work.now }
     ensures { verdict_of result ≡ verdict_on (list_in plan.now q) list.now }
 {
-    let entries = list.len();
-    if entries == 0 {
+    if list.is_empty() {
         return Judgement::Beginning;
     }
-    if entries % q.hops != 0 {
+    if list.len() % q.hops != 0 {
         return Judgement::Wrong;
     }
     judge_ways(list, work, plan, q)
@@ -256,8 +215,9 @@ pub fn judge(list: &[u16], work: &[u64], plan: &[u8], q: Pair) -> Judgement
 pub fn judge_none(list: &[u16]) -> Judgement
     ensures { verdict_of result ≡ verdict_on [] list.now }
 {
-    if 0 < list.len() {
-        return Judgement::Wrong;
+    if list.is_empty() {
+        Judgement::Complete
+    } else {
+        Judgement::Wrong
     }
-    Judgement::Complete
 }

@@ -5,4 +5,4 @@ use Rattle.judging.proofs.first_leg.Goals as goal
 
 pub returns : goal.returns
 returns c =
-    rw c.wide-i.ensures.0 at (first_of_all _ _ _ _ _ c.requires _ _ _ c.search_from-from.ensures c.is_found.ensures)
+    rw c.from.ensures at (first_of_all _ _ _ _ _ c.requires _ _ _ c.search_from-from.ensures c.is_found.ensures)

@@ -1,14 +1,15 @@
 -- `judging::judge_none` meets its contract: the empty list, or another.
 -- Assumes nothing.
-use native.Mathlib.Omega.{arith}
+use mathlib.Core.Path.{sym, ◌∙◌}
+use borrow.Author.Tests.{eqb-true, eqb-false}
 use Rattle.judging.specs.Judge.{verdict_of}
 use Rattle.judging.proofs.JudgeLaws.{none_complete, none_wrong}
 use Rattle.judging.proofs.judge_none.Goals as goal
 
-pub returns-then-list-gt0 : goal.returns-then-list-gt0
+pub returns-then-is_empty : goal.returns-then-is_empty
 unfolding verdict_of
-returns-then-list-gt0 c = none_wrong _ (λ e. omega arith)
+returns-then-is_empty c = none_complete _ (eqb-true _ 0 (sym c.is_empty.ensures ∙ c.if-is_empty.true))
 
-pub returns : goal.returns
+pub returns-else-is_empty : goal.returns-else-is_empty
 unfolding verdict_of
-returns c = none_complete _ (omega arith)
+returns-else-is_empty c = none_wrong _ (eqb-false _ 0 (sym c.is_empty.ensures ∙ c.if-is_empty.false))

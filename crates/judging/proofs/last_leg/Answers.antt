@@ -3,4 +3,4 @@
 use Rattle.judging.proofs.last_leg.Goals as goal
 
 pub returns : goal.returns
-returns c = rw c.wide-from.ensures.0 at c.none_found.ensures
+returns c = rw c.from-from.ensures at c.none_found.ensures

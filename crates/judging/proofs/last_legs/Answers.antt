@@ -1,5 +1,5 @@
 -- `judging::last_legs` meets its contract. The loop's invariant: each leg from the given one up to k is the last that leads home.
--- The measure is the number of legs left.
+--
 -- Assumes nothing.
 use mathlib.Core.Path.{refl}
 use native.Mathlib.Omega.{arith}
@@ -8,36 +8,30 @@ use Rattle.judging.proofs.LegLaws.{lasts_more, lasts_all, last_missing}
 use Rattle.judging.proofs.last_legs.Goals as goal
 
 pub loop-k-init : goal.loop-k-init
-loop-k-init c = (omega arith, λ j low less. absurd (omega arith))
+loop-k-init c = λ j low less. absurd (omega arith)
 
 pub last_leg-requires : goal.last_leg-requires
 last_leg-requires c =
     let pre = c.requires in
     record { pair = pre.pair; leg = omega arith; room = pre.room }
 
-pub overflow_add-k : goal.overflow_add-k
-overflow_add-k c = omega arith
-
-pub loop-k-smaller : goal.loop-k-smaller
-loop-k-smaller c = omega arith
-
 pub loop-k-preserved : goal.loop-k-preserved
 loop-k-preserved c =
     let inv = c.loop-k.invariant in
-    (omega arith, lasts_more _ _ _ _ c.requires.room _ inv.1 (c.last_leg.ensures.yes c.if-last_leg.true))
+    lasts_more _ _ _ _ c.requires.room _ inv (c.last_leg.ensures.yes c.if-not-last_leg.false)
 
-pub returns-else-last_leg : goal.returns-else-last_leg
-returns-else-last_leg c =
+pub returns-then-not-last_leg : goal.returns-then-not-last_leg
+returns-then-not-last_leg c =
     let inv = c.loop-k.invariant in
     let pre = c.requires in
     record {
       yes = λ h. absurd (not_both h refl);
-      no = λ h. last_missing _ _ _ _ pre.room _ inv.0 (omega arith) (c.last_leg.ensures.no c.if-last_leg.false);
+      no = λ h. last_missing _ _ _ _ pre.room _ (omega arith) (omega arith) (c.last_leg.ensures.no c.if-not-last_leg.true);
     }
 
 pub returns : goal.returns
 returns c =
     record {
-      yes = λ h. lasts_all _ _ _ _ c.requires.room _ (omega arith) c.loop-k.invariant.1;
+      yes = λ h. lasts_all _ _ _ _ c.requires.room _ (omega arith) c.loop-k.invariant;
       no = λ h. absurd (not_both refl h);
     }

@@ -3,4 +3,4 @@
 use Rattle.judging.proofs.next_leg.Goals as goal
 
 pub returns : goal.returns
-returns c = rw (c.wide-from.ensures.0, c.wide-i.ensures.0) at c.is_found.ensures
+returns c = rw (c.from-from.ensures, c.from.ensures) at c.is_found.ensures

@@ -8,4 +8,4 @@ pub returns-then-k-eq0 : goal.returns-then-k-eq0
 returns-then-k-eq0 c = search_first _ _ (omega arith)
 
 pub returns : goal.returns
-returns c = search_behind _ _ _ (omega arith) c.wide.ensures.0
+returns c = search_behind _ _ _ (omega arith) c.from.ensures

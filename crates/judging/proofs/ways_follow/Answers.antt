@@ -1,5 +1,4 @@
--- `judging::ways_follow` meets its contract. The loop's invariant: the entries before the place are the first ways. The measure is
--- the number of entries left.
+-- `judging::ways_follow` meets its contract. The loop's invariant: the entries before the place are the first ways.
 -- Assumes nothing.
 use native.Mathlib.Omega.{arith}
 use mathlib.Core.Path.{refl}
@@ -18,35 +17,39 @@ follows_at-requires c =
     let inv = c.loop-at.invariant in
     (pre.0.pair, way_before _ _ _ _ pre.0 _ inv, way_behind _ _ _ _ pre.0 _ inv (omega arith))
 
-pub overflow_add-at : goal.overflow_add-at
-overflow_add-at c =
-    let more = way_behind _ _ _ _ c.requires.0 _ c.loop-at.invariant (omega arith) in
-    omega arith
-
-pub loop-at-smaller : goal.loop-at-smaller
-loop-at-smaller c = let some = c.requires.0.pair.some_hops in omega arith
-
 pub loop-at-preserved : goal.loop-at-preserved
 loop-at-preserved c =
     let pre = c.requires in
     let inv = c.loop-at.invariant in
     through_next _ _ _ pre.0.pair _ _ inv (way_behind _ _ _ _ pre.0 _ inv (omega arith))
-    (c.follows_at.ensures.yes c.if-follows_at.true)
+    (c.follows_at.ensures.yes c.if-not-follows_at.false)
 
-pub returns-else-follows_at : goal.returns-else-follows_at
-returns-else-follows_at c =
+pub returns-then-not-follows_at : goal.returns-then-not-follows_at
+returns-then-not-follows_at c =
     let pre = c.requires in
     let inv = c.loop-at.invariant in
     record {
       yes = λ h. absurd (not_both h refl);
       no = λ h.
           no_next _ _ _ pre.0.pair _ _ inv (way_behind _ _ _ _ pre.0 _ inv (omega arith))
-          (c.follows_at.ensures.no c.if-follows_at.false);
+          (c.follows_at.ensures.no c.if-not-follows_at.true);
     }
 
 pub returns : goal.returns
 returns c =
     record {
       yes = λ h. through_all _ _ _ c.requires.0.pair _ _ c.loop-at.invariant (omega arith);
+      no = λ h. absurd (not_both refl h);
+    }
+
+pub returns-else-not-follows_at : goal.returns-else-not-follows_at
+returns-else-not-follows_at c =
+    let pre = c.requires in
+    let inv = c.loop-at.invariant in
+    let next =
+    through_next _ _ _ pre.0.pair _ _ inv (way_behind _ _ _ _ pre.0 _ inv (omega arith))
+    (c.follows_at.ensures.yes c.if-not-follows_at.false) in
+    record {
+      yes = λ h. through_all _ _ _ pre.0.pair _ _ next (omega arith);
       no = λ h. absurd (not_both refl h);
     }
