@@ -163,7 +163,7 @@ fn begin_window(work: &mut [u64], n: usize, width: usize, z: usize)
     requires { (n * width ≤ length work.old) × (z < n) }
     ensures { work.new ≡ begun_window n width z work.old }
 {
-    memory::fill64(work, n * width, 65535);
+    memory::fill(work, n * width, 65535);
     memory::fill_part(work, z * width, width, 0);
 }
 

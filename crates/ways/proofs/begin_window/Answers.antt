@@ -8,7 +8,7 @@ pub overflow_mul-z : goal.overflow_mul-z
 overflow_mul-z c = omega (arith, row_below _ c.requires.1 c.requires.0, c.well_formed.0.0)
 
 pub fill_part-requires : goal.fill_part-requires
-fill_part-requires c = omega (arith, row_below _ c.requires.1 c.requires.0, c.fill64.auto.table)
+fill_part-requires c = omega (arith, row_below _ c.requires.1 c.requires.0, c.fill.auto.table)
 
 pub returns : goal.returns
-returns c = begun_by _ _ _ _ _ _ c.fill64.ensures c.fill_part.ensures
+returns c = begun_by _ _ _ _ _ _ c.fill.ensures c.fill_part.ensures
