@@ -28,10 +28,8 @@ fn draw_records(records: &mut [u8], pairs: &[u64], sums: &[u64], n: usize)
     requires { Drawable n pairs.now sums.now records.old }
     ensures { records.new ≡ over (records_from pairs.now sums.now 0 n) records.old }
 {
-    let mut v = 0;
-    while v < n {
+    for v in 0..n {
         draw_entry(records, pairs, sums, n, v);
-        v += 1;
     }
 }
 

@@ -33,10 +33,7 @@ fn better(list: &[u64], from: usize, best: usize, u: usize) -> usize
 {
     let top = from + best;
     let at = from + u;
-    if list[top] < list[at] {
-        return u;
-    }
-    best
+    if list[top] < list[at] { u } else { best }
 }
 
 // The lowest of the k places, from a place on, that hold the largest number.
@@ -45,10 +42,8 @@ fn largest(list: &[u64], from: usize, k: usize) -> usize
     ensures { Largest list.now from k result }
 {
     let mut best = 0;
-    let mut u = 1;
-    while u < k {
+    for u in 1..k {
         best = better(list, from, best, u);
-        u += 1;
     }
     best
 }

@@ -31,14 +31,12 @@ pub enum PairAnswer {
 }
 
 // The through count of the station at j of a block, to the destination z.
+#[tactic(auto, unfolding(crate::specs::Throughs::through_entry))]
 fn through_at(work: &[u64], n: usize, z: usize, low: usize, block: usize, j: usize) -> u64
     requires { Storable n z low block j work.now }
     ensures { result ≡ through_entry work.now n z low block j }
 {
-    if low + j == z {
-        return 0;
-    }
-    if work[z] == 65535 {
+    if low + j == z || work[z] == 65535 {
         return 0;
     }
     let at = 2 * n + z * block + j;
@@ -50,11 +48,9 @@ fn store(through: &mut [u64], work: &[u64], n: usize, z: usize, low: usize, bloc
     requires { Storing n z low block through.old work.now }
     ensures { StoredBlock n z low block block work.now through.old through.new }
 {
-    let mut j = 0;
-    while j < block {
+    for j in 0..block {
         let v = low + j;
         through[v] = through_at(work, n, z, low, block, j);
-        j += 1;
     }
 }
 
@@ -62,10 +58,7 @@ fn store(through: &mut [u64], work: &[u64], n: usize, z: usize, low: usize, bloc
 fn settled_before(n: usize, low: usize, until: usize) -> bool
     ensures { result ≡ (ltb 0 low && eqb until n) }
 {
-    if low == 0 {
-        return false;
-    }
-    until == n
+    0 < low && until == n
 }
 
 // The through counts of a block of stations, from a pass that ends where the station until is reached. The slot in which it ends;
@@ -121,7 +114,7 @@ fn through_blocks(
     let mut low = 0;
     let mut slot = 0;
     while low < n {
-        let block = pass::smaller(most, n - low);
+        let block = most.min(n - low);
         slot = block_throughs(
             through, work, plan, n, t, g, h, depth, s, z, low, block, until,
         );

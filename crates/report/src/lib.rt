@@ -11,37 +11,20 @@ ghost use Rattle.report.specs.Work.{lines_of, table_of, Printable, Within};
 
 use loads::LoadsAnswer;
 
-// The larger of two numbers.
-fn larger(a: usize, b: usize) -> usize
-    ensures { result ≡ max a b }
-{
-    if a < b {
-        return b;
-    }
-    a
-}
-
 // The larger station number of a record.
 fn top_station(input: &[u8], i: usize) -> usize
     requires { i * 6 + 5 < length input.now }
     ensures { result ≡ top_station input.now i }
 {
     let c = plan::contact_at(input, i);
-    larger(c.sender, c.hearer)
+    c.sender.max(c.hearer)
 }
 
 // The largest station number of all records; 0 where there is no record.
 pub fn top_of(input: &[u8]) -> usize
     ensures { result + 1 ≡ input_stations input.now }
 {
-    let m = input.len() / 6;
-    let mut top = 0;
-    let mut i = 0;
-    while i < m {
-        top = larger(top, top_station(input, i));
-        i += 1;
-    }
-    top
+    (0..input.len() / 6).map(|i| top_station(input, i)).max().unwrap_or(0)
 }
 
 // The last record's slot; 1 where there is no record.
@@ -60,20 +43,14 @@ pub fn slots_of(input: &[u8]) -> usize
 pub fn wrong_input(input: &[u8]) -> bool
     ensures { result ≡ wrong_input input.now }
 {
-    if input.len() % 6 != 0 {
-        return true;
-    }
-    1024 < input.len() / 6
+    input.len() % 6 != 0 || 1024 < input.len() / 6
 }
 
 // Whether stations up to this one are over 32, or slots over 63.
 pub fn over_limits(top: usize, t: usize) -> bool
     ensures { result ≡ over_limits (top + 1) t }
 {
-    if 31 < top {
-        return true;
-    }
-    63 < t
+    31 < top || 63 < t
 }
 
 // Writes the one line of a refusal.
@@ -117,10 +94,8 @@ fn put_lines(out: &mut [u8], at: usize, n: usize, pairs: &[u64], sums: &[u64]) -
     ensures { Put at (lines_of pairs.now sums.now n) out.old result out.new }
 {
     let mut end = at;
-    let mut v = 0;
-    while v < n {
+    for v in 0..n {
         end = put_line(out, end, v as u64, pairs[v], sums[v]);
-        v += 1;
     }
     end
 }

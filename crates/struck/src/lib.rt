@@ -62,10 +62,7 @@ fn differs(work: &[u64], n: usize, at: usize, z: usize) -> bool
 {
     let hops = at + z;
     let count = at + n + z;
-    if work[z] == work[hops] {
-        return work[n + z] != work[count];
-    }
-    true
+    work[z] != work[hops] || work[n + z] != work[count]
 }
 
 // 1 where station z is not the source and differs.
@@ -73,13 +70,7 @@ fn differing_at(work: &[u64], n: usize, at: usize, source: usize, z: usize) -> u
     requires { Comparable n at work.now × (z < n) }
     ensures { result ≡ differing_at n at work.now source z }
 {
-    if source == z {
-        return 0;
-    }
-    if differs(work, n, at, z) {
-        return 1;
-    }
-    0
+    usize::from(source != z && differs(work, n, at, z))
 }
 
 // How many stations do.
@@ -88,10 +79,8 @@ fn count_differing(work: &[u64], n: usize, at: usize, source: usize) -> usize
     ensures { result ≡ differing n at work.now source 0 n }
 {
     let mut k = 0;
-    let mut z = 0;
-    while z < n {
+    for z in 0..n {
         k += differing_at(work, n, at, source, z);
-        z += 1;
     }
     k
 }
@@ -166,8 +155,7 @@ fn strike_sources(
     memory::fill_part(work, base, 2 * n, 0);
     let mut splits = forward::no_splits();
     let mut pairs = 0;
-    let mut source = 0;
-    while source < n {
+    for source in 0..n {
         splits = forward::refilled(work, plan, out, n, t, g, h, base, source, n, splits);
         let width = forward::next_split(splits);
         let Used::Pairs(k) = strike_source(
@@ -177,7 +165,6 @@ fn strike_sources(
         };
         splits = forward::later_splits(splits);
         pairs += k;
-        source += 1;
     }
     Used::Pairs(pairs)
 }
@@ -295,8 +282,7 @@ fn strike_roomy(
     let mut whole = forward::no_splits();
     let mut lacking = forward::no_splits();
     let mut pairs = 0;
-    let mut source = 0;
-    while source < n {
+    for source in 0..n {
         whole = forward::refilled(work, plan, plan.len(), n, t, g, h, base, source, n, whole);
         lacking = forward::refilled(work, plan, out, n, t, g, h, base, source, n, lacking);
         let Used::Pairs(k) = strike_both(
@@ -319,7 +305,6 @@ fn strike_roomy(
         whole = forward::later_splits(whole);
         lacking = forward::later_splits(lacking);
         pairs += k;
-        source += 1;
     }
     Used::Pairs(pairs)
 }
@@ -380,15 +365,11 @@ fn room_block(
 {
     let size = forward::pass_size(n, t, g, h, depth, block);
     let more = 6 * n;
-    if more <= base {
-        if size <= base - more {
-            return block;
-        }
+    if more <= base && size <= base - more {
+        return block;
     }
-    if 20 < block {
-        if block < n {
-            return block - 3;
-        }
+    if 20 < block && block < n {
+        return block - 3;
     }
     0
 }

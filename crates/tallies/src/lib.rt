@@ -99,11 +99,9 @@ fn add_entry(
     if work[2 * n + z * block + e] == all {
         return;
     }
-    let end = pass::smaller(lanes::columns_of(e + 1, split), stations);
-    let mut j = lanes::columns_of(e, split);
-    while j < end {
+    let end = lanes::columns_of(e + 1, split).min(stations);
+    for j in lanes::columns_of(e, split)..end {
         add_pair(work, n, base, low, block, split, z, j);
-        j += 1;
     }
 }
 
@@ -141,12 +139,10 @@ fn add_row(
         return;
     }
     let all = full_entry(work, n, split, z);
-    let mut e = 0;
-    while e < block {
+    for e in 0..block {
         add_entry(
             work, n, base, source, low, block, split, stations, z, e, all,
         );
-        e += 1;
     }
 }
 
@@ -164,10 +160,8 @@ fn add_rows(
     requires { Workable n base source low (rows_of stations block split) 0 work.old }
     ensures { DestinationsAdded n base source low (rows_of stations block split) 0 n work.old work.new }
 {
-    let mut z = 0;
-    while z < n {
+    for z in 0..n {
         add_row(work, n, base, source, low, block, split, stations, z);
-        z += 1;
     }
 }
 
@@ -220,7 +214,7 @@ fn entries_for(left: usize, block: usize, split: usize) -> usize
 {
     let lanes = lanes::columns_of(1, split);
     let all = lanes::entry_of(left + lanes - 1, split);
-    pass::smaller(block, all)
+    block.min(all)
 }
 
 // How many entries a row of the next pass has: none before cause 9 is known not to hold.
@@ -275,7 +269,7 @@ pub fn tally_source(
     let mut low = 0;
     while low < n {
         let entries = next_entries(known, n - low, block, split);
-        let stations = pass::smaller(lanes::columns_of(entries, split), n - low);
+        let stations = lanes::columns_of(entries, split).min(n - low);
         let packed = tally_block(
             work, plan, out, known, n, t, g, h, depth, base, source, low, entries, split, stations,
         );
@@ -313,8 +307,7 @@ fn tally_sources(
 {
     memory::fill_part(work, base, 2 * n, 0);
     let mut splits = forward::no_splits();
-    let mut source = 0;
-    while source < k {
+    for source in 0..k {
         splits = forward::refilled(work, plan, plan.len(), n, t, g, h, base, source, k, splits);
         let width = forward::next_split(splits);
         if tally_source(
@@ -334,7 +327,6 @@ fn tally_sources(
             return true;
         }
         splits = forward::later_splits(splits);
-        source += 1;
     }
     false
 }

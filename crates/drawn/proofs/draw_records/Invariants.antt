@@ -1,12 +1,7 @@
--- `drawn::draw_records` meets its contract. The loop's invariant: the records before station v are written. The measure is the number of
--- stations left.
+-- `drawn::draw_records` meets its contract. The loop's invariant: the records before station v are written.
 -- Assumes nothing.
-use Prim.Native.Nat.{◌-◌}
 use Rattle.drawn.proofs.RecordsLaws.{Written}
 use Rattle.drawn.proofs.draw_records.Given as goal
 
 abbrev pub invariant-loop-v : goal.invariant-loop-v
 invariant-loop-v l = Written l.pairs l.sums l.initial.records l.n l.v l.records
-
-abbrev pub decreases-loop-v : goal.decreases-loop-v
-decreases-loop-v l = l.n - l.v

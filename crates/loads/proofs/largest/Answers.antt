@@ -1,5 +1,4 @@
--- `loads::largest` meets its contract. The loop's invariant: best is the place of the largest of the first u entries. The
--- measure is the number of entries left.
+-- `loads::largest` meets its contract. The loop's invariant: best is the place of the largest of the first u entries.
 -- Assumes nothing.
 use native.Mathlib.Omega.{arith}
 use Rattle.loads.proofs.LargestLaws.{best_first, best_next, best_all}
@@ -7,15 +6,6 @@ use Rattle.loads.proofs.largest.Goals as goal
 
 pub loop-u-init : goal.loop-u-init
 loop-u-init c = best_first _ _ _ (omega arith)
-
-pub better-best-requires : goal.better-best-requires
-better-best-requires c = (omega arith, omega arith)
-
-pub overflow_add-u : goal.overflow_add-u
-overflow_add-u c = omega arith
-
-pub loop-u-smaller : goal.loop-u-smaller
-loop-u-smaller c = omega arith
 
 pub loop-u-preserved : goal.loop-u-preserved
 loop-u-preserved c = best_next _ _ _ _ _ _ c.loop-u-test.true c.better-best.ensures c.loop-u.invariant

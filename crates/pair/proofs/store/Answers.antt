@@ -1,5 +1,4 @@
--- `pair::store` meets its contract. The loop's invariant: the first j stations of the block are stored. The measure is the
--- number of stations left.
+-- `pair::store` meets its contract. The loop's invariant: the first j stations of the block are stored.
 -- Assumes nothing.
 use native.Mathlib.Omega.{arith}
 use Rattle.pair.proofs.ThroughLaws.{stored_none, stored_more, stored_all}
@@ -7,9 +6,6 @@ use Rattle.pair.proofs.store.Goals as goal
 
 pub loop-j-init : goal.loop-j-init
 loop-j-init c = (omega arith, stored_none _ _ _ _ _ _)
-
-pub overflow_add-v : goal.overflow_add-v
-overflow_add-v c = omega arith
 
 pub through_at-requires : goal.through_at-requires
 through_at-requires c =
@@ -27,12 +23,6 @@ offset_bounds-through-v c = omega (arith, c.loop-j.invariant.1.same_length, c.we
 
 pub bounds-through-v : goal.bounds-through-v
 bounds-through-v c = omega (arith, c.loop-j.invariant.1.same_length)
-
-pub overflow_add-j : goal.overflow_add-j
-overflow_add-j c = omega arith
-
-pub loop-j-smaller : goal.loop-j-smaller
-loop-j-smaller c = omega arith
 
 pub loop-j-preserved : goal.loop-j-preserved
 loop-j-preserved c = (

@@ -6,15 +6,6 @@ use Rattle.pair.proofs.PlaceLaws.{row_inside}
 use Rattle.pair.proofs.ThroughLaws.{entry_itself, entry_no_path, entry_rest}
 use Rattle.pair.proofs.through_at.Goals as goal
 
-pub overflow_add-low : goal.overflow_add-low
-overflow_add-low c = omega arith
-
-pub returns-then-low-j : goal.returns-then-low-j
-returns-then-low-j c = sym (entry_itself _ _ _ _ _ _ (omega arith))
-
-pub returns-then-work-z-eq65535 : goal.returns-then-work-z-eq65535
-returns-then-work-z-eq65535 c = sym (entry_no_path _ _ _ _ _ _ (omega arith) (omega arith))
-
 pub overflow_mul-at-2 : goal.overflow_mul-at-2
 overflow_mul-at-2 c = omega (arith, row_inside _ _ _ _ _ c.requires.station c.requires.column c.requires.fits, c.well_formed.0.0)
 
@@ -32,6 +23,3 @@ bounds-work-at c = row_inside _ _ _ _ _ c.requires.station c.requires.column c.r
 
 pub overflow_sub-result : goal.overflow_sub-result
 overflow_sub-result c = c.requires.at_most c.if-low-j.false c.if-work-z-eq65535.false
-
-pub returns : goal.returns
-returns c = sym (entry_rest _ _ _ _ _ _ c.if-low-j.false c.if-work-z-eq65535.false)

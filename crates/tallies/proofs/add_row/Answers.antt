@@ -1,5 +1,5 @@
 -- `tallies::add_row` meets its contract. The loop's invariant: destination z is added to the stations of the first e entries
--- (Entering). The measure is the number of entries left.
+-- (Entering).
 -- Assumes nothing.
 use native.Mathlib.Omega.{arith}
 use Rattle.tallies.proofs.LoopLaws.{row_self, row_unreached, row_count, entering_none, entering_workable, entering_more}
@@ -8,9 +8,6 @@ use Rattle.tallies.proofs.add_row.Goals as goal
 
 pub returns-then-z-source : goal.returns-then-z-source
 returns-then-z-source c = row_self _ _ _ _ _ _ _ (omega arith)
-
-pub offset_bounds-work-z : goal.offset_bounds-work-z
-offset_bounds-work-z c = omega arith
 
 pub bounds-work-z : goal.bounds-work-z
 bounds-work-z c = let k = c.requires.0.working.room in omega (arith, k.area, k.fits)
@@ -29,12 +26,6 @@ pub add_entry-requires : goal.add_entry-requires
 add_entry-requires c =
     entering_workable _ _ _ _ _ _ _ _ _ c.loop-e.invariant c.requires.0 _ (omega arith) (omega arith) (omega arith) (omega arith)
     c.full_entry-all.ensures
-
-pub overflow_add-e : goal.overflow_add-e
-overflow_add-e c = omega arith
-
-pub loop-e-smaller : goal.loop-e-smaller
-loop-e-smaller c = omega arith
 
 pub loop-e-preserved : goal.loop-e-preserved
 loop-e-preserved c =

@@ -1,5 +1,4 @@
 -- `tallies::add_rows` meets its contract. The loop's invariant: the destinations below z are added to the block (Sweeping).
--- The measure is the number of destinations left.
 -- Assumes nothing.
 use native.Mathlib.Omega.{arith}
 use Rattle.tallies.proofs.LoopLaws.{sweeping_none, sweeping_workable, sweeping_more, sweeping_length}
@@ -11,12 +10,6 @@ loop-z-init c = sweeping_none _ _ _ _ _ _
 
 pub add_row-requires : goal.add_row-requires
 add_row-requires c = (sweeping_workable _ _ _ _ _ _ _ _ c.loop-z.invariant c.requires, omega arith)
-
-pub overflow_add-z : goal.overflow_add-z
-overflow_add-z c = omega arith
-
-pub loop-z-smaller : goal.loop-z-smaller
-loop-z-smaller c = omega arith
 
 pub loop-z-preserved : goal.loop-z-preserved
 loop-z-preserved c = sweeping_more _ _ _ _ _ _ _ _ c.loop-z.invariant (omega arith) _ c.add_row.ensures

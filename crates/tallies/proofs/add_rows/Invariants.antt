@@ -1,7 +1,5 @@
 -- `tallies::add_rows` meets its contract. The loop's invariant: the destinations below z are added to the block (Sweeping).
--- The measure is the number of destinations left.
 -- Assumes nothing.
-use Prim.Native.Nat.{◌-◌}
 use Rattle.tallies.specs.Progress.{rows_of}
 use Rattle.tallies.proofs.LoopLaws.{Sweeping}
 use Rattle.tallies.proofs.add_rows.Given as goal
@@ -9,6 +7,3 @@ use Rattle.tallies.proofs.add_rows.Given as goal
 abbrev pub invariant-loop-z : goal.invariant-loop-z
 invariant-loop-z l =
     Sweeping l.n l.base l.source l.low (rows_of l.stations l.block l.split) l.initial.work l.z l.work
-
-abbrev pub decreases-loop-z : goal.decreases-loop-z
-decreases-loop-z l = l.n - l.z

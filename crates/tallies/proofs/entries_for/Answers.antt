@@ -12,4 +12,4 @@ overflow_sub-left c = let a = entries_asked _ c.requires.0 in omega (arith, c.co
 
 pub returns : goal.returns
 returns c =
-    entries_for _ _ _ _ _ c.requires.0 c.columns_of-lanes.ensures c.entry_of-all.ensures _ c.smaller.ensures
+    entries_for _ _ _ _ _ c.requires.0 c.columns_of-lanes.ensures c.entry_of-all.ensures _ c.min.ensures

@@ -14,9 +14,6 @@ overflow_add-t c = let a = accepted _ _ _ c.requires.accepted in omega (arith, a
 pub overflow_mul-t : goal.overflow_mul-t
 overflow_mul-t c = let a = accepted _ _ _ c.requires.accepted in omega (arith, a.slots)
 
-pub overflow_sub-t : goal.overflow_sub-t
-overflow_sub-t c = omega arith
-
 pub most_columns-block-requires : goal.most_columns-block-requires
 most_columns-block-requires c = columns_lent _ _ _ _ _ _ _ c.requires _ _ c.depth-depth.ensures
 

@@ -15,9 +15,6 @@ pub loop-low-init : goal.loop-low-init
 loop-low-init c =
     (c.first_split-split.ensures, known_few _ _ _ _ _ _ c.requires.1, blocking_none _ _ _ _ _ _ _ _ _ c.requires.0)
 
-pub overflow_sub-n : goal.overflow_sub-n
-overflow_sub-n c = omega arith
-
 pub next_entries-entries-requires : goal.next_entries-entries-requires
 next_entries-entries-requires c = (c.loop-low.invariant.0, omega (arith, c.requires.0.room.stations))
 
@@ -25,33 +22,30 @@ pub columns_of-requires : goal.columns_of-requires
 columns_of-requires c =
     (c.loop-low.invariant.0, omega (arith, c.next_entries-entries.ensures.small, c.requires.0.room.stations))
 
-pub overflow_sub-n-in-loop-low : goal.overflow_sub-n-in-loop-low
-overflow_sub-n-in-loop-low c = omega arith
-
 pub tally_block-packed-requires : goal.tally_block-packed-requires
 tally_block-packed-requires c = (
   blocking_ready _ _ _ _ _ _ _ _ _ c.requires.0 _ _ c.loop-low.invariant.2 _ _ _ _ c.loop-low.invariant.0 c.next_entries-entries.ensures
-      (rw c.columns_of.ensures at c.smaller-stations.ensures) c.loop-low-test.true,
+      (rw c.columns_of.ensures at c.min-stations.ensures) c.loop-low-test.true,
   c.loop-low.invariant.1,
 )
 
 pub overflow_add-low : goal.overflow_add-low
 overflow_add-low c =
-    omega (arith, c.smaller-stations.ensures)
+    omega (arith, c.min-stations.ensures)
 
 pub loop-low-smaller-in-Counted : goal.loop-low-smaller-in-Counted
 loop-low-smaller-in-Counted c =
     fewer_passes _ _ _ _ _ (some_stations _ _ _ _ _ _ _ _ _ c.requires.0 _ _ c.loop-low.invariant.2 _ _ _ _ c.loop-low.invariant.0 c.next_entries-entries.ensures
-    (rw c.columns_of.ensures at c.smaller-stations.ensures) c.loop-low-test.true) (omega (arith, c.smaller-stations.ensures))
+    (rw c.columns_of.ensures at c.min-stations.ensures) c.loop-low-test.true) (omega (arith, c.min-stations.ensures))
 
 pub loop-low-preserved-in-Counted : goal.loop-low-preserved-in-Counted
 loop-low-preserved-in-Counted c =
     let done = rw c.in-Counted.is at c.tally_block-packed.ensures in (
       c.loop-low.invariant.0,
       λ is. blocking_known _ _ _ _ _ _ _ _ _ c.requires.0 _ _ c.loop-low.invariant.2 _ _ _ _ c.loop-low.invariant.0 c.next_entries-entries.ensures
-          (rw c.columns_of.ensures at c.smaller-stations.ensures) c.loop-low-test.true _ done,
+          (rw c.columns_of.ensures at c.min-stations.ensures) c.loop-low-test.true _ done,
       blocking_more _ _ _ _ _ _ _ _ _ c.requires.0 _ _ c.loop-low.invariant.2 _ _ _ _ c.loop-low.invariant.0 c.next_entries-entries.ensures
-          (rw c.columns_of.ensures at c.smaller-stations.ensures) c.loop-low-test.true _ done,
+          (rw c.columns_of.ensures at c.min-stations.ensures) c.loop-low-test.true _ done,
     )
 
 pub shape_of-work-in-TooMany : goal.shape_of-work-in-TooMany
@@ -61,27 +55,27 @@ shape_of-work-in-TooMany c =
 pub returns-in-TooMany : goal.returns-in-TooMany
 returns-in-TooMany c =
     blocking_over _ _ _ _ _ _ _ _ _ c.requires.0 _ _ c.loop-low.invariant.2 _ _ _ _ c.loop-low.invariant.0 c.next_entries-entries.ensures
-    (rw c.columns_of.ensures at c.smaller-stations.ensures) c.loop-low-test.true _
+    (rw c.columns_of.ensures at c.min-stations.ensures) c.loop-low-test.true _
     (rw c.in-TooMany.is at c.tally_block-packed.ensures)
 
 pub overflow_sub-split : goal.overflow_sub-split
 overflow_sub-split c =
     let (some, again) = blocking_again _ _ _ _ _ _ _ _ _ c.requires.0 _ _ c.loop-low.invariant.2 _ _ _ _ c.loop-low.invariant.0 c.next_entries-entries.ensures
-    (rw c.columns_of.ensures at c.smaller-stations.ensures) c.loop-low-test.true _
+    (rw c.columns_of.ensures at c.min-stations.ensures) c.loop-low-test.true _
     (rw c.in-TooWide.is at c.tally_block-packed.ensures) in
     omega arith
 
 pub loop-low-smaller : goal.loop-low-smaller
 loop-low-smaller c =
     let (some, again) = blocking_again _ _ _ _ _ _ _ _ _ c.requires.0 _ _ c.loop-low.invariant.2 _ _ _ _ c.loop-low.invariant.0 c.next_entries-entries.ensures
-    (rw c.columns_of.ensures at c.smaller-stations.ensures) c.loop-low-test.true _
+    (rw c.columns_of.ensures at c.min-stations.ensures) c.loop-low-test.true _
     (rw c.in-TooWide.is at c.tally_block-packed.ensures) in
     narrower_split c.loop-low.known _ _ _ some
 
 pub loop-low-preserved : goal.loop-low-preserved
 loop-low-preserved c =
     let (some, again) = blocking_again _ _ _ _ _ _ _ _ _ c.requires.0 _ _ c.loop-low.invariant.2 _ _ _ _ c.loop-low.invariant.0 c.next_entries-entries.ensures
-    (rw c.columns_of.ensures at c.smaller-stations.ensures) c.loop-low-test.true _
+    (rw c.columns_of.ensures at c.min-stations.ensures) c.loop-low-test.true _
     (rw c.in-TooWide.is at c.tally_block-packed.ensures) in
     (let few = c.loop-low.invariant.0 in omega arith, c.loop-low.invariant.1, again)
 

