@@ -27,6 +27,7 @@ pub enum BusiestAnswer {
 }
 
 // Of two places from a place on, the second where it holds the larger number, else the first.
+#[tactic(auto, unfolding(crate::specs::Largest::better_of))]
 fn better(list: &[u64], from: usize, best: usize, u: usize) -> usize
     requires { (from + best < length list.now) × (from + u < length list.now) }
     ensures { result ≡ better_of list.now from best u }

@@ -31,24 +31,7 @@ use Rattle.struck.specs.Work.{differs_at, differing_at, differing, Comparable, u
 -- ---- how many stations differ
 
 module _ (n at : ℕ) (w : List ℕ) where
-  pub differs_hops : (z : ℕ) → get_or w z 0 ≢ get_or w (at + z) 0 → true ≡ differs_at n at w z
-  unfolding differs_at
-  differs_hops z d = sym (rw (ne_eqb _ _ d))
-
-  pub differs_count : (z : ℕ) (b : Bool) → get_or w z 0 ≡ get_or w (at + z) 0 → b ≡ not (eqb (get_or w (n + z) 0) (get_or w (at + n + z) 0)) →
-      b ≡ differs_at n at w z
-  unfolding differs_at
-  differs_count z b e is = is ∙ sym (rw (eq-eqb _ _ e))
-
   module _ (s : ℕ) where
-    pub differing_source : (z : ℕ) → s ≡ z → 0 ≡ differing_at n at w s z
-    unfolding differing_at
-    differing_source z e = sym (rw (eq-eqb s z e))
-
-    pub differing_other : (z : ℕ) → s ≢ z → (b : Bool) → b ≡ differs_at n at w z → cond b 1 0 ≡ differing_at n at w s z
-    unfolding differing_at
-    differing_other z d b is = sym (rw (ne_eqb s z d, ← is))
-
     at_most_one : (z : ℕ) → differing_at n at w s z ≤ 1
     unfolding differing_at
     at_most_one z = go (not (eqb s z) && differs_at n at w z)

@@ -56,6 +56,7 @@ pub enum Used {
 }
 
 // Whether hops or count of station z differ from those kept from a place on.
+#[tactic(auto, unfolding(crate::specs::Work::differs_at))]
 fn differs(work: &[u64], n: usize, at: usize, z: usize) -> bool
     requires { Comparable n at work.now × (z < n) }
     ensures { result ≡ differs_at n at work.now z }
@@ -66,6 +67,7 @@ fn differs(work: &[u64], n: usize, at: usize, z: usize) -> bool
 }
 
 // 1 where station z is not the source and differs.
+#[tactic(auto, unfolding(crate::specs::Work::differing_at))]
 fn differing_at(work: &[u64], n: usize, at: usize, source: usize, z: usize) -> usize
     requires { Comparable n at work.now × (z < n) }
     ensures { result ≡ differing_at n at work.now source z }
