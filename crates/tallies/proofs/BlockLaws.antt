@@ -18,8 +18,9 @@ use Rattle.temporal.specs.Bytes.{plan_of}
 use Rattle.temporal.specs.Cause.{is_too_many}
 use Rattle.lists.proofs.BufferLaws.{later_drop}
 use Rattle.pass.specs.Column.{lanes_by, columns_in}
-use Rattle.forward.specs.declared.Packed.{Packed}
-use Rattle.forward.specs.declared.Packed.TheVariants as packed
+use Rattle.std.specs.Prelude.{Result, Ok, Err}
+use Rattle.forward.specs.declared.Unpacked.{Unpacked}
+use Rattle.forward.specs.declared.Unpacked.TheVariants as unpacked
 use Rattle.forward.specs.Passed.{pass_size, Counted, PackedReady, PackedAs, PackedPassed, Known}
 use Rattle.forward.proofs.SizeLaws.{size_less}
 use Rattle.tallies.specs.Progress.{pair_term, load_term, TallyEntry, State, Kept, Rows, rows_of, Working, Workable, DestinationsAdded}
@@ -82,7 +83,7 @@ module _ (bs : List ℕ) (n t : ℕ) (terms : Terms) (d base s low : ℕ) (rows 
         few = pre.few;
       }
 
-  module _ (mid : List ℕ) (r : Packed) (q : PackedPassed bs n t terms d s low rows.entries rows.split old mid r) where
+  module _ (mid : List ℕ) (r : Result Unit Unpacked) (q : PackedPassed bs n t terms d s low rows.entries rows.split old mid r) where
     passed_kept : Kept n base old mid
     passed_kept =
         record {
@@ -91,15 +92,11 @@ module _ (bs : List ℕ) (n t : ℕ) (terms : Terms) (d base s low : ℕ) (rows 
           same_length = q.same_length;
         }
 
-    -- where a count is over 2^64 - 1
-    pub block_over : r ≡ packed.TooMany → BlockDone bs n t terms base s low rows old mid packed.TooMany
+    -- where a count is over 2^64 - 1, and where one does not fit its lane
+    pub block_stopped : (f : Unpacked) → r ≡ Err f → BlockDone bs n t terms base s low rows old mid (Err f)
     unfolding BlockEnd PackedAs
-    block_over is = record { ends = rw is at q.ends; kept = passed_kept }
-
-    -- where one does not fit its lane
-    pub block_wide : r ≡ packed.TooWide → BlockDone bs n t terms base s low rows old mid packed.TooWide
-    unfolding BlockEnd PackedAs
-    block_wide is =
+    block_stopped unpacked.TooMany is = record { ends = rw is at q.ends; kept = passed_kept }
+    block_stopped unpacked.TooWide is =
         record {
           ends = (
             rw is at q.ends,
@@ -109,8 +106,8 @@ module _ (bs : List ℕ) (n t : ℕ) (terms : Terms) (d base s low : ℕ) (rows 
           kept = passed_kept;
         }
 
-    module _ (is : r ≡ packed.Counted) where
-      counted_end : PackedAs bs n t terms s low rows.entries rows.split mid packed.Counted
+    module _ (e : Unit) (is : r ≡ Ok e) where
+      counted_end : PackedAs bs n t terms s low rows.entries rows.split mid (Ok e)
       counted_end = rw is at q.ends
 
       block_working : Working bs n t terms base s low rows 0 0 old mid
@@ -142,7 +139,7 @@ module _ (bs : List ℕ) (n t : ℕ) (terms : Terms) (d base s low : ℕ) (rows 
 
       -- the block is done
       pub block_done : (new : List ℕ) → DestinationsAdded n base s low rows 0 n mid new
-          → BlockDone bs n t terms base s low rows old new packed.Counted
+          → BlockDone bs n t terms base s low rows old new (Ok tt)
       unfolding BlockEnd PackedAs
       block_done new a =
           let w = a.working bs t terms (working_again bs n t terms base s low rows block_working) in
@@ -217,7 +214,7 @@ module _ (bs : List ℕ) (n t : ℕ) (terms : Terms) (d base block s : ℕ) (old
           }
 
       module _ (x : List ℕ) where
-        pub blocking_over : BlockDone bs n t terms base s low (rows_of stations entries split) w x packed.TooMany → SourceDone bs n t terms base s old x true
+        pub blocking_over : BlockDone bs n t terms base s low (rows_of stations entries split) w x (Err unpacked.TooMany) → SourceDone bs n t terms base s old x true
         unfolding BlockEnd
         blocking_over done =
             record {
@@ -227,7 +224,7 @@ module _ (bs : List ℕ) (n t : ℕ) (terms : Terms) (d base block s : ℕ) (old
               kept = kept_over n base f.kept done.kept;
             }
 
-        pub blocking_more : BlockDone bs n t terms base s low (rows_of stations entries split) w x packed.Counted
+        pub blocking_more : BlockDone bs n t terms base s low (rows_of stations entries split) w x (Ok tt)
             → Blocking bs n t terms base s old (low + stations) x
         unfolding BlockEnd
         blocking_more done =
@@ -240,12 +237,12 @@ module _ (bs : List ℕ) (n t : ℕ) (terms : Terms) (d base block s : ℕ) (old
             }
 
         -- cause 9 does not hold
-        pub blocking_known : BlockDone bs n t terms base s low (rows_of stations entries split) w x packed.Counted → is_too_many (plan_of bs n t terms) s ≡ false
+        pub blocking_known : BlockDone bs n t terms base s low (rows_of stations entries split) w x (Ok tt) → is_too_many (plan_of bs n t terms) s ≡ false
         unfolding BlockEnd
         blocking_known done = done.ends.0
 
         -- the same block again, with half as many stations to an entry
-        pub blocking_again : BlockDone bs n t terms base s low (rows_of stations entries split) w x packed.TooWide
+        pub blocking_again : BlockDone bs n t terms base s low (rows_of stations entries split) w x (Err unpacked.TooWide)
             → (split ≢ 0) × Blocking bs n t terms base s old low x
         unfolding BlockEnd
         blocking_again done = (

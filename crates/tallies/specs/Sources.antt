@@ -1,14 +1,14 @@
 -- What the functions of the tallies ask and promise that work on a block of stations, a source, and the sources below k.
 -- Definitions only.
 -- Assumes nothing.
-use Rattle.std.specs.Prelude.{ℕ, ◌+◌, ◌<◌, ◌≤◌, ◌≡◌, Bool, true, false, List, ◌≢◌}
+use Rattle.std.specs.Prelude.{ℕ, ◌+◌, ◌<◌, ◌≤◌, ◌≡◌, Bool, true, false, Result, Ok, Err, List, ◌≢◌}
 use Rattle.temporal.specs.Plan.{Terms, Allowed}
 use Rattle.temporal.specs.Bytes.{plan_of}
 use Rattle.temporal.specs.Cause.{plan_fault, is_too_many}
 use Rattle.stale.specs.Depth.{Deep}
 use Rattle.pass.specs.Column.{lanes_by, columns_in}
-use Rattle.forward.specs.declared.Packed.{Packed}
-use Rattle.forward.specs.declared.Packed.TheVariants as packed
+use Rattle.forward.specs.declared.Unpacked.{Unpacked}
+use Rattle.forward.specs.declared.Unpacked.TheVariants as unpacked
 use Rattle.forward.specs.Passed.{pass_size, Counted}
 use Rattle.tallies.specs.Tally.{block_of, tally_base, Tallyable}
 use Rattle.tallies.specs.Progress.{TallyEntry, State, Rows, Room, Kept}
@@ -28,15 +28,15 @@ pub record BlockReady (bs : List ℕ) (n t : ℕ) (terms : Terms) (d base s low 
 
 -- What a block promises by its end: counted, the block is done too, with hops and counts of the stations; with a count over 2^64 - 1; or with
 -- one that does not fit its lane, where the tallies are as they were.
-unfoldable pub BlockEnd : List ℕ → ℕ → ℕ → Terms → ℕ → ℕ → ℕ → Rows → List ℕ → Packed → Type 0
-BlockEnd bs n t terms base s low rows new packed.Counted =
+unfoldable pub BlockEnd : List ℕ → ℕ → ℕ → Terms → ℕ → ℕ → ℕ → Rows → List ℕ → Result Unit Unpacked → Type 0
+BlockEnd bs n t terms base s low rows new (Ok e) =
     (is_too_many (plan_of bs n t terms) s ≡ false) × State (plan_of bs n t terms) n base s (low + rows.stations) 0 0 0 new
     × Counted bs n t terms s 0 0 new
-BlockEnd bs n t terms base s low rows new packed.TooMany = is_too_many (plan_of bs n t terms) s ≡ true
-BlockEnd bs n t terms base s low rows new packed.TooWide =
+BlockEnd bs n t terms base s low rows new (Err unpacked.TooMany) = is_too_many (plan_of bs n t terms) s ≡ true
+BlockEnd bs n t terms base s low rows new (Err unpacked.TooWide) =
     (rows.split ≢ 0) × State (plan_of bs n t terms) n base s low 0 0 0 new
 
-pub record BlockDone (bs : List ℕ) (n t : ℕ) (terms : Terms) (base s low : ℕ) (rows : Rows) (old new : List ℕ) (r : Packed) : Type 0 where
+pub record BlockDone (bs : List ℕ) (n t : ℕ) (terms : Terms) (base s low : ℕ) (rows : Rows) (old new : List ℕ) (r : Result Unit Unpacked) : Type 0 where
   pub ends : BlockEnd bs n t terms base s low rows new r
   pub kept : Kept n base old new
 

@@ -32,7 +32,7 @@ ghost use Rattle.tallies.specs.Sources.{
   EntriesNext,
 };
 
-use forward::Packed;
+use forward::Unpacked;
 
 // What column j of the row that begins at a place holds.
 fn column(work: &[u64], row: usize, j: usize, split: usize) -> u64
@@ -184,27 +184,17 @@ fn tally_block(
     block: usize,
     split: usize,
     stations: usize,
-) -> Packed
+) -> Result<(), Unpacked>
     requires { BlockReady (lacking_record plan.now out) n t (units g h) depth base source low (rows_of stations block split) work.old ×
         (known ≡ true → is_too_many (plan_of (lacking_record plan.now out) n t (units g h)) source ≡ false) }
     ensures { BlockDone (lacking_record plan.now out) n t (units g h) base source low (rows_of stations block split)
         work.old work.new result }
 {
-    let packed = forward::pass_packed(
+    forward::pass_packed(
         work, plan, out, known, n, t, g, h, depth, source, low, block, split,
-    );
-    match packed {
-        Packed::Counted => {
-            add_rows(work, n, base, source, low, block, split, stations);
-            return Packed::Counted;
-        }
-        Packed::TooMany => {
-            return Packed::TooMany;
-        }
-        Packed::TooWide => {
-            return Packed::TooWide;
-        }
-    }
+    )?;
+    add_rows(work, n, base, source, low, block, split, stations);
+    Ok(())
 }
 
 // How many entries of a row hold so many stations, but no more than block.
@@ -267,21 +257,21 @@ pub fn tally_source(
     let mut known = 0 < width;
     let mut split = first_split(t, h, width);
     let mut low = 0;
+    // No for: a block that is too wide is worked on again.
     while low < n {
         let entries = next_entries(known, n - low, block, split);
         let stations = lanes::columns_of(entries, split).min(n - low);
-        let packed = tally_block(
+        match tally_block(
             work, plan, out, known, n, t, g, h, depth, base, source, low, entries, split, stations,
-        );
-        match packed {
-            Packed::Counted => {
+        ) {
+            Ok(()) => {
                 known = true;
                 low += stations;
             }
-            Packed::TooMany => {
+            Err(Unpacked::TooMany) => {
                 return true;
             }
-            Packed::TooWide => {
+            Err(Unpacked::TooWide) => {
                 split -= 1;
             }
         }

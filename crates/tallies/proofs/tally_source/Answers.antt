@@ -22,8 +22,8 @@ pub columns_of-requires : goal.columns_of-requires
 columns_of-requires c =
     (c.loop-low.invariant.0, omega (arith, c.next_entries-entries.ensures.small, c.requires.0.room.stations))
 
-pub tally_block-packed-requires : goal.tally_block-packed-requires
-tally_block-packed-requires c = (
+pub tally_block-requires : goal.tally_block-requires
+tally_block-requires c = (
   blocking_ready _ _ _ _ _ _ _ _ _ c.requires.0 _ _ c.loop-low.invariant.2 _ _ _ _ c.loop-low.invariant.0 c.next_entries-entries.ensures
       (rw c.columns_of.ensures at c.min-stations.ensures) c.loop-low-test.true,
   c.loop-low.invariant.1,
@@ -33,14 +33,14 @@ pub overflow_add-low : goal.overflow_add-low
 overflow_add-low c =
     omega (arith, c.min-stations.ensures)
 
-pub loop-low-smaller-in-Counted : goal.loop-low-smaller-in-Counted
-loop-low-smaller-in-Counted c =
+pub loop-low-smaller-in-Ok : goal.loop-low-smaller-in-Ok
+loop-low-smaller-in-Ok c =
     fewer_passes _ _ _ _ _ (some_stations _ _ _ _ _ _ _ _ _ c.requires.0 _ _ c.loop-low.invariant.2 _ _ _ _ c.loop-low.invariant.0 c.next_entries-entries.ensures
     (rw c.columns_of.ensures at c.min-stations.ensures) c.loop-low-test.true) (omega (arith, c.min-stations.ensures))
 
-pub loop-low-preserved-in-Counted : goal.loop-low-preserved-in-Counted
-loop-low-preserved-in-Counted c =
-    let done = rw c.in-Counted.is at c.tally_block-packed.ensures in (
+pub loop-low-preserved-in-Ok : goal.loop-low-preserved-in-Ok
+loop-low-preserved-in-Ok c =
+    let done = c.in-Ok.ensures in (
       c.loop-low.invariant.0,
       λ is. blocking_known _ _ _ _ _ _ _ _ _ c.requires.0 _ _ c.loop-low.invariant.2 _ _ _ _ c.loop-low.invariant.0 c.next_entries-entries.ensures
           (rw c.columns_of.ensures at c.min-stations.ensures) c.loop-low-test.true _ done,
@@ -48,35 +48,35 @@ loop-low-preserved-in-Counted c =
           (rw c.columns_of.ensures at c.min-stations.ensures) c.loop-low-test.true _ done,
     )
 
-pub shape_of-work-in-TooMany : goal.shape_of-work-in-TooMany
-shape_of-work-in-TooMany c =
-    c.tally_block-packed.auto.work ∙ c.loop-low.invariant.2.kept.same_length
+pub shape_of-work-in-Err-TooMany : goal.shape_of-work-in-Err-TooMany
+shape_of-work-in-Err-TooMany c =
+    c.tally_block.auto.work ∙ c.loop-low.invariant.2.kept.same_length
 
-pub returns-in-TooMany : goal.returns-in-TooMany
-returns-in-TooMany c =
+pub returns-in-Err-TooMany : goal.returns-in-Err-TooMany
+returns-in-Err-TooMany c =
     blocking_over _ _ _ _ _ _ _ _ _ c.requires.0 _ _ c.loop-low.invariant.2 _ _ _ _ c.loop-low.invariant.0 c.next_entries-entries.ensures
     (rw c.columns_of.ensures at c.min-stations.ensures) c.loop-low-test.true _
-    (rw c.in-TooMany.is at c.tally_block-packed.ensures)
+    (rw c.in-Err-TooMany.field-0-is at c.in-Err-TooMany.ensures)
 
 pub overflow_sub-split : goal.overflow_sub-split
 overflow_sub-split c =
     let (some, again) = blocking_again _ _ _ _ _ _ _ _ _ c.requires.0 _ _ c.loop-low.invariant.2 _ _ _ _ c.loop-low.invariant.0 c.next_entries-entries.ensures
     (rw c.columns_of.ensures at c.min-stations.ensures) c.loop-low-test.true _
-    (rw c.in-TooWide.is at c.tally_block-packed.ensures) in
+    (rw c.in-Err-TooWide.field-0-is at c.in-Err-TooWide.ensures) in
     omega arith
 
 pub loop-low-smaller : goal.loop-low-smaller
 loop-low-smaller c =
     let (some, again) = blocking_again _ _ _ _ _ _ _ _ _ c.requires.0 _ _ c.loop-low.invariant.2 _ _ _ _ c.loop-low.invariant.0 c.next_entries-entries.ensures
     (rw c.columns_of.ensures at c.min-stations.ensures) c.loop-low-test.true _
-    (rw c.in-TooWide.is at c.tally_block-packed.ensures) in
+    (rw c.in-Err-TooWide.field-0-is at c.in-Err-TooWide.ensures) in
     narrower_split c.loop-low.known _ _ _ some
 
 pub loop-low-preserved : goal.loop-low-preserved
 loop-low-preserved c =
     let (some, again) = blocking_again _ _ _ _ _ _ _ _ _ c.requires.0 _ _ c.loop-low.invariant.2 _ _ _ _ c.loop-low.invariant.0 c.next_entries-entries.ensures
     (rw c.columns_of.ensures at c.min-stations.ensures) c.loop-low-test.true _
-    (rw c.in-TooWide.is at c.tally_block-packed.ensures) in
+    (rw c.in-Err-TooWide.field-0-is at c.in-Err-TooWide.ensures) in
     (let few = c.loop-low.invariant.0 in omega arith, c.loop-low.invariant.1, again)
 
 pub shape_of-work : goal.shape_of-work
