@@ -27,11 +27,8 @@ use Rattle.walks.proofs.EnteredLaws.{
 use Rattle.plan.specs.Fault.{plan_number, call_number, check_number}
 use Rattle.plan.specs.declared.CallFault.{CallFault}
 use Rattle.calls.specs.Call.{call_check_number}
-use Rattle.calls.specs.declared.CallCheck.{CallCheck}
-use Rattle.calls.specs.declared.CallCheck.TheVariants as call-check
+use Rattle.std.specs.Prelude.{Result, Err}
 use Rattle.plan.specs.declared.PlanFault.{PlanFault}
-use Rattle.plan.specs.declared.CheckAnswer.{CheckAnswer}
-use Rattle.plan.specs.declared.CheckAnswer.TheVariants as check-answer
 use Rattle.plan.proofs.Answers.{number-positive}
 use Rattle.calls.proofs.CallLaws.{terms_allowed, terms_refused}
 use Rattle.tallies.specs.Tally.{tally_base, Tallied}
@@ -78,7 +75,7 @@ module _ (bs : List ℕ) (n t : ℕ) (terms : Terms) (k : ℕ) (ps ls area : Lis
 
 module _ (bs : List ℕ) (n t : ℕ) (terms : Terms) (k : ℕ) (ps ls area : List ℕ) where
   pub loads_plan :
-      (r : CheckAnswer) (f : PlanFault) → check_number r ≡ plan_fault bs n t → r ≡ check-answer.Refused f →
+      (r : Result (Unit {0}) PlanFault) (f : PlanFault) → check_number r ≡ plan_fault bs n t → r ≡ Err f →
       ◌≡◌ {A = Outcome (Unit {0}) LoadBuffers}
       (record { number = plan_number f; values = tt; buffers = load_buffers ps ls area })
       (partial_loads bs n t terms k (load_buffers ps ls area))
@@ -92,7 +89,7 @@ module _ (bs : List ℕ) (n t : ℕ) (terms : Terms) (k : ℕ) (ps ls area : Lis
   module _ (ok : plan_fault bs n t ≡ 0) where
     -- 12 or 14
     pub loads_terms :
-        (r : CallCheck) → call_check_number r ≡ first (terms_causes terms) → (f : CallFault) → r ≡ call-check.Refused f →
+        (r : Result (Unit {0}) CallFault) → call_check_number r ≡ first (terms_causes terms) → (f : CallFault) → r ≡ Err f →
         ◌≡◌ {A = Outcome (Unit {0}) LoadBuffers} (record { number = call_number f; values = tt; buffers = load_buffers ps ls area })
         (partial_loads bs n t terms k (load_buffers ps ls area))
     unfolding partial_loads
@@ -165,7 +162,7 @@ tally_room n t base size e fits = let room = base_fits n t in omega arith
 
 module _ (bs : List ℕ) (n t : ℕ) (terms : Terms) (area : List ℕ) where
   pub busiest_plan :
-      (r : CheckAnswer) (f : PlanFault) → check_number r ≡ plan_fault bs n t → r ≡ check-answer.Refused f →
+      (r : Result (Unit {0}) PlanFault) (f : PlanFault) → check_number r ≡ plan_fault bs n t → r ≡ Err f →
       ◌≡◌ {A = Outcome ℕ (List ℕ)} (record { number = plan_number f; values = 0; buffers = area }) (busiest bs n t terms area)
   unfolding busiest
   busiest_plan r f answer e =
@@ -177,7 +174,7 @@ module _ (bs : List ℕ) (n t : ℕ) (terms : Terms) (area : List ℕ) where
   module _ (ok : plan_fault bs n t ≡ 0) where
     -- 12 or 14
     pub busiest_terms :
-        (r : CallCheck) → call_check_number r ≡ first (terms_causes terms) → (f : CallFault) → r ≡ call-check.Refused f →
+        (r : Result (Unit {0}) CallFault) → call_check_number r ≡ first (terms_causes terms) → (f : CallFault) → r ≡ Err f →
         ◌≡◌ {A = Outcome ℕ (List ℕ)} (record { number = call_number f; values = 0; buffers = area }) (busiest bs n t terms area)
     unfolding busiest
     busiest_terms r found f e = terms_refused 0 area _ bs n t terms _ ok r found f e

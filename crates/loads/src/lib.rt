@@ -9,22 +9,7 @@ ghost use Rattle.temporal.specs.OutcomePair.{partly_loaded, partial_loads, loads
 ghost use Rattle.loads.specs.Answer.{loads_outcome, load_buffers, busiest_outcome};
 ghost use Rattle.loads.specs.Largest.{better_of, Largest, LoadsReady, BusiestReady};
 
-use calls::CallCheck;
-use plan::{CallFault, CheckAnswer, Fault};
-
-// What loads and partial loads answer.
-#[derive(Clone, Copy)]
-pub enum LoadsAnswer {
-    Loaded,
-    Refused(Fault),
-}
-
-// What busiest answers.
-#[derive(Clone, Copy)]
-pub enum BusiestAnswer {
-    Station(usize),
-    Refused(Fault),
-}
+use plan::{CallFault, Fault};
 
 // Of two places from a place on, the second where it holds the larger number, else the first.
 #[tactic(auto, unfolding(crate::specs::Largest::better_of))]
@@ -60,7 +45,7 @@ pub fn partial_loads_work(
     g: usize,
     h: usize,
     k: usize,
-) -> LoadsAnswer
+) -> Result<(), Fault>
     requires { LoadsReady plan.now n t (units g h) k pairs.old sums.old work.old }
     ensures { loads_outcome result (load_buffers pairs.new sums.new work.new) ≡
         partly_loaded (plan_of plan.now n t (units g h)) k
@@ -70,13 +55,13 @@ pub fn partial_loads_work(
         memory::clear(pairs, n);
         memory::clear(sums, n);
         memory::clear(work, 4 * (n * (t + 1)));
-        return LoadsAnswer::Refused(Fault::Call(CallFault::TooMany));
+        return Err(Fault::Call(CallFault::TooMany));
     }
     let base = tallies::base_of(n, t);
     memory::copy(pairs, work, base, n);
     memory::copy(sums, work, base + n, n);
     memory::clear(work, 4 * (n * (t + 1)));
-    LoadsAnswer::Loaded
+    Ok(())
 }
 
 // Partial loads once 1 to 5, 12 and 14 are excluded: 13 and 8, then the work.
@@ -90,46 +75,18 @@ fn partial_loads_asked(
     g: usize,
     h: usize,
     k: usize,
-) -> LoadsAnswer
+) -> Result<(), Fault>
     requires { (plan_fault plan.now n t ≡ 0) × (first (terms_causes (units g h)) ≡ 0) }
     ensures { loads_outcome result (load_buffers pairs.new sums.new work.new) ≡
         partial_loads plan.now n t (units g h) k (load_buffers pairs.old sums.old work.old) }
 {
     if n < k {
-        return LoadsAnswer::Refused(Fault::Call(CallFault::Sources));
+        return Err(Fault::Call(CallFault::Sources));
     }
-    if pairs.len() < n {
-        return LoadsAnswer::Refused(Fault::Call(CallFault::Short));
-    }
-    if sums.len() < n {
-        return LoadsAnswer::Refused(Fault::Call(CallFault::Short));
-    }
-    if work.len() < 4 * (n * (t + 1)) {
-        return LoadsAnswer::Refused(Fault::Call(CallFault::Short));
+    if pairs.len() < n || sums.len() < n || work.len() < 4 * (n * (t + 1)) {
+        return Err(Fault::Call(CallFault::Short));
     }
     partial_loads_work(pairs, sums, work, plan, n, t, g, h, k)
-}
-
-// Partial loads on an accepted plan: 12 and 14, then the rest.
-fn partial_loads_accepted(
-    pairs: &mut [u64],
-    sums: &mut [u64],
-    work: &mut [u64],
-    plan: &[u8],
-    n: usize,
-    t: usize,
-    g: usize,
-    h: usize,
-    k: usize,
-) -> LoadsAnswer
-    requires { plan_fault plan.now n t ≡ 0 }
-    ensures { loads_outcome result (load_buffers pairs.new sums.new work.new) ≡
-        partial_loads plan.now n t (units g h) k (load_buffers pairs.old sums.old work.old) }
-{
-    let CallCheck::Refused(fault) = calls::terms_call(g, h) else {
-        return partial_loads_asked(pairs, sums, work, plan, n, t, g, h, k);
-    };
-    LoadsAnswer::Refused(Fault::Call(fault))
 }
 
 // Partial loads (document 02, C-18): for each station its pairs whose source is below k, and its load over these, in units of
@@ -144,14 +101,13 @@ pub fn partial_loads(
     pairs: &mut [u64],
     sums: &mut [u64],
     work: &mut [u64],
-) -> LoadsAnswer
+) -> Result<(), Fault>
     ensures { loads_outcome result (load_buffers pairs.new sums.new work.new) ≡
         partial_loads plan.now n t (units g h) k (load_buffers pairs.old sums.old work.old) }
 {
-    let CheckAnswer::Refused(fault) = plan::check(plan, n, t) else {
-        return partial_loads_accepted(pairs, sums, work, plan, n, t, g, h, k);
-    };
-    LoadsAnswer::Refused(Fault::Plan(fault))
+    plan::check(plan, n, t)?;
+    calls::terms_call(g, h)?;
+    partial_loads_asked(pairs, sums, work, plan, n, t, g, h, k)
 }
 
 // Operation 5, loads: for each station its pairs and its load, every source being worked on.
@@ -164,7 +120,7 @@ pub fn loads(
     pairs: &mut [u64],
     sums: &mut [u64],
     work: &mut [u64],
-) -> LoadsAnswer
+) -> Result<(), Fault>
     ensures { loads_outcome result (load_buffers pairs.new sums.new work.new) ≡
         loads plan.now n t (units g h) (load_buffers pairs.old sums.old work.old) }
 {
@@ -179,18 +135,18 @@ fn busiest_work(
     t: usize,
     g: usize,
     h: usize,
-) -> BusiestAnswer
+) -> Result<usize, Fault>
     requires { BusiestReady plan.now n t (units g h) work.old }
     ensures { busiest_outcome result work.new ≡ compared (plan_of plan.now n t (units g h)) work.old }
 {
     if tallies::tally(work, plan, n, t, g, h, n) {
         memory::clear(work, 4 * (n * (t + 1)));
-        return BusiestAnswer::Refused(Fault::Call(CallFault::TooMany));
+        return Err(Fault::Call(CallFault::TooMany));
     }
     let base = tallies::base_of(n, t);
     let v = largest(work, base + n, n);
     memory::clear(work, 4 * (n * (t + 1)));
-    BusiestAnswer::Station(v)
+    Ok(v)
 }
 
 // Busiest once 1 to 5, 12 and 14 are excluded: 8, then the work.
@@ -201,32 +157,14 @@ fn busiest_asked(
     t: usize,
     g: usize,
     h: usize,
-) -> BusiestAnswer
+) -> Result<usize, Fault>
     requires { (plan_fault plan.now n t ≡ 0) × (first (terms_causes (units g h)) ≡ 0) }
     ensures { busiest_outcome result work.new ≡ busiest plan.now n t (units g h) work.old }
 {
     if work.len() < 4 * (n * (t + 1)) {
-        return BusiestAnswer::Refused(Fault::Call(CallFault::Short));
+        return Err(Fault::Call(CallFault::Short));
     }
     busiest_work(work, plan, n, t, g, h)
-}
-
-// Busiest on an accepted plan: 12 and 14, then the rest.
-fn busiest_accepted(
-    work: &mut [u64],
-    plan: &[u8],
-    n: usize,
-    t: usize,
-    g: usize,
-    h: usize,
-) -> BusiestAnswer
-    requires { plan_fault plan.now n t ≡ 0 }
-    ensures { busiest_outcome result work.new ≡ busiest plan.now n t (units g h) work.old }
-{
-    let CallCheck::Refused(fault) = calls::terms_call(g, h) else {
-        return busiest_asked(work, plan, n, t, g, h);
-    };
-    BusiestAnswer::Refused(Fault::Call(fault))
 }
 
 // Operation 6, busiest: the lowest-numbered station whose load no other exceeds.
@@ -237,11 +175,10 @@ pub fn busiest(
     g: usize,
     h: usize,
     work: &mut [u64],
-) -> BusiestAnswer
+) -> Result<usize, Fault>
     ensures { busiest_outcome result work.new ≡ busiest plan.now n t (units g h) work.old }
 {
-    let CheckAnswer::Refused(fault) = plan::check(plan, n, t) else {
-        return busiest_accepted(work, plan, n, t, g, h);
-    };
-    BusiestAnswer::Refused(Fault::Plan(fault))
+    plan::check(plan, n, t)?;
+    calls::terms_call(g, h)?;
+    busiest_asked(work, plan, n, t, g, h)
 }
