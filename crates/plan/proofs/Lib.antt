@@ -2,3 +2,4 @@
 pub mod Answers
 pub mod SlotLaws
 pub mod LimitLaws
+pub mod OrderLaws

@@ -121,8 +121,8 @@ pub fn check_number(answer: Result<(), PlanFault>) -> usize
     }
 }
 
-// A record: in a slot a station sends and another hears.
-#[derive(Clone, Copy)]
+// A record: in a slot a station sends and another hears. Records are ordered by slot, then sender, then hearer.
+#[derive(Clone, Copy, Debug, PartialEq, Eq, PartialOrd, Ord)]
 pub struct Contact {
     pub slot: usize,
     pub sender: usize,
@@ -206,19 +206,7 @@ pub fn slot_end(plan: &[u8], j: usize, u: usize) -> usize
 fn is_above(c: Contact, d: Contact) -> bool
     ensures { result ≡ is_above (contact_of c) (contact_of d) }
 {
-    if c.slot < d.slot {
-        return true;
-    }
-    if d.slot < c.slot {
-        return false;
-    }
-    if c.sender < d.sender {
-        return true;
-    }
-    if d.sender < c.sender {
-        return false;
-    }
-    c.hearer < d.hearer
+    c < d
 }
 
 // The first of the causes 3, 4 and 5 of the record at i. It is compared with its neighbour once it passed 3 and 4.
