@@ -1,12 +1,12 @@
 -- How reach begins: the first cause of refusal, from the answers about the plan and the terms and from comparisons of numbers. Assumes
 -- nothing.
-use Prim.Native.Nat.{ℕ, ◌+◌, ◌*◌, ◌<◌, ◌≤◌}
+use Prim.Native.Nat.{ℕ, ◌<◌, ◌≤◌}
 use native.Mathlib.Omega.{arith}
 use mathlib.Core.Path.{◌≡◌, sym, ap, ◌∙◌}
 use mathlib.Core.Bool.{Bool, true, false, ◌||◌}
 use mathlib.Core.List.{List, []}
-use borrow.Author.Tests.{lt-ltb, le-ltb, le-leb, lt-leb}
-use lib.ListN.{length}
+use Rattle.std.specs.Prelude.{Result, Err}
+use borrow.Author.Tests.{le-leb, lt-leb}
 use Rattle.temporal.specs.Plan.{Terms}
 use Rattle.temporal.specs.Bytes.{plan_of}
 use Rattle.temporal.specs.Cause.{plan_fault, first, terms_causes, station_causes}
@@ -22,30 +22,21 @@ use Rattle.walks.proofs.EnteredLaws.{
 }
 use Rattle.plan.specs.Fault.{plan_number, call_number, check_number}
 use Rattle.plan.specs.declared.PlanFault.{PlanFault}
-use Rattle.plan.specs.declared.CheckAnswer.{CheckAnswer}
-use Rattle.plan.specs.declared.CheckAnswer.TheVariants.{Accepted, Refused}
 use Rattle.plan.specs.declared.CallFault.{CallFault}
 use Rattle.plan.proofs.Answers.{number-positive}
 use Rattle.calls.specs.Call.{call_check_number}
-use Rattle.calls.specs.declared.CallCheck.{CallCheck}
-use Rattle.calls.specs.declared.CallCheck.TheVariants as call
 use Rattle.calls.proofs.CallLaws.{terms_refused}
-
--- a plan that check accepts
-pub accepted_plan :
-    (bs : List ℕ) (n t : ℕ) (r : CheckAnswer) → check_number r ≡ plan_fault bs n t → r ≡ Accepted → plan_fault bs n t ≡ 0
-accepted_plan bs n t r answer e = sym answer ∙ ap check_number e
 
 module _ (bs : List ℕ) (n t : ℕ) (terms : Terms) (s : ℕ) (old : ReachTables) where
   -- whether one of the four tables is too short
-  abbrev lacking : Bool
+  abbrev pub lacking : Bool
   lacking =
       short (places n t) old.hops_table || short (places n t) old.count_table ||
       (short n old.station_hops || short n old.station_counts)
 
   -- a plan that check refuses
   pub reach_plan :
-      (r : CheckAnswer) (f : PlanFault) → check_number r ≡ plan_fault bs n t → r ≡ Refused f →
+      (r : Result (Unit {0}) PlanFault) (f : PlanFault) → check_number r ≡ plan_fault bs n t → r ≡ Err f →
       ◌≡◌ {A = Outcome (Unit {0}) ReachTables} (record { number = plan_number f; values = tt; buffers = old }) (reach bs n t terms s old)
   unfolding reach
   reach_plan r f answer e =
@@ -57,7 +48,7 @@ module _ (bs : List ℕ) (n t : ℕ) (terms : Terms) (s : ℕ) (old : ReachTable
   module _ (ok : plan_fault bs n t ≡ 0) where
     -- terms that are refused
     pub reach_terms :
-        (r : CallCheck) (f : CallFault) → call_check_number r ≡ first (terms_causes terms) → r ≡ call.Refused f →
+        (r : Result (Unit {0}) CallFault) (f : CallFault) → call_check_number r ≡ first (terms_causes terms) → r ≡ Err f →
         refused_with tt old (reached (plan_of bs n t terms) s old) (call_number f) ≡ reach bs n t terms s old
     unfolding reach
     reach_terms r f found e = terms_refused tt old _ bs n t terms _ ok r found f e
@@ -72,57 +63,15 @@ module _ (bs : List ℕ) (n t : ℕ) (terms : Terms) (s : ℕ) (old : ReachTable
       unfolding station_causes
       reach_station h = reach_call ∙ entered_cause tt old _ 5 _ _ (le-leb n s h)
 
-      lacks : s < n → lacking ≡ true → reach bs n t terms s old ≡ refused_with tt old (reached (plan_of bs n t terms) s old) 8
-      unfolding station_causes
-      lacks h e = reach_call ∙ entered_pass tt old _ 6 _ _ (lt-leb n s h) ∙ entered_cause tt old _ 7 _ [] e
-
       module _ (inside : s < n) where
-        pub reach_short_hops :
-            length old.hops_table < n * (t + 1) → reach bs n t terms s old ≡ refused_with tt old (reached (plan_of bs n t terms) s old) 8
-        reach_short_hops h = lacks inside (rw (lt-ltb (length old.hops_table) (n * (t + 1)) h))
+        -- a table that is too short
+        pub reach_short : lacking ≡ true → reach bs n t terms s old ≡ refused_with tt old (reached (plan_of bs n t terms) s old) 8
+        unfolding station_causes
+        reach_short e = reach_call ∙ entered_pass tt old _ 6 _ _ (lt-leb n s inside) ∙ entered_cause tt old _ 7 _ [] e
 
-        module _ (a : n * (t + 1) ≤ length old.hops_table) where
-          pub reach_short_counts :
-              length old.count_table < n * (t + 1) → reach bs n t terms s old ≡ refused_with tt old (reached (plan_of bs n t terms) s old) 8
-          reach_short_counts h =
-              lacks inside
-              (rw (le-ltb (length old.hops_table) (n * (t + 1)) a, lt-ltb (length old.count_table) (n * (t + 1)) h))
-
-          module _ (b : n * (t + 1) ≤ length old.count_table) where
-            pub reach_short_station_hops :
-                length old.station_hops < n → reach bs n t terms s old ≡ refused_with tt old (reached (plan_of bs n t terms) s old) 8
-            reach_short_station_hops h =
-                lacks inside
-                (rw (
-                  le-ltb (length old.hops_table) (n * (t + 1)) a,
-                  le-ltb (length old.count_table) (n * (t + 1)) b,
-                  lt-ltb (length old.station_hops) n h,
-                ))
-
-            module _ (c : n ≤ length old.station_hops) where
-              pub reach_short_station_counts :
-                  length old.station_counts < n → reach bs n t terms s old ≡ refused_with tt old (reached (plan_of bs n t terms) s old) 8
-              reach_short_station_counts h =
-                  lacks inside
-                  (rw (
-                    le-ltb (length old.hops_table) (n * (t + 1)) a,
-                    le-ltb (length old.count_table) (n * (t + 1)) b,
-                    le-ltb (length old.station_hops) n c,
-                    lt-ltb (length old.station_counts) n h,
-                  ))
-
-              -- with 1 to 8, 12 and 14 excluded the work is done
-              pub reach_works : n ≤ length old.station_counts → reach bs n t terms s old ≡ reached (plan_of bs n t terms) s old
-              unfolding station_causes
-              reach_works d =
-                  reach_call ∙ entered_pass tt old _ 6 _ _ (lt-leb n s inside) ∙ entered_pass tt old _ 8 _ [] none ∙
-                  entered_work tt old _
-                where
-                  none : lacking ≡ false
-                  none =
-                      rw (
-                        le-ltb (length old.hops_table) (n * (t + 1)) a,
-                        le-ltb (length old.count_table) (n * (t + 1)) b,
-                        le-ltb (length old.station_hops) n c,
-                        le-ltb (length old.station_counts) n d,
-                      )
+        -- with 1 to 8, 12 and 14 excluded the work is done
+        pub reach_works : lacking ≡ false → reach bs n t terms s old ≡ reached (plan_of bs n t terms) s old
+        unfolding station_causes
+        reach_works e =
+            reach_call ∙ entered_pass tt old _ 6 _ _ (lt-leb n s inside) ∙ entered_pass tt old _ 8 _ [] e ∙
+            entered_work tt old _

@@ -10,15 +10,7 @@ ghost use Rattle.temporal.specs.Outcome.{reached, reach};
 ghost use Rattle.reach_entries.specs.Pass.{tables_of, ReachReady, FilledTables};
 ghost use Rattle.reach.specs.Answer.{lent_tables, reach_outcome};
 
-use calls::CallCheck;
-use plan::{CallFault, CheckAnswer, Fault};
-
-// What reach answers.
-#[derive(Clone, Copy)]
-pub enum ReachAnswer {
-    Reached,
-    Refused(Fault),
-}
+use plan::{CallFault, Fault};
 
 // Fills the four tables from a source.
 fn fill(
@@ -52,20 +44,20 @@ fn fill(
             h,
             source,
         );
-        return;
+    } else {
+        reach_window::fill_window(
+            hops,
+            counts,
+            station_hops,
+            station_counts,
+            plan,
+            n,
+            t,
+            g,
+            h,
+            source,
+        );
     }
-    reach_window::fill_window(
-        hops,
-        counts,
-        station_hops,
-        station_counts,
-        plan,
-        n,
-        t,
-        g,
-        h,
-        source,
-    );
 }
 
 // Fills the tables, and clears them where a count is over 2^64 - 1.
@@ -80,7 +72,7 @@ fn work(
     g: usize,
     h: usize,
     source: usize,
-) -> ReachAnswer
+) -> Result<(), Fault>
     requires { ReachReady plan.now n t (units g h) source
         (tables_of hops.old counts.old station_hops.old station_counts.old) }
     ensures { reach_outcome result (lent_tables hops.new counts.new station_hops.new
@@ -102,94 +94,9 @@ fn work(
     );
     if reach_entries::overflowed(hops, counts, station_hops, station_counts, n, t + 1) {
         reach_entries::clear(hops, counts, station_hops, station_counts, n, t + 1);
-        return ReachAnswer::Refused(Fault::Call(CallFault::TooMany));
+        return Err(Fault::Call(CallFault::TooMany));
     }
-    ReachAnswer::Reached
-}
-
-// Reach on an accepted plan with allowed terms: 6 and 8, then the work.
-fn reach_allowed(
-    hops: &mut [u16],
-    counts: &mut [u64],
-    station_hops: &mut [u16],
-    station_counts: &mut [u64],
-    plan: &[u8],
-    n: usize,
-    t: usize,
-    g: usize,
-    h: usize,
-    source: usize,
-) -> ReachAnswer
-    requires { (plan_fault plan.now n t ≡ 0) × (first (terms_causes (units g h)) ≡ 0) }
-    ensures { reach_outcome result (lent_tables hops.new counts.new station_hops.new
-        station_counts.new) ≡
-        reach plan.now n t (units g h) source
-        (lent_tables hops.old counts.old station_hops.old station_counts.old) }
-{
-    if n <= source {
-        return ReachAnswer::Refused(Fault::Call(CallFault::Station));
-    }
-    let places = n * (t + 1);
-    if hops.len() < places {
-        return ReachAnswer::Refused(Fault::Call(CallFault::Short));
-    }
-    if counts.len() < places {
-        return ReachAnswer::Refused(Fault::Call(CallFault::Short));
-    }
-    if station_hops.len() < n {
-        return ReachAnswer::Refused(Fault::Call(CallFault::Short));
-    }
-    if station_counts.len() < n {
-        return ReachAnswer::Refused(Fault::Call(CallFault::Short));
-    }
-    work(
-        hops,
-        counts,
-        station_hops,
-        station_counts,
-        plan,
-        n,
-        t,
-        g,
-        h,
-        source,
-    )
-}
-
-// Reach on an accepted plan: 12, 14, 6 and 8, then the work.
-fn reach_accepted(
-    hops: &mut [u16],
-    counts: &mut [u64],
-    station_hops: &mut [u16],
-    station_counts: &mut [u64],
-    plan: &[u8],
-    n: usize,
-    t: usize,
-    g: usize,
-    h: usize,
-    source: usize,
-) -> ReachAnswer
-    requires { plan_fault plan.now n t ≡ 0 }
-    ensures { reach_outcome result (lent_tables hops.new counts.new station_hops.new
-        station_counts.new) ≡
-        reach plan.now n t (units g h) source
-        (lent_tables hops.old counts.old station_hops.old station_counts.old) }
-{
-    let CallCheck::Refused(fault) = calls::terms_call(g, h) else {
-        return reach_allowed(
-            hops,
-            counts,
-            station_hops,
-            station_counts,
-            plan,
-            n,
-            t,
-            g,
-            h,
-            source,
-        );
-    };
-    ReachAnswer::Refused(Fault::Call(fault))
+    Ok(())
 }
 
 // Operation 2, reach: fills, from a source, with the turnaround g and readings kept for h slots, the hops and counts of the
@@ -205,25 +112,35 @@ pub fn reach(
     counts: &mut [u64],
     station_hops: &mut [u16],
     station_counts: &mut [u64],
-) -> ReachAnswer
+) -> Result<(), Fault>
     ensures { reach_outcome result (lent_tables hops.new counts.new station_hops.new
         station_counts.new) ≡
         reach plan.now n t (units g h) source
         (lent_tables hops.old counts.old station_hops.old station_counts.old) }
 {
-    let CheckAnswer::Refused(fault) = plan::check(plan, n, t) else {
-        return reach_accepted(
-            hops,
-            counts,
-            station_hops,
-            station_counts,
-            plan,
-            n,
-            t,
-            g,
-            h,
-            source,
-        );
-    };
-    ReachAnswer::Refused(Fault::Plan(fault))
+    plan::check(plan, n, t)?;
+    calls::terms_call(g, h)?;
+    if n <= source {
+        return Err(Fault::Call(CallFault::Station));
+    }
+    let places = n * (t + 1);
+    if hops.len() < places
+        || counts.len() < places
+        || station_hops.len() < n
+        || station_counts.len() < n
+    {
+        return Err(Fault::Call(CallFault::Short));
+    }
+    work(
+        hops,
+        counts,
+        station_hops,
+        station_counts,
+        plan,
+        n,
+        t,
+        g,
+        h,
+        source,
+    )
 }
