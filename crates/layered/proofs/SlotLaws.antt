@@ -5,13 +5,12 @@ use native.Mathlib.Omega.{arith}
 use mathlib.Core.Path.{◌≡◌, sym, ap, ap₂, ◌∙◌}
 use mathlib.Core.Bool.{Bool, true, false}
 use mathlib.Core.List.{List}
-use mathlib.Core.Logic.{◌≢◌}
-use borrow.Author.Tests.{le-leb, lt-leb, eq-eqb, ne_eqb}
+use borrow.Author.Tests.{le-leb, lt-leb}
 use lib.ListN.{length}
 use lib.Seq.{sets}
 use Rattle.temporal.specs.Plan.{Contact}
 use Rattle.temporal.specs.Bytes.{contact_at, records}
-use Rattle.layered.specs.Layered.{in_layer, heard_in, raised, slot_at, shift, layer_of, down, layered_contact}
+use Rattle.layered.specs.Layered.{heard_in, raised, slot_at, shift, layer_of, down, layered_contact}
 use Rattle.layered.specs.Layered.{record_bytes, bytes_from}
 use Rattle.layered.specs.Writing.{Small, Layerable, Placeable, SlotBounds}
 use Rattle.layered.proofs.PositionLaws.{up, placed_down, shift_inside}
@@ -21,19 +20,6 @@ use Rattle.layered.proofs.WritingLaws.{Written, written_all}
 -- ---- one contact
 
 module _ (n v : ℕ) (layer : Bool) (c : Contact) where
-  pub raise_upper : layer ≡ true → record { slot = c.slot; sender = n + c.sender; hearer = n + c.hearer } ≡ raised n v layer c
-  unfolding raised heard_in in_layer
-  raise_upper up = rw up
-
-  pub raise_leaving : layer ≡ false → v ≡ c.sender →
-      record { slot = c.slot; sender = c.sender; hearer = n + c.hearer } ≡ raised n v layer c
-  unfolding raised heard_in in_layer
-  raise_leaving low same = rw (low, eq-eqb v c.sender same)
-
-  pub raise_other : layer ≡ false → v ≢ c.sender → c ≡ raised n v layer c
-  unfolding raised heard_in in_layer
-  raise_other low other = rw (low, ne_eqb v c.sender other)
-
   -- it has numbers below 256
   pub raised_small : Small n c → 2 * n ≤ 256 → Small 256 (raised n v layer c)
   unfolding raised

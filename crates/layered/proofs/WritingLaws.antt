@@ -3,9 +3,10 @@ use Prim.Native.Nat.{ℕ, zero, suc, ◌+◌, ◌-◌, ◌*◌, ◌≤◌, ◌<�
 use native.Mathlib.Omega.{arith}
 use native.Mathlib.Nat.{add-zero, zero-add}
 use mathlib.Core.Path.{◌≡◌, refl, sym, ap, ap₂, ◌∙◌}
-use mathlib.Core.List.{List, [], ◌∷◌, ◌++◌, flat_map}
-use lib.ListN.{length, set}
-use lib.Seq.{sets, length-sets}
+use mathlib.Core.List.{List, [], ◌∷◌, ◌++◌, flat_map, append_assoc}
+use lib.ListN.{length, set, take, drop}
+use lib.Seq.{sets, sets-eq, length-sets, drop-drop}
+use borrow.Rule.Slice.PartMut.{put_mid}
 use Rattle.temporal.specs.Lists.{from}
 use Rattle.temporal.specs.Plan.{Contact}
 use Rattle.layered.specs.Layered.{record_bytes, bytes_from}
@@ -20,17 +21,12 @@ sets_append (a ∷ x) y l i =
     let e : i + suc (length x) ≡ suc i + length x = omega arith in
     ap (λ k. sets (sets (set l i a) (suc i) x) k y) e ∙ sets_append x y (set l i a) (suc i)
 
--- six stores are a record's bytes
-pub six_stores : (l : List ℕ) (i : ℕ) (c : Contact) →
-    set (set (set (set (set (set l i 0) (i + 1) c.slot) (i + 2) 0) (i + 3) c.sender) (i + 4) 0) (i + 5) c.hearer ≡
-    sets l i (record_bytes c)
-six_stores l i c =
-    let one : i + 1 ≡ suc i = omega arith in
-    let two : i + 2 ≡ suc (suc i) = omega arith in
-    let three : i + 3 ≡ suc (suc (suc i)) = omega arith in
-    let four : i + 4 ≡ suc (suc (suc (suc i))) = omega arith in
-    let five : i + 5 ≡ suc (suc (suc (suc (suc i)))) = omega arith in
-    rw (one, two, three, four, five) refl
+-- a copy of a record's bytes into their place stores them
+pub put_record : (at : ℕ) (l part : List ℕ) (c : Contact) → at + 6 ≤ length l → part ≡ record_bytes c
+    → put_mid at (at + 6 - at) l part ≡ sets l at (record_bytes c)
+put_record at l part c fits e =
+    let n : at + 6 - at ≡ 6 = omega arith in
+    rw (e, n, drop-drop 6 at l) (sym (sets-eq (record_bytes c) l at fits ∙ append_assoc (take at l) (record_bytes c) (drop (at + 6) l)))
 
 -- ---- records one behind another
 

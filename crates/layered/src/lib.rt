@@ -7,40 +7,30 @@ ghost use Rattle.std.proofs.lemmas.List.Edits.{sets};
 ghost use Rattle.temporal.specs.Bytes.{contact_at};
 ghost use Rattle.temporal.specs.Outcome.{over};
 ghost use Rattle.plan.specs.Record.{contact_of, SlotRecords};
-ghost use Rattle.layered.specs.Layered.{lowered, lowered_contact, raised, layered_contact, record_bytes, bytes_from, layered};
+ghost use Rattle.layered.specs.Layered.{in_layer, lowered, lowered_contact, raised, layered_contact, record_bytes, bytes_from, layered};
 ghost use Rattle.layered.specs.Writing.{Small, Layerable, Raisable, Placeable, SlotBounds};
 
 use plan::Contact;
 
+// The station u in layer 1, or in layer 0.
+#[tactic(auto, unfolding(crate::specs::Layered::in_layer))]
+fn in_layer(n: usize, upper: bool, u: usize) -> usize
+    requires { (u < n) × (2 * n ≤ 256) }
+    ensures { result ≡ in_layer n upper u }
+{
+    if upper { n + u } else { u }
+}
+
 // The contact with its sender in layer 1, or in layer 0. It is heard in layer 1 where it is sent there or by v.
+#[tactic(auto, unfolding(crate::specs::Layered::raised, crate::specs::Layered::heard_in))]
 fn raise(n: usize, v: usize, upper: bool, c: Contact) -> Contact
     requires { Small n (contact_of c) × (2 * n ≤ 256) }
     ensures { contact_of result ≡ raised n v upper (contact_of c) }
 {
-    let slot = c.slot;
-    let sender = c.sender;
-    let hearer = c.hearer;
-    if upper {
-        let high_sender = n + sender;
-        let high_hearer = n + hearer;
-        return Contact {
-            slot,
-            sender: high_sender,
-            hearer: high_hearer,
-        };
-    }
-    if v == sender {
-        let moved = n + hearer;
-        return Contact {
-            slot,
-            sender,
-            hearer: moved,
-        };
-    }
     Contact {
-        slot,
-        sender,
-        hearer,
+        sender: in_layer(n, upper, c.sender),
+        hearer: in_layer(n, upper || v == c.sender, c.hearer),
+        ..c
     }
 }
 
@@ -49,15 +39,8 @@ fn write_record(out: &mut [u8], at: usize, c: Contact)
     requires { (at + 6 ≤ length out.old) × Small 256 (contact_of c) }
     ensures { out.new ≡ sets out.old at (record_bytes (contact_of c)) }
 {
-    let slot = c.slot;
-    let sender = c.sender;
-    let hearer = c.hearer;
-    out[at] = 0;
-    out[at + 1] = slot as u8;
-    out[at + 2] = 0;
-    out[at + 3] = sender as u8;
-    out[at + 4] = 0;
-    out[at + 5] = hearer as u8;
+    let bytes = [0, c.slot as u8, 0, c.sender as u8, 0, c.hearer as u8];
+    out[at..at + 6].copy_from_slice(&bytes);
 }
 
 // Writes the record at position i, with its sender in a layer, to place q.
@@ -89,11 +72,8 @@ fn write_slot(plan: &[u8], n: usize, v: usize, lo: usize, hi: usize, out: &mut [
     ensures { out.new ≡ sets out.old (2 * lo * 6)
         (bytes_from (layered_contact plan.now n v) (2 * lo) (2 * (hi - lo))) }
 {
-    let end = 2 * hi;
-    let mut q = 2 * lo;
-    while q < end {
+    for q in 2 * lo..2 * hi {
         write_place(plan, n, v, lo, hi, q, out);
-        q += 1;
     }
 }
 
@@ -113,6 +93,7 @@ pub fn layer(plan: &[u8], n: usize, v: usize, out: &mut [u8])
 {
     let m = plan.len() / 6;
     let mut lo = 0;
+    // No `for`: each round takes a slot, of any number of records.
     while lo < m {
         let hi = slot_end_of(plan, lo);
         write_slot(plan, n, v, lo, hi, out);
@@ -124,10 +105,7 @@ pub fn layer(plan: &[u8], n: usize, v: usize, out: &mut [u8])
 fn lower(n: usize, u: usize) -> usize
     ensures { result ≡ lowered n u }
 {
-    if u < n {
-        return u;
-    }
-    u - n
+    if u < n { u } else { u - n }
 }
 
 // The plan's contact of the record at a position of its layered plan.
@@ -136,12 +114,9 @@ pub fn lowered_contact(layered: &[u8], n: usize, q: usize) -> Contact
     ensures { contact_of result ≡ lowered_contact n (contact_at layered.now q) }
 {
     let c = plan::contact_at(layered, q);
-    let slot = c.slot;
-    let sender = lower(n, c.sender);
-    let hearer = lower(n, c.hearer);
     Contact {
-        slot,
-        sender,
-        hearer,
+        sender: lower(n, c.sender),
+        hearer: lower(n, c.hearer),
+        ..c
     }
 }

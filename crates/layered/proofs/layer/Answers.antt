@@ -10,10 +10,6 @@ use Rattle.layered.proofs.layer.Goals as goal
 pub loop-lo-init : goal.loop-lo-init
 loop-lo-init c = layering_none _ _ _ _ c.requires
 
-pub slot_end_of-hi-requires : goal.slot_end_of-hi-requires
-unfolding records
-slot_end_of-hi-requires c = omega arith
-
 pub write_slot-requires : goal.write_slot-requires
 unfolding records
 write_slot-requires c =
