@@ -1,17 +1,8 @@
 -- Keys: which of two is taken, and bounds. Assumes nothing.
-use Rattle.std.proofs.Common.{◌≡◌, ℕ, ◌+◌, ◌*◌, ◌/◌, ◌%◌, ◌^◌, ◌<◌, ◌≤◌, ◌≢◌, sym, ap, ◌∙◌, mod-eq_of_lt, arith, eq-eqb, ne_eqb}
+use Rattle.std.proofs.Common.{◌≡◌, ℕ, ◌+◌, ◌*◌, ◌%◌, ◌^◌, ◌<◌, ◌≤◌, sym, ap, ◌∙◌, mod-eq_of_lt, arith, eq-eqb, ne_eqb}
 use lib.Arith.{digits_div, digits_mod}
 use lib.Bits.{or_add_and, and_le_l, and_comm}
 use Rattle.widths.specs.Key.{key_of, merged_key, sent_key, widened}
-
-module _ (h c : ℕ) (small : c < 70368744177664) where
-  pub key_hops : key_of h c / 70368744177664 ≡ h
-  unfolding key_of
-  key_hops = digits_div h small
-
-  pub key_count : key_of h c % 70368744177664 ≡ c
-  unfolding key_of
-  key_count = digits_mod h small
 
 module _ (h c l d : ℕ) (few : c < 70368744177664) (small : d < 70368744177664) where
   -- fewer hops take the place of the key
@@ -56,18 +47,3 @@ widened_count a h c small most =
     let same : (h * 70368744177664 + c) * 2 ^ 18 ≡ h * 2 ^ 64 + c * 262144 = omega arith in
     let low : x ≡ c * 262144 = ap (λ y. y % 2 ^ 64) same ∙ digits_mod h (omega arith) in
     omega (arith, or_add_and a x, and_le_l a x, low)
-
--- ---- as code finds the key
-
-module _ (a b : ℕ) where
-  pub key_same : (r : ℕ) → a / 70368744177664 ≡ b / 70368744177664 → r ≡ (a + b % 70368744177664) % 2 ^ 64 → r ≡ merged_key a b
-  unfolding merged_key
-  key_same r same e = e ∙ sym (rw (eq-eqb (a / 70368744177664) (b / 70368744177664) same))
-
-  pub key_less : a / 70368744177664 ≢ b / 70368744177664 → b < a → b ≡ merged_key a b
-  unfolding merged_key
-  key_less other less = sym (rw (ne_eqb (a / 70368744177664) (b / 70368744177664) other) (omega arith))
-
-  pub key_kept : a / 70368744177664 ≢ b / 70368744177664 → a ≤ b → a ≡ merged_key a b
-  unfolding merged_key
-  key_kept other less = sym (rw (ne_eqb (a / 70368744177664) (b / 70368744177664) other) (omega arith))

@@ -1,5 +1,5 @@
 -- Splits of several sources in one word. Assumes nothing.
-use Rattle.std.proofs.Common.{◌≡◌, ℕ, zero, suc, ◌+◌, ◌-◌, ◌*◌, ◌/◌, ◌%◌, ◌^◌, ◌<◌, ◌≤◌, Bool, true, false, cond, ltb, ◌≢◌, List, get_or, sym, refl, ap, ◌∙◌, arith, pow_mono, pow-add, ltb-true, le-ltb, lt-ltb}
+use Rattle.std.proofs.Common.{◌≡◌, ℕ, zero, suc, ◌+◌, ◌-◌, ◌*◌, ◌/◌, ◌%◌, ◌^◌, ◌<◌, ◌≤◌, Bool, true, false, cond, ltb, ◌≢◌, List, get_or, sym, refl, ap, ◌∙◌, arith, pow_mono, pow-add, ltb-true}
 use Rattle.temporal.specs.Plan.{Terms}
 use Rattle.temporal.specs.Bytes.{plan_of}
 use Rattle.temporal.specs.Cause.{is_too_many}
@@ -39,24 +39,6 @@ split_some b = go (ltb b 67108864) (ltb b 17179869184) (ltb b 1125899906842624) 
     go false true z ex ey ez some = omega (arith, ltb-true b 17179869184 ey)
     go false false true ex ey ez some = ltb-true b 1125899906842624 ez
     go false false false ex ey ez some = absurd (some refl)
-
--- as code finds it
-module _ (b : ℕ) where
-  pub split_three : b < 67108864 → 3 ≡ split_for b
-  unfolding split_for
-  split_three h = sym (rw (lt-ltb b 67108864 h))
-
-  pub split_two : 67108864 ≤ b → b < 17179869184 → 2 ≡ split_for b
-  unfolding split_for
-  split_two l h = sym (rw (le-ltb b 67108864 l, lt-ltb b 17179869184 h))
-
-  pub split_one : 17179869184 ≤ b → b < 1125899906842624 → 1 ≡ split_for b
-  unfolding split_for
-  split_one l h = sym (rw (le-ltb b 67108864 (omega arith), le-ltb b 17179869184 l, lt-ltb b 1125899906842624 h))
-
-  pub split_none : 1125899906842624 ≤ b → 0 ≡ split_for b
-  unfolding split_for
-  split_none l = sym (rw (le-ltb b 67108864 (omega arith), le-ltb b 17179869184 (omega arith), le-ltb b 1125899906842624 l))
 
 -- those of k bounds have 2 k bits
 pub splits_small : (k : ℕ) (w : List ℕ) (at : ℕ) → splits_from w at k < 2 ^ (2 * k)

@@ -155,11 +155,6 @@ unfolding limit_of
 limit_more j zero = omega arith
 limit_more j (suc p) = omega arith
 
-limit_small : (j p : ℕ) → j ≤ 8192 → limit_of j p < 70368744177664
-unfolding limit_of
-limit_small j zero h = omega arith
-limit_small j (suc p) h = omega arith
-
 pub limit_waiting : (j p : ℕ) → 0 < p → limit_of j p ≡ j * 4294967296
 unfolding limit_of
 limit_waiting j zero h = absurd (omega arith)

@@ -28,16 +28,15 @@ ghost use Rattle.widths.specs.Key.{
 ghost use Rattle.widths.specs.Found.{WidthsReady, WidthsFound};
 
 // Of two keys that of fewer hops; with as many hops both counts.
+#[tactic(auto, unfolding(crate::specs::Key::merged_key))]
 fn merged_key(a: u64, b: u64) -> u64
     ensures { result ≡ merged_key a b }
 {
     if a / 70368744177664 == b / 70368744177664 {
-        return std::num::wrapping_add_u64(a, b % 70368744177664);
+        a.wrapping_add(b % 70368744177664)
+    } else {
+        a.min(b)
     }
-    if b < a {
-        return b;
-    }
-    a
 }
 
 // Takes a row of keys, each over one hop more, into another.
@@ -45,12 +44,9 @@ fn send_keys(work: &mut [u64], to: usize, from: usize, size: usize)
     requires { RowsFit work.old to from size }
     ensures { work.new ≡ combined sent_key work.old to from size }
 {
-    let mut j = 0;
-    while j < size {
-        let key = std::num::wrapping_add_u64(work[from + j], 70368744177664);
-        work[to + j] = merged_key(work[to + j], key);
-        j += 1;
-    }
+    pass::combine_rows(work, to, from, size, |a, b| {
+        merged_key(a, b.wrapping_add(70368744177664))
+    });
 }
 
 // Takes a row of keys into another.
@@ -58,11 +54,7 @@ fn merge_keys(work: &mut [u64], to: usize, from: usize, size: usize)
     requires { RowsFit work.old to from size }
     ensures { work.new ≡ combined merged_key work.old to from size }
 {
-    let mut j = 0;
-    while j < size {
-        work[to + j] = merged_key(work[to + j], work[from + j]);
-        j += 1;
-    }
+    pass::combine_rows(work, to, from, size, |a, b| merged_key(a, b));
 }
 
 // Widens a row of bounds by the counts of a row of keys, which stand in the upper 46 bits there.
@@ -70,11 +62,7 @@ fn widen_bounds(work: &mut [u64], to: usize, from: usize, size: usize)
     requires { RowsFit work.old to from size }
     ensures { work.new ≡ combined widened work.old to from size }
 {
-    let mut j = 0;
-    while j < size {
-        work[to + j] = work[to + j] | (work[from + j] << 18);
-        j += 1;
-    }
+    pass::combine_rows(work, to, from, size, |a, b| a | (b << 18));
 }
 
 // Settles what waits for station v in the part whose rows begin at row base.
@@ -125,12 +113,10 @@ fn settle_hearers(
     ensures { SlotKeys (lacking_record plan.now out) n many base bounds j end work.old work.new }
 {
     let all = n < end - j;
-    let count = pass::smaller(n, end - j);
-    let mut i = 0;
-    while i < count {
+    let count = n.min(end - j);
+    for i in 0..count {
         let v = pass::station_at(plan, out, all, j, i);
         settle_keys(work, n, many, base, bounds, v);
-        i += 1;
     }
 }
 
@@ -139,10 +125,8 @@ fn start_sources(work: &mut [u64], first: usize, many: usize)
     requires { SourcesFit first many work.old }
     ensures { work.new ≡ started_keys many work.old first 0 many }
 {
-    let mut c = 0;
-    while c < many {
+    for c in 0..many {
         work[(first + c) * many + c] = 1;
-        c += 1;
     }
 }
 
@@ -166,19 +150,19 @@ fn part_row(n: usize, q: usize, u: usize) -> usize
 }
 
 // The split of rows whose counts have a bound.
+#[tactic(auto, unfolding(crate::specs::Key::split_for))]
 fn split_for(bound: u64) -> u64
     ensures { result ≡ split_for bound }
 {
     if bound < 67108864 {
-        return 3;
+        3
+    } else if bound < 17179869184 {
+        2
+    } else if bound < 1125899906842624 {
+        1
+    } else {
+        0
     }
-    if bound < 17179869184 {
-        return 2;
-    }
-    if bound < 1125899906842624 {
-        return 1;
-    }
-    0
 }
 
 // Those of many bounds from a place on, two bits each, the first lowest.
@@ -187,9 +171,7 @@ fn splits_from(work: &[u64], at: usize, many: usize) -> u64
     ensures { result ≡ splits_from work.now at many }
 {
     let mut splits: u64 = 0;
-    let mut i = many;
-    while 0 < i {
-        i -= 1;
+    for i in (0..many).rev() {
         splits = split_for(work[at + i]) + 4 * splits;
     }
     splits
@@ -212,13 +194,14 @@ pub fn widths_of(
     requires { WidthsReady (lacking_record plan.now out) n t (units g h) first many work.old }
     ensures { WidthsFound (lacking_record plan.now out) n t (units g h) first many work.old work.new result }
 {
-    let q = pass::smaller(g, t);
+    let q = g.min(t);
     let bounds = (1 + q) * n;
     begin_keys(work, many, bounds, first);
     let mut base = part_row(n, q, 1);
     let mut u = 1;
     let mut j = 0;
     let mut i = 0;
+    // A step stays in slot u where it folds a record in.
     while u < t + q {
         if plan::kept_in_slot(plan, out, j, u) {
             fold_keys(work, plan, out, n, many, base, bounds, j);

@@ -1,5 +1,5 @@
 -- `widths::settle_hearers` meets its contract. The loop's invariant: settling the stations from number i on gives what settling all of them
--- gives. The measure is the number of stations left.
+-- gives.
 -- Assumes nothing.
 use Rattle.std.proofs.Common.{refl, arith}
 use Rattle.pass.proofs.PlaceLaws.{station_record, station_inside}
@@ -14,7 +14,7 @@ pub overflow_sub-end : goal.overflow_sub-end
 overflow_sub-end c = c.requires.2
 
 pub loop-i-init : goal.loop-i-init
-loop-i-init c = (refl, c.smaller-count.ensures, settling_none _ _ _ _ _ _)
+loop-i-init c = (refl, c.min-count.ensures, settling_none _ _ _ _ _ _)
 
 pub station_at-v-requires : goal.station_at-v-requires
 station_at-v-requires c =
@@ -30,12 +30,6 @@ settle_keys-requires c =
       rw c.station_at-v.ensures
           (station_inside _ _ _ _ c.requires.1 c.requires.2 _ is _ (omega (arith, c.loop-i-test.true, most))),
     )
-
-pub overflow_add-i : goal.overflow_add-i
-overflow_add-i c = omega arith
-
-pub loop-i-smaller : goal.loop-i-smaller
-loop-i-smaller c = omega arith
 
 pub loop-i-preserved : goal.loop-i-preserved
 loop-i-preserved c =

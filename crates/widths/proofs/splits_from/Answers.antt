@@ -1,4 +1,4 @@
--- `widths::splits_from` meets its contract. The loop's invariant: the splits from number i on. The measure is i.
+-- `widths::splits_from` meets its contract. The loop's invariant: the splits from number i on.
 -- Assumes nothing.
 use Rattle.std.proofs.Common.{arith}
 use Rattle.widths.proofs.NarrowLaws.{splits_none, splits_more, splits_whole, splits_room, split_is_small}
@@ -6,18 +6,6 @@ use Rattle.widths.proofs.splits_from.Goals as goal
 
 pub loop-i-init : goal.loop-i-init
 loop-i-init c = (omega arith, splits_none _ _ _)
-
-pub overflow_sub-i : goal.overflow_sub-i
-overflow_sub-i c = omega arith
-
-pub overflow_add-at : goal.overflow_add-at
-overflow_add-at c = omega arith
-
-pub offset_bounds-work-at : goal.offset_bounds-work-at
-offset_bounds-work-at c = omega arith
-
-pub bounds-work-at : goal.bounds-work-at
-bounds-work-at c = omega arith
 
 pub overflow_mul-splits : goal.overflow_mul-splits
 overflow_mul-splits c =
@@ -28,9 +16,6 @@ pub overflow_add-splits : goal.overflow_add-splits
 overflow_add-splits c =
     let room = splits_room _ _ _ _ _ (omega arith) c.loop-i.invariant.0 c.requires.1 c.loop-i.invariant.1 in
     omega (arith, room, c.split_for.ensures, split_is_small _ _ c.split_for.ensures)
-
-pub loop-i-smaller : goal.loop-i-smaller
-loop-i-smaller c = omega arith
 
 pub loop-i-preserved : goal.loop-i-preserved
 loop-i-preserved c =

@@ -1,5 +1,5 @@
 -- `widths::start_sources` meets its contract. The loop's invariant: writing the walks of the sources from column c on gives what writing all
--- gives. The measure is the number of sources left.
+-- gives.
 -- Assumes nothing.
 use Rattle.std.proofs.Common.{arith}
 use Rattle.widths.proofs.BeginKeys.{starting_none, starting_more, starting_all, starting_place}
@@ -22,12 +22,6 @@ offset_bounds-work-first c = let place = starting_place _ _ _ _ _ c.requires c.l
 
 pub bounds-work-first : goal.bounds-work-first
 bounds-work-first c = starting_place _ _ _ _ _ c.requires c.loop-c-test.true c.loop-c.invariant
-
-pub overflow_add-c : goal.overflow_add-c
-overflow_add-c c = omega arith
-
-pub loop-c-smaller : goal.loop-c-smaller
-loop-c-smaller c = omega arith
 
 pub loop-c-preserved : goal.loop-c-preserved
 loop-c-preserved c = starting_more _ _ _ _ _ c.loop-c-test.true c.loop-c.invariant

@@ -9,20 +9,20 @@ use Rattle.widths.proofs.RunLaws.{running_end, running_on, running_part, running
 use Rattle.widths.proofs.widths_of.Goals as goal
 
 pub overflow_add-bounds : goal.overflow_add-bounds
-overflow_add-bounds c = let few = ready_parts _ _ _ _ _ _ _ c.requires _ c.smaller-q.ensures in omega (arith, few.1)
+overflow_add-bounds c = let few = ready_parts _ _ _ _ _ _ _ c.requires _ c.min-q.ensures in omega (arith, few.1)
 
 pub overflow_mul-bounds : goal.overflow_mul-bounds
-overflow_mul-bounds c = omega (arith, ready_rows _ _ _ _ _ _ _ c.requires _ c.smaller-q.ensures)
+overflow_mul-bounds c = omega (arith, ready_rows _ _ _ _ _ _ _ c.requires _ c.min-q.ensures)
 
 pub begin_keys-requires : goal.begin_keys-requires
-begin_keys-requires c = ready_begin _ _ _ _ _ _ _ c.requires _ c.smaller-q.ensures
+begin_keys-requires c = ready_begin _ _ _ _ _ _ _ c.requires _ c.min-q.ensures
 
 pub part_row-base-requires : goal.part_row-base-requires
-part_row-base-requires c = ready_parts _ _ _ _ _ _ _ c.requires _ c.smaller-q.ensures
+part_row-base-requires c = ready_parts _ _ _ _ _ _ _ c.requires _ c.min-q.ensures
 
 pub loop-u-init : goal.loop-u-init
 loop-u-init c =
-    (refl, running_begun _ _ _ _ _ _ _ _ _ _ _ c.requires c.smaller-q.ensures refl c.part_row-base.ensures c.begin_keys.ensures)
+    (refl, running_begun _ _ _ _ _ _ _ _ _ _ _ c.requires c.min-q.ensures refl c.part_row-base.ensures c.begin_keys.ensures)
 
 pub overflow_add-t : goal.overflow_add-t
 overflow_add-t c = omega (arith, (accepted _ _ _ c.loop-u.invariant.1.ready.accepted).slots, c.loop-u.invariant.1.parts)
@@ -52,10 +52,7 @@ overflow_add-u c =
     omega (arith, (accepted _ _ _ c.loop-u.invariant.1.ready.accepted).slots, c.loop-u.invariant.1.parts)
 
 pub part_row-base-requires-in-loop-u : goal.part_row-base-requires-in-loop-u
-part_row-base-requires-in-loop-u c = ready_parts _ _ _ _ _ _ _ c.requires _ c.smaller-q.ensures
-
-pub overflow_sub-u : goal.overflow_sub-u
-overflow_sub-u c = omega arith
+part_row-base-requires-in-loop-u c = ready_parts _ _ _ _ _ _ _ c.requires _ c.min-q.ensures
 
 pub settled_end-end-requires : goal.settled_end-end-requires
 settled_end-end-requires c =
@@ -74,9 +71,6 @@ settle_hearers-requires c =
       c.settled_end-end.ensures.from,
     )
 
-pub loop-u-smaller-then-q-u : goal.loop-u-smaller-then-q-u
-loop-u-smaller-then-q-u c = omega arith
-
 pub loop-u-preserved-then-q-u : goal.loop-u-preserved-then-q-u
 loop-u-preserved-then-q-u c =
     let (is, run) = c.loop-u.invariant in (
@@ -84,9 +78,6 @@ loop-u-preserved-then-q-u c =
       running_settle run (sym c.kept_in_slot.ensures ∙ c.if-kept_in_slot.false) _ c.part_row-base-in-loop-u.ensures
           c.if-q-u.true c.loop-u-test.true _ c.settled_end-end.ensures _ (rw is at c.settle_hearers.ensures),
     )
-
-pub loop-u-smaller : goal.loop-u-smaller
-loop-u-smaller c = omega arith
 
 pub loop-u-preserved : goal.loop-u-preserved
 loop-u-preserved c =
