@@ -12,18 +12,15 @@ use Rattle.walks.proofs.EnteredLaws.{unless_some, unless_none}
 use Rattle.plan.specs.Fault.{plan_number, call_number, check_number}
 use Rattle.plan.specs.declared.PlanFault.{PlanFault}
 use Rattle.plan.specs.declared.CallFault.{CallFault}
-use Rattle.plan.specs.declared.CheckAnswer.{CheckAnswer}
-use Rattle.plan.specs.declared.CheckAnswer.TheVariants as check-answer
+use Rattle.std.specs.Prelude.{Result, Ok, Err}
 use Rattle.plan.proofs.Answers.{number-positive, call-number-within}
 use Rattle.calls.specs.Call.{pair_call_fault, call_check_number}
 use Rattle.calls.proofs.CallLaws.{free_call}
-use Rattle.calls.specs.declared.CallCheck.{CallCheck}
-use Rattle.calls.specs.declared.CallCheck.TheVariants as call-check
 use Rattle.listing.specs.Work.{WayReady, way_outcome}
 
 -- a plan that check accepts
-pub accepted_plan : (bs : List ℕ) (n t : ℕ) (r : CheckAnswer) → check_number r ≡ plan_fault bs n t
-    → r ≡ check-answer.Accepted
+pub accepted_plan : (bs : List ℕ) (n t : ℕ) (r : Result (Unit {0}) PlanFault) → check_number r ≡ plan_fault bs n t
+    → {x : Unit {0}} → r ≡ Ok x
     → plan_fault bs n t ≡ 0
 accepted_plan bs n t r answer e = sym answer ∙ ap check_number e
 
@@ -49,7 +46,7 @@ module _ (o : Operation) (q : Question) (way work : List ℕ) where
   call_decides ok = first_append_none (plan_causes q.bytes q.stations q.slots) _ ok
 
   -- a plan that check refuses
-  pub way_plan : (r : CheckAnswer) (f : PlanFault) → check_number r ≡ plan_fault_of → r ≡ check-answer.Refused f
+  pub way_plan : (r : Result (Unit {0}) PlanFault) (f : PlanFault) → check_number r ≡ plan_fault_of → r ≡ Err f
       → way_outcome (refused (plan_number f)) way work ≡ way_answer o q way work
   unfolding way_answer
   way_plan r f answer e =
@@ -60,7 +57,7 @@ module _ (o : Operation) (q : Question) (way work : List ℕ) where
 
   module _ (ok : plan_fault_of ≡ 0) where
     -- a call that 12, 14, 6, 7 or 8 refuses
-    pub way_call : (r : CallCheck) (f : CallFault) → call_check_number r ≡ call_fault_of → r ≡ call-check.Refused f
+    pub way_call : (r : Result (Unit {0}) CallFault) (f : CallFault) → call_check_number r ≡ call_fault_of → r ≡ Err f
         → way_outcome (refused (call_number f)) way work ≡ way_answer o q way work
     unfolding way_answer
     way_call r f answer e =
@@ -69,7 +66,7 @@ module _ (o : Operation) (q : Question) (way work : List ℕ) where
         ap refusal number ∙
         sym (rw (call_decides ok) (unless_some call_fault_of refusal (way_work o q way work) (omega arith)))
 
-    module _ (r : CallCheck) (answer : call_check_number r ≡ call_fault_of) (e : r ≡ call-check.Free) where
+    module _ (r : Result (Unit {0}) CallFault) (answer : call_check_number r ≡ call_fault_of) {x : Unit {0}} (e : r ≡ Ok x) where
       -- a call that 1 to 5, 12, 14 and 6 to 8 do not refuse does the work
       pub way_works : way_answer o q way work ≡ way_work o q way work
       unfolding way_answer

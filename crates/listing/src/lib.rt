@@ -10,17 +10,15 @@ ghost use Rattle.temporal.specs.FirstNext.{way_work, WayContract};
 ghost use Rattle.listing.specs.Answer.{reply_of, question};
 ghost use Rattle.listing.specs.Work.{WayReady, Worked, way_outcome};
 
-use calls::CallCheck;
-use plan::{CallFault, CheckAnswer, Fault};
+use plan::{CallFault, Fault};
 use ways::Pair;
 
-// What first way and next way answer: a way, with its hops; no way; no way after the one in the buffer; or a refusal.
-#[derive(Clone, Copy)]
+// What first way and next way answer: a way, with its hops; no way; or no way after the one in the buffer.
+#[derive(Clone, Copy, Debug, PartialEq, Eq)]
 pub enum WayAnswer {
     Path(usize),
     NoPath,
     LastPath,
-    Refused(Fault),
 }
 
 // Clears the operations' part of the work area.
@@ -42,17 +40,17 @@ fn first_work(
     destination: usize,
     way: &mut [u16],
     work: &mut [u64],
-) -> WayAnswer
+) -> Result<WayAnswer, Fault>
     requires { WayReady (question plan.now n t g h source destination) way.old work.old }
     ensures { Worked first_way (question plan.now n t g h source destination) way.old work.old
         (reply_of result) way.new work.new }
 {
     if forward::pass(work, plan, n, t, g, h, h, source, 0, 0) {
-        return WayAnswer::Refused(Fault::Call(CallFault::TooMany));
+        return Err(Fault::Call(CallFault::TooMany));
     }
     let hops = work[destination] as usize;
     if hops == 65535 {
-        return WayAnswer::NoPath;
+        return Ok(WayAnswer::NoPath);
     }
     ways::complete(work, plan, n, t, g, h, destination);
     let pair = Pair {
@@ -65,7 +63,7 @@ fn first_work(
         hops,
     };
     ways::first_path(way, work, plan, pair);
-    WayAnswer::Path(hops)
+    Ok(WayAnswer::Path(hops))
 }
 
 // The work, and the work area cleared after it.
@@ -79,7 +77,7 @@ fn first_cleared(
     destination: usize,
     way: &mut [u16],
     work: &mut [u64],
-) -> WayAnswer
+) -> Result<WayAnswer, Fault>
     requires { WayReady (question plan.now n t g h source destination) way.old work.old }
     ensures { way_outcome (reply_of result) way.new work.new ≡
         way_work first_way (question plan.now n t g h source destination) way.old work.old }
@@ -87,38 +85,6 @@ fn first_cleared(
     let answer = first_work(plan, n, t, g, h, source, destination, way, work);
     clear_area(work, n, t);
     answer
-}
-
-// The operation on an accepted plan: 12, 14, 6, 7 and 8, then the work.
-fn first_accepted(
-    plan: &[u8],
-    n: usize,
-    t: usize,
-    g: usize,
-    h: usize,
-    source: usize,
-    destination: usize,
-    way: &mut [u16],
-    work: &mut [u64],
-) -> WayAnswer
-    requires { plan_fault plan.now n t ≡ 0 }
-    ensures { WayContract first_way (question plan.now n t g h source destination) way.old
-        work.old (reply_of result) way.new work.new }
-{
-    let CallCheck::Refused(fault) = calls::pair_call(
-        n,
-        t,
-        g,
-        h,
-        source,
-        destination,
-        way.len(),
-        t,
-        work.len(),
-    ) else {
-        return first_cleared(plan, n, t, g, h, source, destination, way, work);
-    };
-    WayAnswer::Refused(Fault::Call(fault))
 }
 
 // Operation 7, first way: its hops, and its positions at the beginning of the way buffer; none where there is no way.
@@ -132,14 +98,13 @@ pub fn first_way(
     destination: usize,
     way: &mut [u16],
     work: &mut [u64],
-) -> WayAnswer
+) -> Result<WayAnswer, Fault>
     ensures { WayContract first_way (question plan.now n t g h source destination) way.old
         work.old (reply_of result) way.new work.new }
 {
-    let CheckAnswer::Refused(fault) = plan::check(plan, n, t) else {
-        return first_accepted(plan, n, t, g, h, source, destination, way, work);
-    };
-    WayAnswer::Refused(Fault::Plan(fault))
+    plan::check(plan, n, t)?;
+    calls::pair_call(n, t, g, h, source, destination, way.len(), t, work.len())?;
+    first_cleared(plan, n, t, g, h, source, destination, way, work)
 }
 
 // Next way once 1 to 5, 12, 14 and 6 to 8 are excluded: on from the walk with which the buffer begins; 10 where it begins with none.
@@ -153,18 +118,15 @@ fn next_work(
     destination: usize,
     way: &mut [u16],
     work: &mut [u64],
-) -> WayAnswer
+) -> Result<WayAnswer, Fault>
     requires { WayReady (question plan.now n t g h source destination) way.old work.old }
     ensures { Worked next_way (question plan.now n t g h source destination) way.old work.old
         (reply_of result) way.new work.new }
 {
     if forward::pass(work, plan, n, t, g, h, h, source, 0, 0) {
-        return WayAnswer::Refused(Fault::Call(CallFault::TooMany));
+        return Err(Fault::Call(CallFault::TooMany));
     }
     let hops = work[destination] as usize;
-    if hops == 65535 {
-        return WayAnswer::Refused(Fault::Call(CallFault::NotShortestPath));
-    }
     let pair = Pair {
         stations: n,
         slots: t,
@@ -174,14 +136,14 @@ fn next_work(
         destination,
         hops,
     };
-    if ways::offered(way, plan, pair) {
-        ways::complete(work, plan, n, t, g, h, destination);
-        if ways::next_path(way, work, plan, pair) {
-            return WayAnswer::Path(hops);
-        }
-        return WayAnswer::LastPath;
+    if hops == 65535 || !ways::offered(way, plan, pair) {
+        return Err(Fault::Call(CallFault::NotShortestPath));
     }
-    WayAnswer::Refused(Fault::Call(CallFault::NotShortestPath))
+    ways::complete(work, plan, n, t, g, h, destination);
+    if ways::next_path(way, work, plan, pair) {
+        return Ok(WayAnswer::Path(hops));
+    }
+    Ok(WayAnswer::LastPath)
 }
 
 // The work, and the work area cleared after it.
@@ -195,7 +157,7 @@ fn next_cleared(
     destination: usize,
     way: &mut [u16],
     work: &mut [u64],
-) -> WayAnswer
+) -> Result<WayAnswer, Fault>
     requires { WayReady (question plan.now n t g h source destination) way.old work.old }
     ensures { way_outcome (reply_of result) way.new work.new ≡
         way_work next_way (question plan.now n t g h source destination) way.old work.old }
@@ -203,38 +165,6 @@ fn next_cleared(
     let answer = next_work(plan, n, t, g, h, source, destination, way, work);
     clear_area(work, n, t);
     answer
-}
-
-// The operation on an accepted plan: 12, 14, 6, 7 and 8, then the work.
-fn next_accepted(
-    plan: &[u8],
-    n: usize,
-    t: usize,
-    g: usize,
-    h: usize,
-    source: usize,
-    destination: usize,
-    way: &mut [u16],
-    work: &mut [u64],
-) -> WayAnswer
-    requires { plan_fault plan.now n t ≡ 0 }
-    ensures { WayContract next_way (question plan.now n t g h source destination) way.old work.old
-        (reply_of result) way.new work.new }
-{
-    let CallCheck::Refused(fault) = calls::pair_call(
-        n,
-        t,
-        g,
-        h,
-        source,
-        destination,
-        way.len(),
-        t,
-        work.len(),
-    ) else {
-        return next_cleared(plan, n, t, g, h, source, destination, way, work);
-    };
-    WayAnswer::Refused(Fault::Call(fault))
 }
 
 // Operation 8, next way: the one after the way with which the buffer begins, answered as in 7, or last.
@@ -248,12 +178,11 @@ pub fn next_way(
     destination: usize,
     way: &mut [u16],
     work: &mut [u64],
-) -> WayAnswer
+) -> Result<WayAnswer, Fault>
     ensures { WayContract next_way (question plan.now n t g h source destination) way.old work.old
         (reply_of result) way.new work.new }
 {
-    let CheckAnswer::Refused(fault) = plan::check(plan, n, t) else {
-        return next_accepted(plan, n, t, g, h, source, destination, way, work);
-    };
-    WayAnswer::Refused(Fault::Plan(fault))
+    plan::check(plan, n, t)?;
+    calls::pair_call(n, t, g, h, source, destination, way.len(), t, work.len())?;
+    next_cleared(plan, n, t, g, h, source, destination, way, work)
 }

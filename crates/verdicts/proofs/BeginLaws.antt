@@ -15,12 +15,9 @@ use Rattle.walks.proofs.EnteredLaws.{entered_plan, entered_call, unless_some, un
 use Rattle.plan.specs.Fault.{plan_number, call_number, check_number}
 use Rattle.plan.specs.declared.PlanFault.{PlanFault}
 use Rattle.plan.specs.declared.CallFault.{CallFault}
-use Rattle.plan.specs.declared.CheckAnswer.{CheckAnswer}
-use Rattle.plan.specs.declared.CheckAnswer.TheVariants as check-answer
+use Rattle.std.specs.Prelude.{Result, Ok, Err}
 use Rattle.plan.proofs.Answers.{number-positive, call-number-within}
 use Rattle.calls.specs.Call.{pair_call_fault, call_check_number}
-use Rattle.calls.specs.declared.CallCheck.{CallCheck}
-use Rattle.calls.specs.declared.CallCheck.TheVariants as call-check
 use Rattle.calls.proofs.CallLaws.{free_call}
 use Rattle.listing.specs.Answer.{question}
 use Rattle.verdicts.specs.Work.{VerdictReady}
@@ -31,7 +28,7 @@ module _ (bs : List ℕ) (n t s z : ℕ) (terms : Terms) (list area : List ℕ) 
 
   -- a plan that check refuses
   pub verdict_plan :
-      (r : CheckAnswer) (f : PlanFault) → check_number r ≡ plan_fault bs n t → r ≡ check-answer.Refused f →
+      (r : Result (Unit {0}) PlanFault) (f : PlanFault) → check_number r ≡ plan_fault bs n t → r ≡ Err f →
       ◌≡◌ {A = Outcome (Option Verdict) (List ℕ)} (record { number = plan_number f; values = none; buffers = area })
       (verdict bs n t terms s z list area)
   unfolding verdict
@@ -40,11 +37,11 @@ module _ (bs : List ℕ) (n t s z : ℕ) (terms : Terms) (list area : List ℕ) 
       let some = number-positive f in
       ap (refused_with none area work) number ∙ sym (entered_plan none area work bs n t _ (omega arith))
 
-  module _ (ok : plan_fault bs n t ≡ 0) (r : CallCheck)
+  module _ (ok : plan_fault bs n t ≡ 0) (r : Result (Unit {0}) CallFault)
       (answer : call_check_number r ≡ pair_call_fault n t terms s z 0 0 (length area)) where
     -- 12, 14, 6, 7 or 8
     pub verdict_call :
-        (f : CallFault) → r ≡ call-check.Refused f →
+        (f : CallFault) → r ≡ Err f →
         ◌≡◌ {A = Outcome (Option Verdict) (List ℕ)} (record { number = call_number f; values = none; buffers = area })
         (verdict bs n t terms s z list area)
     unfolding verdict entered pair_call_fault
@@ -54,14 +51,14 @@ module _ (bs : List ℕ) (n t s z : ℕ) (terms : Terms) (list area : List ℕ) 
         ap (refused_with none area work) number ∙ sym (entered_call none area work bs n t _ ok ∙ unless_some _ _ _ (omega arith))
 
     -- none of them
-    pub verdict_works : r ≡ call-check.Free → verdict bs n t terms s z list area ≡ work
+    pub verdict_works : {x : Unit {0}} → r ≡ Ok x → verdict bs n t terms s z list area ≡ work
     unfolding verdict entered pair_call_fault
     verdict_works e = entered_call none area work bs n t _ ok ∙ unless_none _ _ _ (sym answer ∙ ap call_check_number e)
 
 -- an accepted plan and a free call are what the work asks
 pub verdict_ready :
-    (bs : List ℕ) (n t g h s z : ℕ) (area : List ℕ) → plan_fault bs n t ≡ 0 → (r : CallCheck) →
-    call_check_number r ≡ pair_call_fault n t (question bs n t g h s z).terms s z 0 0 (length area) → r ≡ call-check.Free →
+    (bs : List ℕ) (n t g h s z : ℕ) (area : List ℕ) → plan_fault bs n t ≡ 0 → (r : Result (Unit {0}) CallFault) →
+    call_check_number r ≡ pair_call_fault n t (question bs n t g h s z).terms s z 0 0 (length area) → {x : Unit {0}} → r ≡ Ok x →
     VerdictReady (question bs n t g h s z) area
 verdict_ready bs n t g h s z area ok r answer e =
     let f = free_call n t (question bs n t g h s z).terms s z 0 0 (length area) (sym answer ∙ ap call_check_number e) in

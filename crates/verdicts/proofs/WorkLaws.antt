@@ -29,8 +29,8 @@ use Rattle.listing.specs.Work.{WayReady}
 use Rattle.listing.proofs.WorkLaws.{pair_of, pass_ready, pass_beyond, list_empty, ready_startable, done_beyond}
 use Rattle.judging.specs.Judge.{verdict_of, Judgeable}
 use Rattle.judging.specs.declared.Judgement.{Judgement}
-use Rattle.verdicts.specs.declared.VerdictAnswer.{VerdictAnswer}
-use Rattle.verdicts.specs.declared.VerdictAnswer.TheVariants.{Judged, Refused}
+use Rattle.plan.specs.declared.Fault.{Fault}
+use Rattle.std.specs.Prelude.{Result, Ok, Err}
 use Rattle.verdicts.specs.Answer.{verdict_outcome}
 use Rattle.verdicts.specs.Work.{VerdictReady, VerdictWorked}
 
@@ -71,7 +71,7 @@ module _ (q : Question) (list work : List ℕ) (ready : VerdictReady q work) whe
   module _ (mid : List ℕ) (r : Bool)
       (passed : Passed q.bytes q.stations q.slots q.terms q.terms.keeping q.source 0 0 work mid r) where
     -- a count over 2^64 - 1
-    pub judged_too_many : r ≡ true → VerdictWorked q list work (Refused (fault.Call call-fault.TooMany)) mid
+    pub judged_too_many : r ≡ true → VerdictWorked q list work (Err (fault.Call call-fault.TooMany)) mid
     unfolding judged
     judged_too_many e =
         let many = sym passed.too_many ∙ e in
@@ -83,7 +83,7 @@ module _ (q : Question) (list work : List ℕ) (ready : VerdictReady q work) whe
 
     module _ (fits : r ≡ false) (h : ℕ) (read : h ≡ get_or mid q.destination 0) where
       -- no walk
-      pub judged_none : h ≡ 65535 → (j : Judgement) → verdict_of j ≡ verdict_on [] list → VerdictWorked q list work (Judged j) mid
+      pub judged_none : h ≡ 65535 → (j : Judgement) → verdict_of j ≡ verdict_on [] list → VerdictWorked q list work (Ok j) mid
       unfolding judged list_of
       judged_none e j is =
           let few = sym passed.too_many ∙ fits in
@@ -114,7 +114,7 @@ module _ (q : Question) (list work : List ℕ) (ready : VerdictReady q work) whe
 
         -- the list is judged
         pub judged_there : (j : Judgement) → verdict_of j ≡ verdict_on (list_in q.bytes (pair_of q h)) list
-            → VerdictWorked q list work (Judged j) done
+            → VerdictWorked q list work (Ok j) done
         unfolding judged
         judged_there j is =
             let few = sym passed.too_many ∙ fits in
@@ -141,7 +141,7 @@ area_cleared p s z list work = decide (is_too_many p s) refl
     decide false m = rw m refl
 
 -- the work with the work area cleared after it
-pub work_cleared : (q : Question) (list work : List ℕ) (r : VerdictAnswer) (mid after : List ℕ) → VerdictWorked q list work r mid
+pub work_cleared : (q : Question) (list work : List ℕ) (r : Result Judgement Fault) (mid after : List ℕ) → VerdictWorked q list work r mid
     → after ≡ over (replicate (work_size q.stations q.slots) 0) mid
     → verdict_outcome r after ≡ judged (plan_of q.bytes q.stations q.slots q.terms) q.source q.destination list work
 unfolding cleared plan_of

@@ -5,23 +5,14 @@
 ghost use Rattle.std.specs.Prelude.{◌≡◌};
 ghost use Rattle.temporal.specs.Plan.{units};
 ghost use Rattle.temporal.specs.Bytes.{plan_of};
-ghost use Rattle.temporal.specs.Cause.{plan_fault};
 ghost use Rattle.temporal.specs.OutcomeVerdict.{judged, verdict};
 ghost use Rattle.listing.specs.Answer.{question};
 ghost use Rattle.verdicts.specs.Answer.{verdict_outcome};
 ghost use Rattle.verdicts.specs.Work.{VerdictReady, VerdictWorked};
 
-use calls::CallCheck;
 use judging::Judgement;
-use plan::{CallFault, CheckAnswer, Fault};
+use plan::{CallFault, Fault};
 use ways::Pair;
-
-// What the operation answers.
-#[derive(Clone, Copy)]
-pub enum VerdictAnswer {
-    Judged(Judgement),
-    Refused(Fault),
-}
 
 // The operation once 1 to 5, 12, 14 and 6 to 8 are excluded.
 fn verdict_work(
@@ -34,17 +25,17 @@ fn verdict_work(
     destination: usize,
     list: &[u16],
     work: &mut [u64],
-) -> VerdictAnswer
+) -> Result<Judgement, Fault>
     requires { VerdictReady (question plan.now n t g h source destination) work.old }
     ensures { VerdictWorked (question plan.now n t g h source destination) list.now work.old result
         work.new }
 {
     if forward::pass(work, plan, n, t, g, h, h, source, 0, 0) {
-        return VerdictAnswer::Refused(Fault::Call(CallFault::TooMany));
+        return Err(Fault::Call(CallFault::TooMany));
     }
     let hops = work[destination] as usize;
     if hops == 65535 {
-        return VerdictAnswer::Judged(judging::judge_none(list));
+        return Ok(judging::judge_none(list));
     }
     ways::complete(work, plan, n, t, g, h, destination);
     let pair = Pair {
@@ -56,7 +47,7 @@ fn verdict_work(
         destination,
         hops,
     };
-    VerdictAnswer::Judged(judging::judge(list, work, plan, pair))
+    Ok(judging::judge(list, work, plan, pair))
 }
 
 // The work, and the work area cleared after it.
@@ -70,7 +61,7 @@ fn verdict_cleared(
     destination: usize,
     list: &[u16],
     work: &mut [u64],
-) -> VerdictAnswer
+) -> Result<Judgement, Fault>
     requires { VerdictReady (question plan.now n t g h source destination) work.old }
     ensures { verdict_outcome result work.new ≡
         judged (plan_of plan.now n t (units g h)) source destination list.now work.old }
@@ -78,38 +69,6 @@ fn verdict_cleared(
     let answer = verdict_work(plan, n, t, g, h, source, destination, list, work);
     memory::clear(work, 4 * (n * (t + 1)));
     answer
-}
-
-// The operation on an accepted plan: 12, 14, 6, 7 and 8, then the work.
-fn verdict_accepted(
-    plan: &[u8],
-    n: usize,
-    t: usize,
-    g: usize,
-    h: usize,
-    source: usize,
-    destination: usize,
-    list: &[u16],
-    work: &mut [u64],
-) -> VerdictAnswer
-    requires { plan_fault plan.now n t ≡ 0 }
-    ensures { verdict_outcome result work.new ≡
-        verdict plan.now n t (units g h) source destination list.now work.old }
-{
-    let CallCheck::Refused(fault) = calls::pair_call(
-        n,
-        t,
-        g,
-        h,
-        source,
-        destination,
-        0,
-        0,
-        work.len(),
-    ) else {
-        return verdict_cleared(plan, n, t, g, h, source, destination, list, work);
-    };
-    VerdictAnswer::Refused(Fault::Call(fault))
 }
 
 // The verdict on a list of positions: complete, a proper beginning, or wrong. The list is only read.
@@ -123,12 +82,11 @@ pub fn verdict(
     destination: usize,
     list: &[u16],
     work: &mut [u64],
-) -> VerdictAnswer
+) -> Result<Judgement, Fault>
     ensures { verdict_outcome result work.new ≡
         verdict plan.now n t (units g h) source destination list.now work.old }
 {
-    let CheckAnswer::Refused(fault) = plan::check(plan, n, t) else {
-        return verdict_accepted(plan, n, t, g, h, source, destination, list, work);
-    };
-    VerdictAnswer::Refused(Fault::Plan(fault))
+    plan::check(plan, n, t)?;
+    calls::pair_call(n, t, g, h, source, destination, 0, 0, work.len())?;
+    verdict_cleared(plan, n, t, g, h, source, destination, list, work)
 }
