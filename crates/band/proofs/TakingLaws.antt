@@ -8,7 +8,9 @@ use mathlib.Core.Bool.{Bool, true, false}
 use mathlib.Core.List.{List, [], ◌∷◌, ◌++◌}
 use mathlib.Core.Logic.{by_cases}
 use borrow.Author.Tests.{lt-ltb, le-ltb, ltb-false}
-use lib.ListN.{length, get_or, set, drop, length-set}
+use lib.ListN.{length, get_or, set, take, drop, length-set, length-append, get_or-append}
+use Rattle.std.proofs.lemmas.List.{length-take-le, get_or-take}
+use Rattle.std.proofs.lemmas.Slice.{drop-append-drop}
 use lib.Seq.{get_or-set_same, get_or-set_other, get_or-drop, drop-set-lt}
 use Rattle.temporal.specs.Lists.{from, below, any}
 use Rattle.temporal.specs.Cause.{cause, plan_causes, plan_fault}
@@ -16,15 +18,14 @@ use Rattle.temporal.specs.Outcome.{Outcome, entered, short}
 use Rattle.temporal.specs.Band.{records_in, band_slots, taken_in, taken_out, over_band, under_band, take_in, take_out}
 use Rattle.lists.proofs.BufferLaws.{over_by, length_made, get_d_made_law, later_drop}
 use Rattle.walks.proofs.EnteredLaws.{refused_with, entered_plan, entered_call, entered_cause, entered_pass, entered_work}
-use Rattle.lists.proofs.ListLaws.{any_false, mem_below}
+use Rattle.lists.proofs.ListLaws.{any_false, any_ext, mem_below}
 use Rattle.entries.proofs.SearchLaws.{any_found, any_pass, any_end, any_start}
 use Rattle.plan.specs.Fault.{plan_number, call_number, check_number}
 use Rattle.plan.specs.Record.{SlotRecords}
 use Rattle.plan.specs.declared.PlanFault.{PlanFault}
 use Rattle.plan.specs.declared.CallFault.{CallFault}
-use Rattle.plan.specs.declared.CheckAnswer.{CheckAnswer}
-use Rattle.plan.specs.declared.CheckAnswer.TheVariants as check-answer
 use Rattle.plan.proofs.Answers.{number-positive}
+use Rattle.std.specs.Prelude.{Result, Err}
 use Rattle.band.specs.Taking.{refuses, changed, refusal_number, refused_somewhere, changed_table, taken_by, Lent}
 use Rattle.band.specs.declared.Taking.{Taking}
 use Rattle.band.specs.declared.Taking.TheVariants.{In, Out}
@@ -131,16 +132,32 @@ module _ (taking : Taking) (bs old : List ℕ) (lent : Lent bs old) (free : refu
           rest = drop-set-lt (j + 1) now j x (omega arith) ∙ later_drop j (j + 1) now old (omega arith) g.rest;
         }
 
-  pub changing_all : (at j : ℕ) (now : List ℕ) → Changing taking bs old at j now → 255 ≤ j → now ≡ changed_table taking bs old
+-- the table is written by its first 255 entries
+module _ (bs old : List ℕ) (lent : Lent bs old) where
+  size : length (take 255 old) ≡ 255
+  size = length-take-le 255 old lent.room
+
+  pub first_lent : Lent bs (take 255 old)
+  first_lent = record { slotted = lent.slotted; room = omega (arith, size) }
+
+  pub first_free : (taking : Taking) → refused_somewhere taking bs old ≡ false → refused_somewhere taking bs (take 255 old) ≡ false
+  unfolding refused_somewhere
+  first_free taking free =
+      any_ext (below 255) (λ j m. ap (λ x. refuses taking x (records_in bs (j + 1))) (get_or-take 255 old j 0 ((mem_below 255).0 m))) ∙
+      free
+
+  pub changing_all : (taking : Taking) (at j : ℕ) (now : List ℕ) → Changing taking bs (take 255 old) at j now → 255 ≤ j →
+      now ++ drop 255 old ≡ changed_table taking bs old
   unfolding changed_table
-  changing_all at j now g h =
-      let room = lent.room in
-      let same = g.same in
+  changing_all taking at j now g h =
       let within = g.within in
-      let end : j ≡ 255 = omega arith in
-      over_by 255 now _ old (length_made _ 255) (omega arith)
-      (λ i inside. g.done i (omega arith) ∙ sym (get_d_made_law (λ k. changed taking (get_or old k 0) (records_in bs (k + 1))) 255 i inside))
-      (rw end at g.rest)
+      let whole : length now ≡ 255 = g.same ∙ size in
+      over_by 255 (now ++ drop 255 old) _ old (length_made _ 255) (omega (arith, length-append now (drop 255 old)))
+      (λ i inside.
+      get_or-append now (drop 255 old) 0 i (omega arith) ∙ g.done i (omega arith) ∙
+      ap (λ x. changed taking x (records_in bs (i + 1))) (get_or-take 255 old i 0 inside) ∙
+      sym (get_d_made_law (λ k. changed taking (get_or old k 0) (records_in bs (k + 1))) 255 i inside))
+      (drop-append-drop 255 old now 255 (omega arith) whole)
 
 -- ---- how either operation begins
 
@@ -164,7 +181,7 @@ module _ (bs : List ℕ) (n t : ℕ) (old : List ℕ) where
 
   module _ (taking : Taking) where
     -- a plan that check refuses
-    pub taken_plan : (r : CheckAnswer) (f : PlanFault) → check_number r ≡ plan_fault bs n t → r ≡ check-answer.Refused f
+    pub taken_plan : (r : Result (Unit {0}) PlanFault) (f : PlanFault) → check_number r ≡ plan_fault bs n t → r ≡ Err f
         → ◌≡◌ {A = Outcome (Unit {0}) (List ℕ)} (record { number = plan_number f; values = tt; buffers = old }) (taken_by taking bs n t old)
     taken_plan r f answer e =
         let number : plan_number f ≡ plan_fault bs n t = ap check_number (sym e) ∙ answer in

@@ -2,8 +2,7 @@
 // slot: first every entry is looked at, then every entry is written.
 #![tactic(auto)]
 
-ghost use Rattle.std.specs.Prelude.{◌≡◌, false, ◌+◌, ◌≤◌, ltb};
-ghost use Rattle.temporal.specs.Cause.{plan_fault};
+ghost use Rattle.std.specs.Prelude.{◌≡◌, false, ◌≤◌};
 ghost use Rattle.temporal.specs.Band.{take_in, take_out};
 ghost use Rattle.plan.specs.Fault.{call_number};
 ghost use Rattle.band.specs.Answer.{band_outcome};
@@ -18,38 +17,27 @@ ghost use Rattle.band.specs.Taking.{
   Lent,
 };
 
-use plan::{CallFault, CheckAnswer, Fault};
+use plan::{CallFault, Fault};
 
-// What both operations answer.
-#[derive(Clone, Copy)]
-pub enum BandAnswer {
-    Taken,
-    Refused(Fault),
-}
+// The entries of the table, slot 1 first.
+const BAND_SLOTS: usize = 255;
 
-// Which of the two is asked: taking in, with the band's channels, or taking out.
+// Which of the two is asked: taking in, with the band's channels, or taking out. An enum and no closures: the definitions that the
+// contracts cite go by its cases.
 #[derive(Clone, Copy)]
 enum Taking {
     In(u16),
     Out,
 }
 
-// Whether an entry with a slot's records would be above c. The sum may pass 16 bits.
-fn above(c: u16, entry: u16, more: usize) -> bool
-    requires { more ≤ 8192 }
-    ensures { result ≡ ltb c (entry + more) }
-{
-    (c as usize) < entry as usize + more
-}
-
-// Whether an entry refuses a slot's records: it would be above the channels, or below 0.
+// Whether an entry refuses a slot's records: it would be above the channels, or below 0. The sum may pass 16 bits.
 fn refuses(taking: Taking, entry: u16, more: usize) -> bool
     requires { more ≤ 8192 }
     ensures { result ≡ refuses taking entry more }
 {
     match taking {
-        Taking::In(c) => above(c, entry, more),
-        Taking::Out => (entry as usize) < more,
+        Taking::In(c) => usize::from(c) < usize::from(entry) + more,
+        Taking::Out => usize::from(entry) < more,
     }
 }
 
@@ -80,14 +68,12 @@ fn refused_somewhere(plan: &[u8], taking: Taking, table: &[u16]) -> bool
     ensures { result ≡ refused_somewhere taking plan.now table.now }
 {
     let mut at = 0;
-    let mut j = 0;
-    while j < 255 {
+    for (j, entry) in table[..BAND_SLOTS].iter().enumerate() {
         let end = plan::slot_end(plan, at, j + 1);
-        if refuses(taking, table[j], end - at) {
+        if refuses(taking, *entry, end - at) {
             return true;
         }
         at = end;
-        j += 1;
     }
     false
 }
@@ -98,49 +84,37 @@ fn change_all(plan: &[u8], taking: Taking, table: &mut [u16])
     ensures { table.new ≡ changed_table taking plan.now table.old }
 {
     let mut at = 0;
-    let mut j = 0;
-    while j < 255 {
+    for (j, entry) in table[..BAND_SLOTS].iter_mut().enumerate() {
         let end = plan::slot_end(plan, at, j + 1);
-        table[j] = changed(taking, table[j], end - at);
+        *entry = changed(taking, *entry, end - at);
         at = end;
-        j += 1;
     }
 }
 
-// The operation on an accepted plan: 8, then 15 or 16, then the work.
-fn take_accepted(plan: &[u8], n: usize, t: usize, taking: Taking, table: &mut [u16]) -> BandAnswer
-    requires { plan_fault plan.now n t ≡ 0 }
+// Either operation: 1 to 5, then 8, then 15 or 16, then the work.
+fn take(plan: &[u8], n: usize, t: usize, taking: Taking, table: &mut [u16]) -> Result<(), Fault>
     ensures { band_outcome result table.new ≡ taken_by taking plan.now n t table.old }
 {
-    if table.len() < 255 {
-        return BandAnswer::Refused(Fault::Call(CallFault::Short));
+    plan::check(plan, n, t)?;
+    if table.len() < BAND_SLOTS {
+        return Err(Fault::Call(CallFault::Short));
     }
     if refused_somewhere(plan, taking, table) {
-        return BandAnswer::Refused(Fault::Call(refusal(taking)));
+        return Err(Fault::Call(refusal(taking)));
     }
     change_all(plan, taking, table);
-    BandAnswer::Taken
-}
-
-// Either operation: 1 to 5, then the rest.
-fn take(plan: &[u8], n: usize, t: usize, taking: Taking, table: &mut [u16]) -> BandAnswer
-    ensures { band_outcome result table.new ≡ taken_by taking plan.now n t table.old }
-{
-    let CheckAnswer::Refused(fault) = plan::check(plan, n, t) else {
-        return take_accepted(plan, n, t, taking, table);
-    };
-    BandAnswer::Refused(Fault::Plan(fault))
+    Ok(())
 }
 
 // Adds a plan's records per slot to a table of 255 entries, slot 1 first; 15 where an entry would be above c.
-pub fn take_in(plan: &[u8], n: usize, t: usize, c: u16, table: &mut [u16]) -> BandAnswer
+pub fn take_in(plan: &[u8], n: usize, t: usize, c: u16, table: &mut [u16]) -> Result<(), Fault>
     ensures { band_outcome result table.new ≡ take_in plan.now n t c table.old }
 {
     take(plan, n, t, Taking::In(c), table)
 }
 
 // Subtracts them; 16 where an entry would be below 0.
-pub fn take_out(plan: &[u8], n: usize, t: usize, table: &mut [u16]) -> BandAnswer
+pub fn take_out(plan: &[u8], n: usize, t: usize, table: &mut [u16]) -> Result<(), Fault>
     ensures { band_outcome result table.new ≡ take_out plan.now n t table.old }
 {
     take(plan, n, t, Taking::Out, table)
