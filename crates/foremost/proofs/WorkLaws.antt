@@ -26,21 +26,19 @@ use Rattle.walks.proofs.ShortestLaws.{hops_empty}
 use Rattle.plan.specs.Fault.{plan_number, call_number, check_number}
 use Rattle.plan.specs.declared.PlanFault.{PlanFault}
 use Rattle.plan.specs.declared.CallFault.{CallFault}
-use Rattle.plan.specs.declared.CheckAnswer.{CheckAnswer}
-use Rattle.plan.specs.declared.CheckAnswer.TheVariants as check-answer
+use Rattle.std.specs.Prelude.{Option, Some, None, Result, Ok, Err}
 use Rattle.calls.specs.Call.{pair_call_fault, call_check_number}
-use Rattle.calls.specs.declared.CallCheck.{CallCheck}
-use Rattle.calls.specs.declared.CallCheck.TheVariants as call-check
 use Rattle.pass.specs.Column.{block_column, whole}
-use Rattle.pass.specs.declared.Ended.{Ended}
-use Rattle.pass.specs.declared.Ended.TheVariants as ended
-use Rattle.pass.specs.PassedColumns.{waiting, area_size, ColumnsReady, EndedAs, ColumnsPassed}
+use Rattle.pass.specs.declared.Stopped.{Stopped}
+use Rattle.pass.specs.declared.Stopped.TheVariants as stopped
+use Rattle.std.specs.Prelude.{MatchOption}
+use Rattle.pass.specs.PassedColumns.{waiting, area_size, ColumnsReady, EndedAs, ColumnsPassed, Overfull}
 use Rattle.forward.proofs.SizeLaws.{size_kept, small_fits}
 use Rattle.forward.proofs.UseLaws.{whole_appearances}
 use Rattle.pair.specs.Answer.{pair_buffers}
-use Rattle.pair.specs.Throughs.{PairReady, ThroughsReady, Throughs}
+use Rattle.pair.specs.Throughs.{PairReady, ThroughsReady, ThroughsBy, Throughs}
 use Rattle.pair.proofs.BeginLaws.{begins_plan, begins_call, begins_works}
-use Rattle.foremost.specs.Work.{met_appearance, AppearancesReady, Appearances, Foremosts, slot_value}
+use Rattle.foremost.specs.Work.{met_appearance, AppearancesReady, Appearances, ForemostsBy, Foremosts, slot_value}
 
 -- ---- cause 9
 
@@ -60,7 +58,7 @@ module _ (bs : List ℕ) (n t : ℕ) (terms : Terms) (s : ℕ) (old : List ℕ) 
 
   -- and says whether an appearance has too many
   pub appearances_met :
-      (new : List ℕ) (r : Bool) (e : Ended) →
+      (new : List ℕ) (r : Bool) (e : Result ℕ Stopped) →
       ColumnsPassed bs n t terms s n whole (block_column 0 0) 0 (area_size n (waiting t terms) 0) old new e → r ≡ met_appearance e →
       Appearances bs n t terms s old new r
   unfolding met_appearance EndedAs
@@ -72,12 +70,12 @@ module _ (bs : List ℕ) (n t : ℕ) (terms : Terms) (s : ℕ) (old : List ℕ) 
       }
     where
       decide :
-          (e : Ended) → EndedAs bs n t terms s n whole (block_column 0 0) 0 new e →
+          (e : Result ℕ Stopped) → EndedAs bs n t terms s n whole (block_column 0 0) 0 new e →
           met_appearance e ≡ appearance_too_many (plan_of bs n t terms) s
-      decide (ended.Settled e) y = sym (whole_appearances whole bs n t terms s ready.accepted ready.source (block_column 0 0) 0 new e y)
-      decide ended.StationTooMany y = sym y.appearances
-      decide ended.AppearanceTooMany y = sym y
-      decide ended.TooWide y = absurd (y refl)
+      decide (Ok e) y = sym (whole_appearances whole bs n t terms s ready.accepted ready.source (block_column 0 0) 0 new e y)
+      decide (Err stopped.StationTooMany) y = sym y.appearances
+      decide (Err stopped.AppearanceTooMany) y = sym y
+      decide (Err stopped.TooWide) y = absurd (y refl)
 
 -- ---- the through counts
 
@@ -107,15 +105,10 @@ module _ (bs : List ℕ) (n t : ℕ) (terms : Terms) (s z : ℕ) (table area : L
     area_same = later_drop (area_size n (waiting t terms) 0) (work_size n t) mid area room a.beyond
 
     -- an appearance with too many
-    pub foremosts_over : b ≡ true → Foremosts bs n t terms s z table area table mid 0
+    pub foremosts_over : b ≡ true → Foremosts bs n t terms s z table area table mid None
     foremosts_over e =
         record {
-          over = λ q. sym a.met ∙ e;
-          few = λ q. absurd (q refl);
-          slot = λ q. absurd (q refl);
-          pair_hops = λ q. absurd (q refl);
-          pair_count = λ q. absurd (q refl);
-          counted = λ q. absurd (q refl);
+          answer = sym a.met ∙ e;
           table_beyond = refl;
           table_length = refl;
           area_beyond = area_same;
@@ -141,26 +134,33 @@ module _ (bs : List ℕ) (n t : ℕ) (terms : Terms) (s z : ℕ) (table area : L
         }
 
     pub foremosts_counted :
-        b ≡ false → (table' area' : List ℕ) (r : ℕ) → Throughs bs n t terms s z z table mid table' area' r →
+        b ≡ false → (table' area' : List ℕ) (r : Option ℕ) → Throughs bs n t terms s z z table mid table' area' r →
         Foremosts bs n t terms s z table area table' area' r
     unfolding foremost_through
     foremosts_counted e table' area' r f =
         record {
-          over = λ q. ⊎_elim (λ many. many) (λ x. absurd (let none = x.waits_for_none in let inside = ready.destination in omega arith))
-              (f.over q);
-          few = λ q. sym a.met ∙ e;
-          slot = λ q. (f.settled q).slot;
-          pair_hops = λ q. (f.settled q).pair_hops ∙ ap hops (whole q);
-          pair_count = λ q. (f.settled q).pair_count ∙ ap count (whole q);
-          counted = λ q v h. f.counted q v h ∙ ap (λ l. through_in (plan_of bs n t terms) s z l v) (whole q);
+          answer = decide r f.answer;
           table_beyond = f.table_beyond;
           table_length = f.table_length;
           area_beyond = f.area_beyond ∙ area_same;
           area_length = f.area_length ∙ a.same_length;
         }
       where
-        whole : r ≢ 0 → walks_by (plan_of bs n t terms) s z r ≡ foremost_paths (plan_of bs n t terms) s z
-        whole q = ap (walks_by (plan_of bs n t terms) s z) (f.settled q).slot ∙ foremost_by_arrival bs n t terms ready.accepted s z
+        decide :
+            (r : Option ℕ) → MatchOption r (Overfull bs n t terms s z) (ThroughsBy bs n t terms s z z table' area') →
+            MatchOption r (appearance_too_many (plan_of bs n t terms) s ≡ true) (ForemostsBy bs n t terms s z table' area')
+        decide None x =
+            ⊎_elim (λ many. many) (λ x. absurd (let none = x.waits_for_none in let inside = ready.destination in omega arith)) x
+        decide (Some k) x =
+            let whole : walks_by (plan_of bs n t terms) s z k ≡ foremost_paths (plan_of bs n t terms) s z =
+            ap (walks_by (plan_of bs n t terms) s z) x.settled.slot ∙ foremost_by_arrival bs n t terms ready.accepted s z in
+            record {
+              few = sym a.met ∙ e;
+              slot = x.settled.slot;
+              pair_hops = x.settled.pair_hops ∙ ap hops whole;
+              pair_count = x.settled.pair_count ∙ ap count whole;
+              counted = λ v h. x.counted v h ∙ ap (λ l. through_in (plan_of bs n t terms) s z l v) whole;
+            }
 
 -- ---- the slot
 
@@ -175,25 +175,27 @@ slot_some slot h d = sym (rw (ne_eqb h 65535 d))
 -- ---- the answer
 
 module _ (bs : List ℕ) (n t : ℕ) (terms : Terms) (s z : ℕ) (table area : List ℕ) (ready : PairReady bs n t terms s z table area)
-    (table' area' : List ℕ) (r : ℕ) (f : Foremosts bs n t terms s z table area table' area' r) where
+    (table' area' : List ℕ) where
   -- too many: both are cleared
   pub foremost_refused :
-      r ≡ 0 → (table'' area'' : List ℕ) → table'' ≡ over (replicate n 0) table' →
+      Foremosts bs n t terms s z table area table' area' None → (table'' area'' : List ℕ) → table'' ≡ over (replicate n 0) table' →
       area'' ≡ over (replicate (work_size n t) 0) area' →
       ◌≡◌ {A = Outcome ForemostValues PairBuffers}
       (record { number = 9; values = record { slot = 0; hops = 0; count = 0 }; buffers = pair_buffers table'' area'' })
       (foremost_paired (plan_of bs n t terms) s z (pair_buffers table area))
   unfolding foremost_paired cleared plan_of
-  foremost_refused e table'' area'' a b =
-      let many = f.over e in
+  foremost_refused f table'' area'' a b =
+      let many = f.answer in
       let c = fill_beyond n 0 table' table f.table_beyond in
       let d = fill_beyond (work_size n t) 0 area' area f.area_beyond in
       rw many (cc (a, b, c, d))
 
   -- the slot of the answer is the arrival
-  arrival_is : r ≢ 0 → slot_value r (hops (foremost_paths (plan_of bs n t terms) s z)) ≡ arrival (plan_of bs n t terms) s z
+  arrival_is :
+      (r : ℕ) → ForemostsBy bs n t terms s z table' area' r →
+      slot_value r (hops (foremost_paths (plan_of bs n t terms) s z)) ≡ arrival (plan_of bs n t terms) s z
   unfolding plan_of
-  arrival_is d = go (arrival_or_never (plan_of bs n t terms) (slots_within bs n t terms ready.accepted) s z)
+  arrival_is r x = go (arrival_or_never (plan_of bs n t terms) (slots_within bs n t terms ready.accepted) s z)
     where
       go :
           Arrival (plan_of bs n t terms) (slots_within bs n t terms ready.accepted) s z →
@@ -204,7 +206,7 @@ module _ (bs : List ℕ) (n t : ℕ) (terms : Terms) (s z : ℕ) (table area : L
           empty : foremost_paths (plan_of bs n t terms) s z ≡ []
           empty = foremost_none (plan_of bs n t terms) (slots_within bs n t terms ready.accepted) s z none-there
       go (arrives h reached) =
-          let slot = f.slot d in
+          let slot = x.slot in
           let first : r ≡ arrival (plan_of bs n t terms) s z = omega arith in
           sym (slot_some r (hops (foremost_paths (plan_of bs n t terms) s z)) (λ many. absurd (some_path many))) ∙ first
         where
@@ -213,22 +215,22 @@ module _ (bs : List ℕ) (n t : ℕ) (terms : Terms) (s z : ℕ) (table area : L
 
   -- counted: the table has the through counts, the work area is cleared
   pub foremost_counted :
-      r ≢ 0 → (e h k : ℕ) (area'' : List ℕ) → e ≡ slot_value r h → h ≡ get_or area' z 0 → k ≡ get_or area' (n + z) 0 →
+      (r : ℕ) → Foremosts bs n t terms s z table area table' area' (Some r) → (e h k : ℕ) (area'' : List ℕ) → e ≡ slot_value r h → h ≡ get_or area' z 0 → k ≡ get_or area' (n + z) 0 →
       area'' ≡ over (replicate (work_size n t) 0) area' →
       ◌≡◌ {A = Outcome ForemostValues PairBuffers}
       (record { number = 0; values = record { slot = e; hops = h; count = k }; buffers = pair_buffers table' area'' })
       (foremost_paired (plan_of bs n t terms) s z (pair_buffers table area))
   unfolding foremost_paired cleared plan_of
-  foremost_counted q e h k area'' i a b c =
-      let few = f.few q in
-      let ph = a ∙ f.pair_hops q in
-      let pc = b ∙ f.pair_count q in
-      let ps = i ∙ ap (slot_value r) ph ∙ arrival_is q in
+  foremost_counted r f e h k area'' i a b c =
+      let few = f.answer.few in
+      let ph = a ∙ f.answer.pair_hops in
+      let pc = b ∙ f.answer.pair_count in
+      let ps = i ∙ ap (slot_value r) ph ∙ arrival_is r f.answer in
       let d = fill_beyond (work_size n t) 0 area' area f.area_beyond in
       let th : table' ≡ over (map (foremost_through (plan_of bs n t terms) s z) (below n)) table =
       over_by n table' (map (foremost_through (plan_of bs n t terms) s z) (below n)) table (length_made _ n)
       (let size = f.table_length in let tables = ready.table in omega arith)
-      (λ v inside. f.counted q v inside ∙ sym (get_d_made_law _ n v inside)) f.table_beyond in
+      (λ v inside. f.answer.counted v inside ∙ sym (get_d_made_law _ n v inside)) f.table_beyond in
       rw few (cc (ps, ph, pc, c, d, th))
 
 -- ---- how the operation begins
@@ -239,18 +241,18 @@ module _ (bs : List ℕ) (n t : ℕ) (terms : Terms) (s z : ℕ) (table area : L
 
   -- a plan that check refuses
   pub foremost_plan :
-      (r : CheckAnswer) (f : PlanFault) → check_number r ≡ plan_fault bs n t → r ≡ check-answer.Refused f →
+      (r : Result (Unit {0}) PlanFault) (f : PlanFault) → check_number r ≡ plan_fault bs n t → r ≡ Err f →
       ◌≡◌ {A = Outcome ForemostValues PairBuffers}
       (record { number = plan_number f; values = zeros; buffers = pair_buffers table area })
       (foremost bs n t terms s z (pair_buffers table area))
   unfolding foremost
   foremost_plan = begins_plan bs n t terms s z table area zeros (foremost_paired (plan_of bs n t terms) s z (pair_buffers table area))
 
-  module _ (ok : plan_fault bs n t ≡ 0) (r : CallCheck)
+  module _ (ok : plan_fault bs n t ≡ 0) (r : Result (Unit {0}) CallFault)
       (answer : call_check_number r ≡ pair_call_fault n t terms s z (length table) n (length area)) where
     -- 12, 6, 7 or 8
     pub foremost_call :
-        (f : CallFault) → r ≡ call-check.Refused f →
+        (f : CallFault) → r ≡ Err f →
         ◌≡◌ {A = Outcome ForemostValues PairBuffers}
         (record { number = call_number f; values = zeros; buffers = pair_buffers table area })
         (foremost bs n t terms s z (pair_buffers table area))
@@ -260,7 +262,7 @@ module _ (bs : List ℕ) (n t : ℕ) (terms : Terms) (s z : ℕ) (table area : L
 
     -- none of them
     pub foremost_works :
-        r ≡ call-check.Free →
+        r ≡ Ok tt →
         foremost bs n t terms s z (pair_buffers table area) ≡ foremost_paired (plan_of bs n t terms) s z (pair_buffers table area)
     unfolding foremost
     foremost_works =

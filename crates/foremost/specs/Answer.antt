@@ -1,22 +1,18 @@
 -- What the operation on shortest foremost paths answers, in the papers' numbers and values. Definitions only.
 -- Assumes nothing.
-use Rattle.std.specs.Prelude.{ℕ}
+use Rattle.std.specs.Prelude.{Result, Ok, Err}
 use Rattle.temporal.specs.Outcome.{Outcome}
 use Rattle.temporal.specs.OutcomePair.{PairBuffers}
 use Rattle.temporal.specs.OutcomeForemost.{ForemostValues}
-use Rattle.plan.specs.Fault.{fault_number}
-use Rattle.foremost.specs.declared.ForemostAnswer.{ForemostAnswer}
-use Rattle.foremost.specs.declared.ForemostAnswer.TheVariants.{Counted, Refused}
-
-abbrev pub foremost_number : ForemostAnswer → ℕ
-foremost_number (Counted e h c) = 0
-foremost_number (Refused f) = fault_number f
+use Rattle.plan.specs.Fault.{answer_number}
+use Rattle.plan.specs.declared.Fault.{Fault}
+use Rattle.foremost.specs.declared.ForemostCount.{ForemostCount}
 
 -- zeros beside a refusal
-abbrev pub foremost_values : ForemostAnswer → ForemostValues
-foremost_values (Counted e h c) = record { slot = e; hops = h; count = c }
-foremost_values (Refused f) = record { slot = 0; hops = 0; count = 0 }
+abbrev pub foremost_values : Result ForemostCount Fault → ForemostValues
+foremost_values (Ok f) = record { slot = f.arrival; hops = f.hops; count = f.count }
+foremost_values (Err f) = record { slot = 0; hops = 0; count = 0 }
 
 -- the answer with the through table and the work area at exit
-abbrev pub foremost_outcome : ForemostAnswer → PairBuffers → Outcome ForemostValues PairBuffers
-foremost_outcome r b = record { number = foremost_number r; values = foremost_values r; buffers = b }
+abbrev pub foremost_outcome : Result ForemostCount Fault → PairBuffers → Outcome ForemostValues PairBuffers
+foremost_outcome r b = record { number = answer_number r; values = foremost_values r; buffers = b }

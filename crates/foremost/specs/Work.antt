@@ -1,6 +1,6 @@
 -- What the inner functions of the operation on shortest foremost paths ask and leave. Definitions only.
 -- Assumes nothing.
-use Rattle.std.specs.Prelude.{ℕ, ◌+◌, ◌<◌, ◌≤◌, min, ◌≡◌, Bool, true, false, cond, List, ◌≢◌, eqb, length, get_or, drop}
+use Rattle.std.specs.Prelude.{ℕ, ◌+◌, ◌<◌, ◌≤◌, min, ◌≡◌, Bool, true, false, cond, Option, MatchOption, Result, Ok, Err, List, eqb, length, get_or, drop}
 use Rattle.temporal.specs.Plan.{Terms, Lasting}
 use Rattle.temporal.specs.Bytes.{plan_of}
 use Rattle.temporal.specs.Shortest.{hops, count}
@@ -8,16 +8,16 @@ use Rattle.temporal.specs.Foremost.{arrival, foremost_paths}
 use Rattle.temporal.specs.Cause.{plan_fault, appearance_too_many}
 use Rattle.temporal.specs.Outcome.{work_size}
 use Rattle.temporal.specs.OutcomeForemost.{foremost_through}
-use Rattle.pass.specs.declared.Ended.{Ended}
-use Rattle.pass.specs.declared.Ended.TheVariants as ended
+use Rattle.pass.specs.declared.Stopped.{Stopped}
+use Rattle.pass.specs.declared.Stopped.TheVariants as stopped
 use Rattle.pass.specs.PassedColumns.{waiting, area_size}
 
 -- whether a pass met an appearance with over 2^64 - 1 shortest walks
-unfoldable pub met_appearance : Ended → Bool
-met_appearance (ended.Settled e) = false
-met_appearance ended.StationTooMany = false
-met_appearance ended.AppearanceTooMany = true
-met_appearance ended.TooWide = true
+unfoldable pub met_appearance : Result ℕ Stopped → Bool
+met_appearance (Ok e) = false
+met_appearance (Err stopped.StationTooMany) = false
+met_appearance (Err stopped.AppearanceTooMany) = true
+met_appearance (Err stopped.TooWide) = true
 
 -- an accepted plan, units in whose slots nothing goes stale, a source and a work area that is long enough
 pub record AppearancesReady (bs : List ℕ) (n t : ℕ) (terms : Terms) (s : ℕ) (work : List ℕ) : Type 0 where
@@ -32,15 +32,18 @@ pub record Appearances (bs : List ℕ) (n t : ℕ) (terms : Terms) (s : ℕ) (ol
   pub beyond : drop (area_size n (waiting t terms) 0) new ≡ drop (area_size n (waiting t terms) 0) old
   pub same_length : length new ≡ length old
 
--- Whether an appearance has over 2^64 - 1 shortest walks from s, where the slot is 0; else the arrival or the last slot, every
--- station's through count in the table, and hops and count of the shortest foremost paths in the work area.
-pub record Foremosts (bs : List ℕ) (n t : ℕ) (terms : Terms) (s z : ℕ) (through work through' work' : List ℕ) (r : ℕ) : Type 0 where
-  pub over : r ≡ 0 → appearance_too_many (plan_of bs n t terms) s ≡ true
-  pub few : r ≢ 0 → appearance_too_many (plan_of bs n t terms) s ≡ false
-  pub slot : r ≢ 0 → r ≡ min t (arrival (plan_of bs n t terms) s z)
-  pub pair_hops : r ≢ 0 → get_or work' z 0 ≡ hops (foremost_paths (plan_of bs n t terms) s z)
-  pub pair_count : r ≢ 0 → get_or work' (n + z) 0 ≡ count (foremost_paths (plan_of bs n t terms) s z)
-  pub counted : r ≢ 0 → (v : ℕ) → v < n → get_or through' v 0 ≡ foremost_through (plan_of bs n t terms) s z v
+-- The arrival or the last slot, every station's through count in the table, and hops and count of the shortest foremost paths in the
+-- work area.
+pub record ForemostsBy (bs : List ℕ) (n t : ℕ) (terms : Terms) (s z : ℕ) (through' work' : List ℕ) (e : ℕ) : Type 0 where
+  pub few : appearance_too_many (plan_of bs n t terms) s ≡ false
+  pub slot : e ≡ min t (arrival (plan_of bs n t terms) s z)
+  pub pair_hops : get_or work' z 0 ≡ hops (foremost_paths (plan_of bs n t terms) s z)
+  pub pair_count : get_or work' (n + z) 0 ≡ count (foremost_paths (plan_of bs n t terms) s z)
+  pub counted : (v : ℕ) → v < n → get_or through' v 0 ≡ foremost_through (plan_of bs n t terms) s z v
+
+-- Whether an appearance has over 2^64 - 1 shortest walks from s, where there is no slot; else these.
+pub record Foremosts (bs : List ℕ) (n t : ℕ) (terms : Terms) (s z : ℕ) (through work through' work' : List ℕ) (r : Option ℕ) : Type 0 where
+  pub answer : MatchOption r (appearance_too_many (plan_of bs n t terms) s ≡ true) (ForemostsBy bs n t terms s z through' work')
   pub table_beyond : drop n through' ≡ drop n through
   pub table_length : length through' ≡ length through
   pub area_beyond : drop (work_size n t) work' ≡ drop (work_size n t) work

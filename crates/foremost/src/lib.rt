@@ -5,42 +5,29 @@
 ghost use Rattle.std.specs.Prelude.{◌≡◌};
 ghost use Rattle.temporal.specs.Plan.{turning};
 ghost use Rattle.temporal.specs.Bytes.{plan_of};
-ghost use Rattle.temporal.specs.Cause.{plan_fault};
 ghost use Rattle.temporal.specs.OutcomeForemost.{foremost_paired, foremost};
 ghost use Rattle.pair.specs.Answer.{pair_buffers};
 ghost use Rattle.pair.specs.Throughs.{PairReady};
 ghost use Rattle.foremost.specs.Answer.{foremost_outcome};
 ghost use Rattle.foremost.specs.Work.{met_appearance, AppearancesReady, Appearances, Foremosts, slot_value};
 
-use calls::CallCheck;
-use pass::{Columns, Ended};
-use plan::{CallFault, CheckAnswer, Fault};
+use pass::{Columns, Stopped};
+use plan::{CallFault, Fault};
 
-// What the operation answers: slot, hops and count.
-#[derive(Clone, Copy)]
-pub enum ForemostAnswer {
-    Counted(u64, u64, u64),
-    Refused(Fault),
+// The slot in which a pair's foremost paths arrive, and the hops and the count of the shortest of them.
+#[derive(Clone, Copy, Debug, PartialEq, Eq)]
+pub struct ForemostCount {
+    pub arrival: u64,
+    pub hops: u64,
+    pub count: u64,
 }
 
 // Whether a pass met an appearance with over 2^64 - 1 shortest walks, or a count too wide for its lane.
-fn met_appearance(ended: Ended) -> bool
+#[tactic(auto, unfolding(crate::specs::Work::met_appearance))]
+fn met_appearance(ended: Result<usize, Stopped>) -> bool
     ensures { result ≡ met_appearance ended }
 {
-    match ended {
-        Ended::Settled(_) => {
-            return false;
-        }
-        Ended::StationTooMany => {
-            return false;
-        }
-        Ended::AppearanceTooMany => {
-            return true;
-        }
-        Ended::TooWide => {
-            return true;
-        }
-    }
+    matches!(ended, Err(Stopped::AppearanceTooMany | Stopped::TooWide))
 }
 
 // Whether some appearance has over 2^64 - 1 shortest walks from s: a pass through every slot, without rows. Nothing goes stale, so it is
@@ -75,7 +62,7 @@ fn appearance_too_many(
 }
 
 // The through counts of the shortest foremost paths, and in the work area their hops and count. The slot in which z is reached, or
-// the last where it is not; 0 where an appearance has over 2^64 - 1 shortest walks.
+// the last where it is not; none where an appearance has over 2^64 - 1 shortest walks.
 fn foremost_throughs(
     through: &mut [u64],
     work: &mut [u64],
@@ -85,18 +72,19 @@ fn foremost_throughs(
     g: usize,
     s: usize,
     z: usize,
-) -> usize
+) -> Option<usize>
     requires { PairReady plan.now n t (turning g) s z through.old work.old }
     ensures { Foremosts plan.now n t (turning g) s z
         through.old work.old through.new work.new result }
 {
     if appearance_too_many(work, plan, n, t, g, s) {
-        return 0;
+        return None;
     }
     pair::throughs(through, work, plan, n, t, g, 255, s, z, z)
 }
 
 // The slot of arrival, from the slot in which the pass ended: 65535 where there is no path.
+#[tactic(auto, unfolding(crate::specs::Work::slot_value))]
 fn slot_value(slot: usize, hops: u64) -> u64
     ensures { result ≡ slot_value slot hops }
 {
@@ -116,52 +104,24 @@ fn foremost_work(
     g: usize,
     s: usize,
     z: usize,
-) -> ForemostAnswer
+) -> Result<ForemostCount, Fault>
     requires { PairReady plan.now n t (turning g) s z through.old work.old }
     ensures { foremost_outcome result (pair_buffers through.new work.new) ≡
         foremost_paired (plan_of plan.now n t (turning g)) s z (pair_buffers through.old work.old) }
 {
-    let slot = foremost_throughs(through, work, plan, n, t, g, s, z);
-    if slot == 0 {
+    let Some(slot) = foremost_throughs(through, work, plan, n, t, g, s, z) else {
         memory::clear(through, n);
         memory::clear(work, 4 * (n * (t + 1)));
-        return ForemostAnswer::Refused(Fault::Call(CallFault::TooMany));
-    }
+        return Err(Fault::Call(CallFault::TooMany));
+    };
     let hops = work[z];
     let count = work[n + z];
     memory::clear(work, 4 * (n * (t + 1)));
-    ForemostAnswer::Counted(slot_value(slot, hops), hops, count)
-}
-
-// The operation on an accepted plan: 12, 6, 7 and 8, then the work.
-fn foremost_accepted(
-    through: &mut [u64],
-    work: &mut [u64],
-    plan: &[u8],
-    n: usize,
-    t: usize,
-    g: usize,
-    s: usize,
-    z: usize,
-) -> ForemostAnswer
-    requires { plan_fault plan.now n t ≡ 0 }
-    ensures { foremost_outcome result (pair_buffers through.new work.new) ≡
-        foremost plan.now n t (turning g) s z (pair_buffers through.old work.old) }
-{
-    let CallCheck::Refused(fault) = calls::pair_call(
-        n,
-        t,
-        g,
-        255,
-        s,
-        z,
-        through.len(),
-        n,
-        work.len(),
-    ) else {
-        return foremost_work(through, work, plan, n, t, g, s, z);
-    };
-    ForemostAnswer::Refused(Fault::Call(fault))
+    Ok(ForemostCount {
+        arrival: slot_value(slot, hops),
+        hops,
+        count,
+    })
 }
 
 // The slot, the hops and the count of the shortest foremost paths from s to z, and in the table how many of them have each station
@@ -175,12 +135,11 @@ pub fn foremost(
     z: usize,
     through: &mut [u64],
     work: &mut [u64],
-) -> ForemostAnswer
+) -> Result<ForemostCount, Fault>
     ensures { foremost_outcome result (pair_buffers through.new work.new) ≡
         foremost plan.now n t (turning g) s z (pair_buffers through.old work.old) }
 {
-    let CheckAnswer::Refused(fault) = plan::check(plan, n, t) else {
-        return foremost_accepted(through, work, plan, n, t, g, s, z);
-    };
-    ForemostAnswer::Refused(Fault::Plan(fault))
+    plan::check(plan, n, t)?;
+    calls::pair_call(n, t, g, 255, s, z, through.len(), n, work.len())?;
+    foremost_work(through, work, plan, n, t, g, s, z)
 }

@@ -13,20 +13,17 @@ use Rattle.walks.proofs.EnteredLaws.{entered_plan, entered_call, unless_some, un
 use Rattle.plan.specs.Fault.{plan_number, call_number, check_number}
 use Rattle.plan.specs.declared.PlanFault.{PlanFault}
 use Rattle.plan.specs.declared.CallFault.{CallFault}
-use Rattle.plan.specs.declared.CheckAnswer.{CheckAnswer}
-use Rattle.plan.specs.declared.CheckAnswer.TheVariants as check-answer
 use Rattle.plan.proofs.Answers.{number-positive, call-number-within}
 use Rattle.calls.specs.Call.{pair_call_fault, call_check_number}
-use Rattle.calls.specs.declared.CallCheck.{CallCheck}
-use Rattle.calls.specs.declared.CallCheck.TheVariants as call-check
+use Rattle.std.specs.Prelude.{Result, Ok, Err}
 use Rattle.calls.proofs.CallLaws.{free_call}
 use Rattle.pair.specs.Answer.{pair_buffers}
 use Rattle.pair.specs.Throughs.{PairReady}
 
 -- an accepted plan and a free call are what counting asks
 pub call_free :
-    (bs : List ℕ) (n t : ℕ) (terms : Terms) (s z : ℕ) (table area : List ℕ) → plan_fault bs n t ≡ 0 → (r : CallCheck) →
-    call_check_number r ≡ pair_call_fault n t terms s z (length table) n (length area) → r ≡ call-check.Free →
+    (bs : List ℕ) (n t : ℕ) (terms : Terms) (s z : ℕ) (table area : List ℕ) → plan_fault bs n t ≡ 0 → (r : Result (Unit {0}) CallFault) →
+    call_check_number r ≡ pair_call_fault n t terms s z (length table) n (length area) → r ≡ Ok tt →
     PairReady bs n t terms s z table area
 call_free bs n t terms s z table area ok r answer e =
     let f = free_call n t terms s z (length table) n (length area) (sym answer ∙ ap call_check_number e) in
@@ -49,7 +46,7 @@ module _ (bs : List ℕ) (n t : ℕ) (terms : Terms) (s z : ℕ) (table area : L
 
   -- a plan that check refuses
   pub begins_plan :
-      (r : CheckAnswer) (f : PlanFault) → check_number r ≡ plan_fault bs n t → r ≡ check-answer.Refused f →
+      (r : Result (Unit {0}) PlanFault) (f : PlanFault) → check_number r ≡ plan_fault bs n t → r ≡ Err f →
       ◌≡◌ {A = Outcome Values PairBuffers}
       (record { number = plan_number f; values = zeros; buffers = pair_buffers table area }) begun
   begins_plan r f answer e =
@@ -58,11 +55,11 @@ module _ (bs : List ℕ) (n t : ℕ) (terms : Terms) (s z : ℕ) (table area : L
       ap (refused_with zeros (pair_buffers table area) work) number ∙
       sym (entered_plan zeros (pair_buffers table area) work bs n t _ (omega arith))
 
-  module _ (ok : plan_fault bs n t ≡ 0) (r : CallCheck)
+  module _ (ok : plan_fault bs n t ≡ 0) (r : Result (Unit {0}) CallFault)
       (answer : call_check_number r ≡ pair_call_fault n t terms s z (length table) n (length area)) where
     -- 12, 14, 6, 7 or 8
     pub begins_call :
-        (f : CallFault) → r ≡ call-check.Refused f →
+        (f : CallFault) → r ≡ Err f →
         ◌≡◌ {A = Outcome Values PairBuffers}
         (record { number = call_number f; values = zeros; buffers = pair_buffers table area }) begun
     unfolding entered pair_call_fault
@@ -73,7 +70,7 @@ module _ (bs : List ℕ) (n t : ℕ) (terms : Terms) (s z : ℕ) (table area : L
         sym (entered_call zeros (pair_buffers table area) work bs n t _ ok ∙ unless_some _ _ _ (omega arith))
 
     -- none of them
-    pub begins_works : r ≡ call-check.Free → begun ≡ work
+    pub begins_works : r ≡ Ok tt → begun ≡ work
     unfolding entered pair_call_fault
     begins_works e =
         entered_call zeros (pair_buffers table area) work bs n t _ ok ∙ unless_none _ _ _ (sym answer ∙ ap call_check_number e)

@@ -27,12 +27,13 @@ use Rattle.lists.proofs.ListLaws.{select_none}
 use Rattle.walks.proofs.PlanLaws.{slots_within}
 use Rattle.walks.proofs.ShortestLaws.{hops_empty, hops_bound}
 use Rattle.pass.specs.Column.{block_column, whole}
-use Rattle.pass.specs.declared.Ended.{Ended}
-use Rattle.pass.specs.PassedColumns.{SettledAt, ColumnsPassed, slot_of}
+use Rattle.std.specs.Prelude.{Option, Some, None, Ok, Err}
+use Rattle.pass.specs.declared.Stopped.{Stopped}
+use Rattle.pass.specs.PassedColumns.{SettledAt, EndedAs, ColumnsPassed, slot_of}
 use Rattle.stale.specs.Depth.{DepthOf}
 use Rattle.forward.specs.Passed.{pass_size, most_columns, Lent, DepthReady, UntilReady}
 use Rattle.forward.proofs.SizeLaws.{first_part, some_column, whole_lent, area_fits}
-use Rattle.forward.proofs.UseLaws.{block_row, settled_in, not_settled, whole_few}
+use Rattle.forward.proofs.UseLaws.{block_row, not_settled, whole_few}
 use Rattle.pair.specs.Throughs.{through_entry, Storing, StoredBlock, PairReady, last_slot, BlockReady}
 use Rattle.pair.specs.Throughs.{PairBy, BlockDone, ThroughsReady, BlocksReady, Throughs}
 use Rattle.pair.proofs.ThroughLaws.{entry_itself, entry_no_path, entry_rest}
@@ -88,15 +89,16 @@ module _ (bs : List ℕ) (n t : ℕ) (terms : Terms) (depth s z until low block 
         fits = ready.fits;
       }
 
-  module _ (area' : List ℕ) (r : Ended)
-      (passed : ColumnsPassed bs n t terms s until whole (block_column low block) block (pass_size n t terms depth block) area area' r) where
+  module _ (area' : List ℕ) where
     -- a count over 2^64 - 1
-    pub block_over : slot_of r ≡ 0 → BlockDone bs n t terms depth s z until low block table area table area' 0
-    block_over e =
+    pub block_over :
+        (f : Stopped) →
+        ColumnsPassed bs n t terms s until whole (block_column low block) block (pass_size n t terms depth block) area area' (Err f) →
+        BlockDone bs n t terms depth s z until low block table area table area' None
+    unfolding slot_of
+    block_over f passed =
         record {
-          over = λ q. not_settled bs n t terms s until ok other (block_column low block) block area' r passed.ends e;
-          settled = λ q. absurd (q refl);
-          here = λ q. absurd (q refl);
+          answer = not_settled bs n t terms s until ok other (block_column low block) block area' (Err f) passed.ends refl;
           before = λ v h. refl;
           table_beyond = refl;
           table_length = refl;
@@ -104,66 +106,68 @@ module _ (bs : List ℕ) (n t : ℕ) (terms : Terms) (depth s z until low block 
           area_length = passed.same_length;
         }
 
-    module _ (d : slot_of r ≢ 0) where
-      at_end : SettledAt bs n t terms s until whole (block_column low block) block area' (slot_of r)
-      at_end = settled_in bs n t terms s until ok other (block_column low block) block area' r passed.ends d
+    module _ (e : ℕ)
+        (passed : ColumnsPassed bs n t terms s until whole (block_column low block) block (pass_size n t terms depth block) area area' (Ok e)) where
+      at_end : SettledAt bs n t terms s until whole (block_column low block) block area' e
+      unfolding EndedAs
+      at_end = passed.ends
 
       -- the pair's walks by that slot are no more
-      small : count (walks_by p s z (slot_of r)) ≤ 18446744073709551615
+      small : count (walks_by p s z e) ≤ 18446744073709551615
       unfolding plan_of
       small = ⊎_elim none_asked destination_asked ready.asks.which
         where
-          none_asked : until ≡ n → count (walks_by p s z (slot_of r)) ≤ 18446744073709551615
+          none_asked : until ≡ n → count (walks_by p s z e) ≤ 18446744073709551615
           none_asked q = at_end.stations (omega arith) z ready.destination
 
-          destination_asked : until ≡ z → count (walks_by p s z (slot_of r)) ≤ 18446744073709551615
+          destination_asked : until ≡ z → count (walks_by p s z e) ≤ 18446744073709551615
           destination_asked q =
-              let slot : slot_of r ≡ min t (arrival p s z) = at_end.slot ∙ ap (λ v. min t (arrival p s v)) q in
+              let slot : e ≡ min t (arrival p s z) = at_end.slot ∙ ap (λ v. min t (arrival p s v)) q in
               rw (ap (walks_by p s z) slot ∙ foremost_by_arrival bs n t terms ok s z)
               (foremost_at_most p (slots_within bs n t terms ok) s z 18446744073709551615
               (λ x h. at_end.appearances z x ready.destination (omega arith)))
 
       -- the walks by that slot are none, or have few hops
-      few_hops : (walks_by p s z (slot_of r) ≡ []) ⊎ (hops (walks_by p s z (slot_of r)) < 65535)
+      few_hops : (walks_by p s z e ≡ []) ⊎ (hops (walks_by p s z e) < 65535)
       unfolding walks_by plan_of
       few_hops =
           let most = (accepted bs n t ok).slots in
-          ⊎_elim inl (λ h. inr (omega arith)) (hops_bound (bounded_ends p (slots_within bs n t terms ok) s (arrives_by z (slot_of r))))
+          ⊎_elim inl (λ h. inr (omega arith)) (hops_bound (bounded_ends p (slots_within bs n t terms ok) s (arrives_by z e)))
 
-      here_hops : get_or area' z 0 ≡ hops (walks_by p s z (slot_of r))
+      here_hops : get_or area' z 0 ≡ hops (walks_by p s z e)
       here_hops = at_end.entries.station_hops_law z ready.destination
 
-      here_count : get_or area' (n + z) 0 ≡ count (walks_by p s z (slot_of r))
+      here_count : get_or area' (n + z) 0 ≡ count (walks_by p s z e)
       here_count = at_end.entries.station_counts_law z ready.destination small
 
       -- hops that are not 65535 are fewer
-      with_path : get_or area' z 0 ≢ 65535 → hops (walks_by p s z (slot_of r)) < 65535
+      with_path : get_or area' z 0 ≢ 65535 → hops (walks_by p s z e) < 65535
       with_path ne = ⊎_elim (λ empty. absurd (ne (here_hops ∙ hops_empty _ empty))) (λ h. h) few_hops
 
       row :
           (j : ℕ) → j < block → low + j ≢ z → get_or area' z 0 ≢ 65535 →
-          get_or area' (2 * n + z * block + j) 0 + through_in p s z (walks_by p s z (slot_of r)) (low + j) ≡
-          count (walks_by p s z (slot_of r))
+          get_or area' (2 * n + z * block + j) 0 + through_in p s z (walks_by p s z e) (low + j) ≡
+          count (walks_by p s z e)
       row j h ne path =
-          block_row low block bs n t terms s (slot_of r) area' ready.stations at_end.entries z j ready.destination h ne small
+          block_row low block bs n t terms s e area' ready.stations at_end.entries z j ready.destination h ne small
           (with_path path)
 
       -- what a stored entry is
       entry_is :
           (j : ℕ) → j < block →
-          through_entry area' n z low block j ≡ through_in p s z (walks_by p s z (slot_of r)) (low + j)
+          through_entry area' n z low block j ≡ through_in p s z (walks_by p s z e) (low + j)
       entry_is j h =
           by_cases (ℕ_discrete (low + j) z)
           (λ q. entry_itself area' n z low block j q ∙
-          sym (ap (through_in p s z (walks_by p s z (slot_of r))) q ∙ through_destination p s z (walks_by p s z (slot_of r))))
+          sym (ap (through_in p s z (walks_by p s z e)) q ∙ through_destination p s z (walks_by p s z e)))
           (λ ne. by_cases (ℕ_discrete (get_or area' z 0) 65535)
           (λ q. entry_no_path area' n z low block j ne q ∙ sym (no_path q))
           (λ path. entry_rest area' n z low block j ne path ∙ difference _ _ _ _ (row j h ne path) here_count))
         where
-          no_path : get_or area' z 0 ≡ 65535 → through_in p s z (walks_by p s z (slot_of r)) (low + j) ≡ 0
+          no_path : get_or area' z 0 ≡ 65535 → through_in p s z (walks_by p s z e) (low + j) ≡ 0
           no_path q =
               ⊎_elim
-              (λ empty. through_no_path p s z (low + j) (walks_by p s z (slot_of r)) empty)
+              (λ empty. through_no_path p s z (low + j) (walks_by p s z e) empty)
               (λ some. let same = here_hops in absurd (omega arith))
               few_hops
 
@@ -184,17 +188,18 @@ module _ (bs : List ℕ) (n t : ℕ) (terms : Terms) (depth s z until low block 
       -- and then it is done
       pub block_done :
           (table' : List ℕ) → StoredBlock n z low block block area' table table' →
-          BlockDone bs n t terms depth s z until low block table area table' area' (slot_of r)
+          BlockDone bs n t terms depth s z until low block table area table' area' (Some e)
       block_done table' st =
           record {
-            over = λ q. absurd (d q);
-            settled = λ q. record {
-              slot = at_end.slot;
-              few = λ none. whole_few bs n t terms s ok ready.source until none (block_column low block) block area' (slot_of r) at_end;
-              pair_hops = here_hops;
-              pair_count = here_count;
+            answer = record {
+              settled = record {
+                slot = at_end.slot;
+                few = λ none. whole_few bs n t terms s ok ready.source until none (block_column low block) block area' e at_end;
+                pair_hops = here_hops;
+                pair_count = here_count;
+              };
+              here = λ j h. st.here j h ∙ entry_is j h;
             };
-            here = λ q j h. st.here j h ∙ entry_is j h;
             before = st.before;
             table_beyond = st.beyond;
             table_length = st.same_length;
@@ -209,7 +214,6 @@ pub record Blocks (bs : List ℕ) (n t : ℕ) (terms : Terms) (depth most s z un
     (table' area' : List ℕ) (slot : ℕ) : Type 0 where
   pub blocks : BlocksReady bs n t terms depth most s z until table area
   pub within : low ≤ n
-  pub some_slot : 0 < low → slot ≢ 0
   pub settled : 0 < low → PairBy bs n t terms s z until area' slot
   pub counted : (v : ℕ) → v < low
       → get_or table' v 0 ≡ through_in (plan_of bs n t terms) s z (walks_by (plan_of bs n t terms) s z (last_slot bs n t terms s until)) v
@@ -225,7 +229,6 @@ blocks_none bs n t terms depth most s z until table area slot r =
     record {
       blocks = r;
       within = omega arith;
-      some_slot = λ h. absurd (omega arith);
       settled = λ h. absurd (omega arith);
       counted = λ v h. absurd (omega arith);
       table_beyond = refl;
@@ -281,33 +284,33 @@ module _ (bs : List ℕ) (n t : ℕ) (terms : Terms) (depth most s z until : ℕ
         few = λ h e. (b.settled h).few e;
       }
 
-  module _ (table'' area'' : List ℕ) (r : ℕ) (done : BlockDone bs n t terms depth s z until low block table' area' table'' area'' r) where
-    same_beyond : drop (work_size n t) area'' ≡ drop (work_size n t) area
-    same_beyond =
+  module _ (table'' area'' : List ℕ) where
+    same_beyond : (r : Option ℕ) → BlockDone bs n t terms depth s z until low block table' area' table'' area'' r →
+        drop (work_size n t) area'' ≡ drop (work_size n t) area
+    same_beyond r done =
         later_drop (pass_size n t terms depth block) (work_size n t) area'' area' fits done.area_beyond ∙ b.area_beyond
 
     -- too many
-    pub blocks_refused : r ≡ 0 → Throughs bs n t terms s z until table area table'' area'' 0
-    blocks_refused e =
+    pub blocks_refused :
+        BlockDone bs n t terms depth s z until low block table' area' table'' area'' None →
+        Throughs bs n t terms s z until table area table'' area'' None
+    blocks_refused done =
         record {
-          over = λ q. done.over e;
-          settled = λ q. absurd (q refl);
-          counted = λ q. absurd (q refl);
+          answer = done.answer;
           table_beyond = done.table_beyond ∙ b.table_beyond;
           table_length = done.table_length ∙ b.table_length;
-          area_beyond = same_beyond;
+          area_beyond = same_beyond None done;
           area_length = done.area_length ∙ b.area_length;
         }
 
-    module _ (d : r ≢ 0) where
+    module _ (e : ℕ) (done : BlockDone bs n t terms depth s z until low block table' area' table'' area'' (Some e)) where
       -- the next block
-      pub blocks_more : Blocks bs n t terms depth most s z until table area (low + block) table'' area'' r
+      pub blocks_more : Blocks bs n t terms depth most s z until table area (low + block) table'' area'' e
       blocks_more =
           record {
             blocks = b.blocks;
             within = block_within;
-            some_slot = λ h. d;
-            settled = λ h. done.settled d;
+            settled = λ h. done.answer.settled;
             counted = λ v h.
                 by_cases (dec_lt v low)
                 (λ early. done.before v early ∙ b.counted v early)
@@ -317,12 +320,12 @@ module _ (bs : List ℕ) (n t : ℕ) (terms : Terms) (depth most s z until : ℕ
                 (λ i. get_or table'' i 0 ≡
                 through_in (plan_of bs n t terms) s z (walks_by (plan_of bs n t terms) s z (last_slot bs n t terms s until)) i)
                 same
-                (done.here d (v - low) (omega arith) ∙
+                (done.answer.here (v - low) (omega arith) ∙
                 ap (λ e. through_in (plan_of bs n t terms) s z (walks_by (plan_of bs n t terms) s z e) (low + (v - low)))
-                (done.settled d).slot));
+                done.answer.settled.slot));
             table_beyond = done.table_beyond ∙ b.table_beyond;
             table_length = done.table_length ∙ b.table_length;
-            area_beyond = same_beyond;
+            area_beyond = same_beyond (Some e) done;
             area_length = done.area_length ∙ b.area_length;
           }
 
@@ -333,15 +336,17 @@ module _ (bs : List ℕ) (n t : ℕ) (terms : Terms) (depth most s z until : ℕ
 pub blocks_end :
     (bs : List ℕ) (n t : ℕ) (terms : Terms) (depth most s z until : ℕ) (table area : List ℕ) (low : ℕ) (table' area' : List ℕ) (slot : ℕ) →
     n ≤ low → Blocks bs n t terms depth most s z until table area low table' area' slot →
-    Throughs bs n t terms s z until table area table' area' slot
+    Throughs bs n t terms s z until table area table' area' (Some slot)
 blocks_end bs n t terms depth most s z until table area low table' area' slot last b =
     let some = (accepted bs n t b.blocks.asked.ready.accepted).some_station in
     record {
-      over = λ q. absurd (b.some_slot (omega arith) q);
-      settled = λ q. b.settled (omega arith);
-      counted = λ q v h.
-          b.counted v (omega arith) ∙
-          ap (λ e. through_in (plan_of bs n t terms) s z (walks_by (plan_of bs n t terms) s z e) v) (sym (b.settled (omega arith)).slot);
+      answer =
+          record {
+            settled = b.settled (omega arith);
+            counted = λ v h.
+                b.counted v (omega arith) ∙
+                ap (λ e. through_in (plan_of bs n t terms) s z (walks_by (plan_of bs n t terms) s z e) v) (sym (b.settled (omega arith)).slot);
+          };
       table_beyond = b.table_beyond;
       table_length = b.table_length;
       area_beyond = b.area_beyond;
@@ -395,13 +400,11 @@ module _ (bs : List ℕ) (n t g h s z until : ℕ) (table area : List ℕ) (aske
         }
 
     -- what is counted then is counted from the entry on
-    pub throughs_entry : (table'' area'' : List ℕ) (r : ℕ) → Throughs bs n t (units g h) s z until table area' table'' area'' r
+    pub throughs_entry : (table'' area'' : List ℕ) (r : Option ℕ) → Throughs bs n t (units g h) s z until table area' table'' area'' r
         → Throughs bs n t (units g h) s z until table area table'' area'' r
     throughs_entry table'' area'' r x =
         record {
-          over = x.over;
-          settled = x.settled;
-          counted = x.counted;
+          answer = x.answer;
           table_beyond = x.table_beyond;
           table_length = x.table_length;
           area_beyond = x.area_beyond ∙

@@ -3,7 +3,7 @@ use Prim.Native.Nat.{ℕ, ◌+◌, ◌<◌, min}
 use native.Mathlib.Omega.{arith}
 use mathlib.Core.Path.{◌≡◌, refl, sym, ap, ◌∙◌}
 use mathlib.Core.Bool.{true}
-use mathlib.Core.Logic.{◌≢◌, inl, inr}
+use mathlib.Core.Logic.{inl, inr}
 use mathlib.Core.List.{List, map}
 use lib.ListN.{length, get_or, replicate}
 use Rattle.temporal.specs.Plan.{Terms}
@@ -20,11 +20,8 @@ use Rattle.lists.proofs.BufferLaws.{over_by, fill_beyond, get_d_made_law, length
 use Rattle.plan.specs.Fault.{plan_number, call_number, check_number}
 use Rattle.plan.specs.declared.PlanFault.{PlanFault}
 use Rattle.plan.specs.declared.CallFault.{CallFault}
-use Rattle.plan.specs.declared.CheckAnswer.{CheckAnswer}
-use Rattle.plan.specs.declared.CheckAnswer.TheVariants as check-answer
 use Rattle.calls.specs.Call.{pair_call_fault, call_check_number}
-use Rattle.calls.specs.declared.CallCheck.{CallCheck}
-use Rattle.calls.specs.declared.CallCheck.TheVariants as call-check
+use Rattle.std.specs.Prelude.{Some, None, Result, Ok, Err}
 use Rattle.pass.specs.PassedColumns.{Overfull}
 use Rattle.pair.specs.Answer.{pair_buffers}
 use Rattle.pair.specs.Throughs.{PairReady, Throughs}
@@ -41,19 +38,19 @@ by_last_slot bs n t terms s z ok source e slot =
     ap (walks_by (plan_of bs n t terms) s z) last ∙ shortest_by_last bs n t terms ok s z
 
 module _ (bs : List ℕ) (n t : ℕ) (terms : Terms) (s z : ℕ) (table area : List ℕ) (ready : PairReady bs n t terms s z table area)
-    (table' area' : List ℕ) (r : ℕ) (f : Throughs bs n t terms s z n table area table' area' r) where
+    (table' area' : List ℕ) where
   -- too many: both are cleared
   pub paired_refused :
-      r ≡ 0 → (table'' area'' : List ℕ) → table'' ≡ over (replicate n 0) table' →
+      Throughs bs n t terms s z n table area table' area' None → (table'' area'' : List ℕ) → table'' ≡ over (replicate n 0) table' →
       area'' ≡ over (replicate (work_size n t) 0) area' →
       ◌≡◌ {A = Outcome PairValues PairBuffers}
       (record { number = 9; values = record { hops = 0; count = 0 }; buffers = pair_buffers table'' area'' })
       (paired (plan_of bs n t terms) s z (pair_buffers table area))
   unfolding paired cleared plan_of is_too_many
-  paired_refused e table'' area'' a b =
+  paired_refused f table'' area'' a b =
       let c = fill_beyond n 0 table' table f.table_beyond in
       let d = fill_beyond (work_size n t) 0 area' area f.area_beyond in
-      rw (too_many (f.over e)) (cc (a, b, c, d))
+      rw (too_many f.answer) (cc (a, b, c, d))
     where
       too_many : Overfull bs n t terms s n → is_too_many (plan_of bs n t terms) s ≡ true
       too_many (inl q) = rw q
@@ -61,44 +58,44 @@ module _ (bs : List ℕ) (n t : ℕ) (terms : Terms) (s z : ℕ) (table area : L
 
   -- counted: the table has the through counts, the work area is cleared
   pub paired_counted :
-      r ≢ 0 → (h k : ℕ) (area'' : List ℕ) → h ≡ get_or area' z 0 → k ≡ get_or area' (n + z) 0 →
+      (e : ℕ) → Throughs bs n t terms s z n table area table' area' (Some e) → (h k : ℕ) (area'' : List ℕ) → h ≡ get_or area' z 0 → k ≡ get_or area' (n + z) 0 →
       area'' ≡ over (replicate (work_size n t) 0) area' →
       ◌≡◌ {A = Outcome PairValues PairBuffers}
       (record { number = 0; values = record { hops = h; count = k }; buffers = pair_buffers table' area'' })
       (paired (plan_of bs n t terms) s z (pair_buffers table area))
   unfolding paired cleared plan_of through
-  paired_counted e h k area'' a b c =
-      let few = (f.settled e).few refl in
-      let ph = a ∙ (f.settled e).pair_hops ∙ ap hops whole in
-      let pc = b ∙ (f.settled e).pair_count ∙ ap count whole in
+  paired_counted e f h k area'' a b c =
+      let few = f.answer.settled.few refl in
+      let ph = a ∙ f.answer.settled.pair_hops ∙ ap hops whole in
+      let pc = b ∙ f.answer.settled.pair_count ∙ ap count whole in
       let d = fill_beyond (work_size n t) 0 area' area f.area_beyond in
       let th : table' ≡ over (map (through_in (plan_of bs n t terms) s z (shortest_walks_to (plan_of bs n t terms) s z)) (below n)) table =
       over_by n table' (map (through_in (plan_of bs n t terms) s z (shortest_walks_to (plan_of bs n t terms) s z)) (below n)) table (length_made _ n)
       (let size = f.table_length in let room = ready.table in omega arith)
-      (λ v inside. f.counted e v inside ∙ ap (λ l. through_in (plan_of bs n t terms) s z l v) whole ∙ sym (get_d_made_law _ n v inside))
+      (λ v inside. f.answer.counted v inside ∙ ap (λ l. through_in (plan_of bs n t terms) s z l v) whole ∙ sym (get_d_made_law _ n v inside))
       f.table_beyond in
       rw few (cc (ph, pc, c, d, th))
     where
-      whole : walks_by (plan_of bs n t terms) s z r ≡ shortest_walks_to (plan_of bs n t terms) s z
-      whole = by_last_slot bs n t terms s z ready.accepted ready.source r (f.settled e).slot
+      whole : walks_by (plan_of bs n t terms) s z e ≡ shortest_walks_to (plan_of bs n t terms) s z
+      whole = by_last_slot bs n t terms s z ready.accepted ready.source e f.answer.settled.slot
 
 -- ---- how pair begins
 
 module _ (bs : List ℕ) (n t : ℕ) (terms : Terms) (s z : ℕ) (table area : List ℕ) where
   -- a plan that check refuses
   pub pair_plan :
-      (r : CheckAnswer) (f : PlanFault) → check_number r ≡ plan_fault bs n t → r ≡ check-answer.Refused f →
+      (r : Result (Unit {0}) PlanFault) (f : PlanFault) → check_number r ≡ plan_fault bs n t → r ≡ Err f →
       ◌≡◌ {A = Outcome PairValues PairBuffers}
       (record { number = plan_number f; values = record { hops = 0; count = 0 }; buffers = pair_buffers table area })
       (pair bs n t terms s z (pair_buffers table area))
   unfolding pair
   pair_plan = begins_plan bs n t terms s z table area (record { hops = 0; count = 0 }) (paired (plan_of bs n t terms) s z (pair_buffers table area))
 
-  module _ (ok : plan_fault bs n t ≡ 0) (r : CallCheck)
+  module _ (ok : plan_fault bs n t ≡ 0) (r : Result (Unit {0}) CallFault)
       (answer : call_check_number r ≡ pair_call_fault n t terms s z (length table) n (length area)) where
     -- 12, 14, 6, 7 or 8
     pub pair_call :
-        (f : CallFault) → r ≡ call-check.Refused f →
+        (f : CallFault) → r ≡ Err f →
         ◌≡◌ {A = Outcome PairValues PairBuffers}
         (record { number = call_number f; values = record { hops = 0; count = 0 }; buffers = pair_buffers table area })
         (pair bs n t terms s z (pair_buffers table area))
@@ -109,7 +106,7 @@ module _ (bs : List ℕ) (n t : ℕ) (terms : Terms) (s z : ℕ) (table area : L
 
     -- none of them
     pub pair_works :
-        r ≡ call-check.Free → pair bs n t terms s z (pair_buffers table area) ≡ paired (plan_of bs n t terms) s z (pair_buffers table area)
+        r ≡ Ok tt → pair bs n t terms s z (pair_buffers table area) ≡ paired (plan_of bs n t terms) s z (pair_buffers table area)
     unfolding pair
     pair_works =
         begins_works bs n t terms s z table area (record { hops = 0; count = 0 }) (paired (plan_of bs n t terms) s z (pair_buffers table area))

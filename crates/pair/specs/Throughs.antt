@@ -1,6 +1,6 @@
 -- The through counts of a pair, block by block. Definitions only.
 -- Assumes nothing.
-use Rattle.std.specs.Prelude.{ℕ, ◌+◌, ◌-◌, ◌*◌, ◌<◌, ◌≤◌, min, ◌≡◌, false, cond, List, ◌⊎◌, ◌≢◌, eqb, length, get_or, drop}
+use Rattle.std.specs.Prelude.{ℕ, ◌+◌, ◌-◌, ◌*◌, ◌<◌, ◌≤◌, min, ◌≡◌, false, cond, Option, MatchOption, List, ◌⊎◌, ◌≢◌, eqb, length, get_or, drop}
 use Rattle.temporal.specs.Plan.{Terms, Keeps, Allowed}
 use Rattle.temporal.specs.Bytes.{plan_of}
 use Rattle.temporal.specs.Cause.{plan_fault, is_too_many}
@@ -85,13 +85,16 @@ pub record PairBy (bs : List ℕ) (n t : ℕ) (terms : Terms) (s z until : ℕ) 
   pub pair_hops : get_or work z 0 ≡ hops (walks_by (plan_of bs n t terms) s z e)
   pub pair_count : get_or work (n + z) 0 ≡ count (walks_by (plan_of bs n t terms) s z e)
 
--- one block: whether a count is over 2^64 - 1, where the slot is 0; else the block's through counts in the table
-pub record BlockDone (bs : List ℕ) (n t : ℕ) (terms : Terms) (d s z until low block : ℕ) (through work through' work' : List ℕ) (r : ℕ)
-    : Type 0 where
-  pub over : r ≡ 0 → Overfull bs n t terms s until
-  pub settled : r ≢ 0 → PairBy bs n t terms s z until work' r
-  pub here : r ≢ 0 → (j : ℕ) → j < block
-      → get_or through' (low + j) 0 ≡ through_in (plan_of bs n t terms) s z (walks_by (plan_of bs n t terms) s z r) (low + j)
+-- the through counts of one block in the table, of the shortest walks by slot e
+pub record BlockBy (bs : List ℕ) (n t : ℕ) (terms : Terms) (s z until low block : ℕ) (through' work' : List ℕ) (e : ℕ) : Type 0 where
+  pub settled : PairBy bs n t terms s z until work' e
+  pub here : (j : ℕ) → j < block
+      → get_or through' (low + j) 0 ≡ through_in (plan_of bs n t terms) s z (walks_by (plan_of bs n t terms) s z e) (low + j)
+
+-- one block: whether a count is over 2^64 - 1, where there is no slot; else the block's through counts in the table
+pub record BlockDone (bs : List ℕ) (n t : ℕ) (terms : Terms) (d s z until low block : ℕ) (through work through' work' : List ℕ)
+    (r : Option ℕ) : Type 0 where
+  pub answer : MatchOption r (Overfull bs n t terms s until) (BlockBy bs n t terms s z until low block through' work')
   pub before : (v : ℕ) → v < low → get_or through' v 0 ≡ get_or through v 0
   pub table_beyond : drop n through' ≡ drop n through
   pub table_length : length through' ≡ length through
@@ -110,12 +113,16 @@ pub record BlocksReady (bs : List ℕ) (n t : ℕ) (terms : Terms) (d most s z u
   pub kept : d ≤ terms.keeping
   pub columns : most ≡ most_columns n t terms d (4 * (t + 1))
 
--- all blocks: whether a count is over 2^64 - 1, where the slot is 0; else every station's through count in the table
-pub record Throughs (bs : List ℕ) (n t : ℕ) (terms : Terms) (s z until : ℕ) (through work through' work' : List ℕ) (r : ℕ) : Type 0 where
-  pub over : r ≡ 0 → Overfull bs n t terms s until
-  pub settled : r ≢ 0 → PairBy bs n t terms s z until work' r
-  pub counted : r ≢ 0 → (v : ℕ) → v < n
-      → get_or through' v 0 ≡ through_in (plan_of bs n t terms) s z (walks_by (plan_of bs n t terms) s z r) v
+-- every station's through count in the table, of the shortest walks by slot e
+pub record ThroughsBy (bs : List ℕ) (n t : ℕ) (terms : Terms) (s z until : ℕ) (through' work' : List ℕ) (e : ℕ) : Type 0 where
+  pub settled : PairBy bs n t terms s z until work' e
+  pub counted : (v : ℕ) → v < n
+      → get_or through' v 0 ≡ through_in (plan_of bs n t terms) s z (walks_by (plan_of bs n t terms) s z e) v
+
+-- all blocks: whether a count is over 2^64 - 1, where there is no slot; else every station's through count in the table
+pub record Throughs (bs : List ℕ) (n t : ℕ) (terms : Terms) (s z until : ℕ) (through work through' work' : List ℕ) (r : Option ℕ)
+    : Type 0 where
+  pub answer : MatchOption r (Overfull bs n t terms s until) (ThroughsBy bs n t terms s z until through' work')
   pub table_beyond : drop n through' ≡ drop n through
   pub table_length : length through' ≡ length through
   pub area_beyond : drop (work_size n t) work' ≡ drop (work_size n t) work

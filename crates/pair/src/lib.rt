@@ -4,7 +4,6 @@
 ghost use Rattle.std.specs.Prelude.{◌≡◌, ◌&&◌, ltb, eqb};
 ghost use Rattle.temporal.specs.Plan.{units};
 ghost use Rattle.temporal.specs.Bytes.{plan_of};
-ghost use Rattle.temporal.specs.Cause.{plan_fault};
 ghost use Rattle.temporal.specs.OutcomePair.{paired, pair};
 ghost use Rattle.pair.specs.Answer.{pair_outcome, pair_buffers};
 ghost use Rattle.pair.specs.Throughs.{
@@ -20,14 +19,13 @@ ghost use Rattle.pair.specs.Throughs.{
   Throughs,
 };
 
-use calls::CallCheck;
-use plan::{CallFault, CheckAnswer, Fault};
+use plan::{CallFault, Fault};
 
-// What pair answers.
-#[derive(Clone, Copy)]
-pub enum PairAnswer {
-    Counted(u64, u64),
-    Refused(Fault),
+// The hops and the count of a pair's shortest walks.
+#[derive(Clone, Copy, Debug, PartialEq, Eq)]
+pub struct PairCount {
+    pub hops: u64,
+    pub count: u64,
 }
 
 // The through count of the station at j of a block, to the destination z.
@@ -62,7 +60,7 @@ fn settled_before(n: usize, low: usize, until: usize) -> bool
 }
 
 // The through counts of a block of stations, from a pass that ends where the station until is reached. The slot in which it ends;
-// 0 where a count is over 2^64 - 1.
+// none where a count is over 2^64 - 1.
 fn block_throughs(
     through: &mut [u64],
     work: &mut [u64],
@@ -77,19 +75,18 @@ fn block_throughs(
     low: usize,
     block: usize,
     until: usize,
-) -> usize
+) -> Option<usize>
     requires { BlockReady plan.now n t (units g h) depth s z until low block through.old work.old }
     ensures { BlockDone plan.now n t (units g h) depth s z until low block
         through.old work.old through.new work.new result }
 {
     let known = settled_before(n, low, until);
-    let ended = forward::pass_until(work, plan, known, n, t, g, h, depth, s, low, block, until);
-    let slot = forward::settled_slot(ended);
-    if slot == 0 {
-        return 0;
-    }
+    let Ok(slot) = forward::pass_until(work, plan, known, n, t, g, h, depth, s, low, block, until)
+    else {
+        return None;
+    };
     store(through, work, n, z, low, block);
-    slot
+    Some(slot)
 }
 
 // The through counts of a pair, in blocks of at most so many columns.
@@ -106,28 +103,26 @@ fn through_blocks(
     s: usize,
     z: usize,
     until: usize,
-) -> usize
+) -> Option<usize>
     requires { BlocksReady plan.now n t (units g h) depth most s z until through.old work.old }
     ensures { Throughs plan.now n t (units g h) s z until
         through.old work.old through.new work.new result }
 {
     let mut low = 0;
     let mut slot = 0;
+    // No for: a step is as long as its block.
     while low < n {
         let block = most.min(n - low);
         slot = block_throughs(
             through, work, plan, n, t, g, h, depth, s, z, low, block, until,
-        );
-        if slot == 0 {
-            return 0;
-        }
+        )?;
         low += block;
     }
-    slot
+    Some(slot)
 }
 
 // The through counts of a pair, block by block: of its shortest walks by the slot in which the station until is reached, which is
-// z, or n for none. That slot, or the last; 0 where a count is over 2^64 - 1.
+// z, or n for none. That slot, or the last; none where a count is over 2^64 - 1.
 pub fn throughs(
     through: &mut [u64],
     work: &mut [u64],
@@ -139,7 +134,7 @@ pub fn throughs(
     s: usize,
     z: usize,
     until: usize,
-) -> usize
+) -> Option<usize>
     requires { ThroughsReady plan.now n t (units g h) s z until through.old work.old }
     ensures { Throughs plan.now n t (units g h) s z until
         through.old work.old through.new work.new result }
@@ -160,43 +155,20 @@ fn pair_work(
     h: usize,
     s: usize,
     z: usize,
-) -> PairAnswer
+) -> Result<PairCount, Fault>
     requires { PairReady plan.now n t (units g h) s z through.old work.old }
     ensures { pair_outcome result (pair_buffers through.new work.new) ≡
         paired (plan_of plan.now n t (units g h)) s z (pair_buffers through.old work.old) }
 {
-    if throughs(through, work, plan, n, t, g, h, s, z, n) == 0 {
+    let Some(_) = throughs(through, work, plan, n, t, g, h, s, z, n) else {
         memory::clear(through, n);
         memory::clear(work, 4 * (n * (t + 1)));
-        return PairAnswer::Refused(Fault::Call(CallFault::TooMany));
-    }
+        return Err(Fault::Call(CallFault::TooMany));
+    };
     let hops = work[z];
     let count = work[n + z];
     memory::clear(work, 4 * (n * (t + 1)));
-    PairAnswer::Counted(hops, count)
-}
-
-// Pair on an accepted plan: 12, 14, 6, 7 and 8, then the work.
-fn pair_accepted(
-    through: &mut [u64],
-    work: &mut [u64],
-    plan: &[u8],
-    n: usize,
-    t: usize,
-    g: usize,
-    h: usize,
-    s: usize,
-    z: usize,
-) -> PairAnswer
-    requires { plan_fault plan.now n t ≡ 0 }
-    ensures { pair_outcome result (pair_buffers through.new work.new) ≡
-        pair plan.now n t (units g h) s z (pair_buffers through.old work.old) }
-{
-    let CallCheck::Refused(fault) = calls::pair_call(n, t, g, h, s, z, through.len(), n, work.len())
-    else {
-        return pair_work(through, work, plan, n, t, g, h, s, z);
-    };
-    PairAnswer::Refused(Fault::Call(fault))
+    Ok(PairCount { hops, count })
 }
 
 // Operation 4, pair: the hops and the count of the shortest walks from s to z, and in the table how many of them have each
@@ -211,12 +183,11 @@ pub fn pair(
     z: usize,
     through: &mut [u64],
     work: &mut [u64],
-) -> PairAnswer
+) -> Result<PairCount, Fault>
     ensures { pair_outcome result (pair_buffers through.new work.new) ≡
         pair plan.now n t (units g h) s z (pair_buffers through.old work.old) }
 {
-    let CheckAnswer::Refused(fault) = plan::check(plan, n, t) else {
-        return pair_accepted(through, work, plan, n, t, g, h, s, z);
-    };
-    PairAnswer::Refused(Fault::Plan(fault))
+    plan::check(plan, n, t)?;
+    calls::pair_call(n, t, g, h, s, z, through.len(), n, work.len())?;
+    pair_work(through, work, plan, n, t, g, h, s, z)
 }

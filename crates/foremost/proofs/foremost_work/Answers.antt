@@ -10,15 +10,13 @@ use Rattle.foremost.proofs.foremost_work.Goals as goal
 pub overflow_add-t : goal.overflow_add-t
 overflow_add-t c = omega (arith, (accepted _ _ _ c.requires.accepted).slots)
 
-pub returns-then-slot-eq0 : goal.returns-then-slot-eq0
-returns-then-slot-eq0 c =
-    foremost_refused _ _ _ _ _ _ _ _ c.requires _ _ _ c.foremost_throughs-slot.ensures (omega arith) _ _ c.clear.ensures
-    c.clear-then-slot-eq0.ensures
+pub returns-in_default : goal.returns-in_default
+returns-in_default c =
+    foremost_refused _ _ _ _ _ _ _ _ c.requires _ _ c.in_default.ensures _ _ c.clear.ensures c.clear-in_default.ensures
 
 pub overflow_add-t-2 : goal.overflow_add-t-2
 overflow_add-t-2 c = omega (arith, (accepted _ _ _ c.requires.accepted).slots)
 
 pub returns : goal.returns
 returns c =
-    foremost_counted _ _ _ _ _ _ _ _ c.requires _ _ _ c.foremost_throughs-slot.ensures (λ q. omega arith) _ _ _ _
-    c.slot_value.ensures refl refl c.clear-2.ensures
+    foremost_counted _ _ _ _ _ _ _ _ c.requires _ _ _ c.in-Some.ensures _ _ _ _ c.slot_value.ensures refl refl c.clear-2.ensures

@@ -14,15 +14,13 @@ throughs-requires c = record { ready = c.requires; asks = record { which = inl r
 pub overflow_add-t : goal.overflow_add-t
 overflow_add-t c = omega (arith, (accepted _ _ _ c.requires.accepted).slots)
 
-pub returns-then-throughs-eq0 : goal.returns-then-throughs-eq0
-returns-then-throughs-eq0 c =
-    paired_refused _ _ _ _ _ _ _ _ c.requires _ _ _ c.throughs.ensures c.if-throughs-eq0.true _ _ c.clear.ensures
-    c.clear-then-throughs-eq0.ensures
+pub returns-in_default : goal.returns-in_default
+returns-in_default c =
+    paired_refused _ _ _ _ _ _ _ _ c.requires _ _ c.in_default.ensures _ _ c.clear.ensures c.clear-in_default.ensures
 
 pub overflow_add-t-2 : goal.overflow_add-t-2
 overflow_add-t-2 c = omega (arith, (accepted _ _ _ c.requires.accepted).slots)
 
 pub returns : goal.returns
 returns c =
-    paired_counted _ _ _ _ _ _ _ _ c.requires _ _ _ c.throughs.ensures c.if-throughs-eq0.false _ _ _ refl refl
-    c.clear-2.ensures
+    paired_counted _ _ _ _ _ _ _ _ c.requires _ _ _ c.in-Some.ensures _ _ _ refl refl c.clear-2.ensures

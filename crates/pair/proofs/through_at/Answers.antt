@@ -1,9 +1,7 @@
 -- `pair::through_at` meets its contract: the count less the entry, which lies within the work area.
 -- Assumes nothing.
 use native.Mathlib.Omega.{arith}
-use mathlib.Core.Path.{sym}
 use Rattle.pair.proofs.PlaceLaws.{row_inside}
-use Rattle.pair.proofs.ThroughLaws.{entry_itself, entry_no_path, entry_rest}
 use Rattle.pair.proofs.through_at.Goals as goal
 
 pub overflow_mul-at-2 : goal.overflow_mul-at-2

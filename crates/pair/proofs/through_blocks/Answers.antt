@@ -11,26 +11,28 @@ use Rattle.pair.proofs.through_blocks.Goals as goal
 pub loop-low-init : goal.loop-low-init
 loop-low-init c = blocks_none _ _ _ _ _ _ _ _ _ _ _ _ c.requires
 
-pub block_throughs-slot-requires : goal.block_throughs-slot-requires
-block_throughs-slot-requires c = next_ready _ _ _ _ _ _ _ _ _ _ _ _ _ _ _ c.loop-low.invariant c.loop-low-test.true _ c.min-block.ensures
+pub block_throughs-requires : goal.block_throughs-requires
+block_throughs-requires c = next_ready _ _ _ _ _ _ _ _ _ _ _ _ _ _ _ c.loop-low.invariant c.loop-low-test.true _ c.min-block.ensures
 
-pub shape_of-through-then-slot-eq0 : goal.shape_of-through-then-slot-eq0
-shape_of-through-then-slot-eq0 c = c.block_throughs-slot.ensures.table_length ∙ c.loop-low.invariant.table_length
+pub shape_of-through-in_err-slot : goal.shape_of-through-in_err-slot
+shape_of-through-in_err-slot c = c.block_throughs.ensures.table_length ∙ c.loop-low.invariant.table_length
 
-pub shape_of-work-then-slot-eq0 : goal.shape_of-work-then-slot-eq0
-shape_of-work-then-slot-eq0 c = c.block_throughs-slot.ensures.area_length ∙ c.loop-low.invariant.area_length
+pub shape_of-work-in_err-slot : goal.shape_of-work-in_err-slot
+shape_of-work-in_err-slot c = c.block_throughs.ensures.area_length ∙ c.loop-low.invariant.area_length
 
-pub returns-then-slot-eq0 : goal.returns-then-slot-eq0
-returns-then-slot-eq0 c = blocks_refused _ _ _ _ _ _ _ _ _ _ _ _ _ _ _ c.loop-low.invariant c.loop-low-test.true _ c.min-block.ensures _ _ _ c.block_throughs-slot.ensures (omega arith)
+pub returns-in_err-slot : goal.returns-in_err-slot
+returns-in_err-slot c =
+    rw c.from_residual.ensures
+    (blocks_refused _ _ _ _ _ _ _ _ _ _ _ _ _ _ _ c.loop-low.invariant c.loop-low-test.true _ c.min-block.ensures _ _ c.in_err-slot.ensures)
 
 pub overflow_add-low : goal.overflow_add-low
 overflow_add-low c = let inside = block_within _ _ _ _ _ _ _ _ _ _ _ _ _ _ _ c.loop-low.invariant c.loop-low-test.true _ c.min-block.ensures in omega (arith, (accepted _ _ _ c.requires.asked.ready.accepted).stations)
 
 pub loop-low-smaller : goal.loop-low-smaller
-loop-low-smaller c = block_progress _ _ _ _ _ _ _ _ _ _ _ _ _ _ _ c.loop-low.invariant c.loop-low-test.true _ c.min-block.ensures _ _ _ c.block_throughs-slot.ensures (λ q. omega arith)
+loop-low-smaller c = block_progress _ _ _ _ _ _ _ _ _ _ _ _ _ _ _ c.loop-low.invariant c.loop-low-test.true _ c.min-block.ensures _ _ _ c.in_ok-slot.ensures
 
 pub loop-low-preserved : goal.loop-low-preserved
-loop-low-preserved c = blocks_more _ _ _ _ _ _ _ _ _ _ _ _ _ _ _ c.loop-low.invariant c.loop-low-test.true _ c.min-block.ensures _ _ _ c.block_throughs-slot.ensures (λ q. omega arith)
+loop-low-preserved c = blocks_more _ _ _ _ _ _ _ _ _ _ _ _ _ _ _ c.loop-low.invariant c.loop-low-test.true _ c.min-block.ensures _ _ _ c.in_ok-slot.ensures
 
 pub shape_of-through : goal.shape_of-through
 shape_of-through c = c.loop-low.invariant.table_length
