@@ -1,34 +1,31 @@
 -- What the answer to a read says, and that the bytes read lie within the lent buffer. Which bytes they are is the system's to say: no
 -- contract speaks of it. Definitions only.
 -- Assumes nothing.
-use Rattle.std.specs.Prelude.{ℕ, ◌≡◌, ◌≤◌, min, Bool, true, false, List, Result, Ok, Err}
+use Rattle.std.specs.Prelude.{ℕ, ◌≡◌, ◌≢◌, ◌≤◌, min, List, Result, Ok, Err}
 use Rattle.std.specs.IoError.{error_kind}
 use Rattle.std.specs.declared.io.Error.{Error}
 use Rattle.std.specs.declared.io.ErrorKind.TheVariants as kind
 use Rattle.std.specs.Counts.{IsPrefixLen}
-use Rattle.input.specs.declared.Part.{Part}
-use Rattle.input.specs.declared.Part.TheVariants as part
-use Rattle.input.specs.declared.Input.{Input}
-use Rattle.input.specs.declared.Input.TheVariants as input
+use Rattle.input.specs.declared.ReadFault.{ReadFault}
+use Rattle.input.specs.declared.ReadFault.TheVariants as fault
 
--- the answer to a read that a signal interrupted
-abbrev pub IsInterruption : Result ℕ Error → Type 0
-IsInterruption (Ok k) = ⊥
-IsInterruption (Err e) = error_kind e ≡ kind.Interrupted
+-- an error is an interruption by a signal, or another failure
+abbrev pub FaultOf : Error → ReadFault → Type 0
+FaultOf e fault.Interrupted = error_kind e ≡ kind.Interrupted
+FaultOf e fault.Failed = error_kind e ≢ kind.Interrupted
 
 -- the answer to a read into size bytes: a number of bytes, or a failure, which may be an interruption
-unfoldable pub part_of : Result ℕ Error → Bool → ℕ → Part
-part_of (Ok k) interrupted size = part.Got (min k size)
-part_of (Err e) true size = part.Interrupted
-part_of (Err e) false size = part.Failed
+abbrev pub PartOf : Result ℕ Error → ℕ → Result ℕ ReadFault → Type 0
+PartOf (Ok k) size r = r ≡ Ok (min k size)
+PartOf (Err e) size (Err f) = FaultOf e f
+PartOf (Err e) size (Ok k) = ⊥
 
 -- one read gives at most as many bytes as it was lent
-abbrev pub PartWithin : Part → ℕ → Type 0
-PartWithin (part.Got k) size = k ≤ size
-PartWithin part.Interrupted size = Unit {0}
-PartWithin part.Failed size = Unit {0}
+abbrev pub PartWithin : Result ℕ ReadFault → ℕ → Type 0
+PartWithin (Ok k) size = k ≤ size
+PartWithin (Err f) size = Unit {0}
 
 -- the bytes read are the first bytes of the buffer
-abbrev pub InputWithin : Input → List ℕ → Type 0
-InputWithin (input.Read k) buf = IsPrefixLen k buf
-InputWithin input.Failed buf = Unit {0}
+abbrev pub InputWithin : Result ℕ ReadFault → List ℕ → Type 0
+InputWithin (Ok k) buf = IsPrefixLen k buf
+InputWithin (Err f) buf = Unit {0}

@@ -1,2 +1,0 @@
--- what the answer to a read is
-mod PartLaws
