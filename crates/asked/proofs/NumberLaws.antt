@@ -7,19 +7,18 @@ use native.Mathlib.Numerals.{add-one}
 use mathlib.Core.Path.{◌≡◌, refl, ap, sym, ◌∙◌}
 use mathlib.Core.Bool.{true, false, cond}
 use mathlib.Core.List.{List, [], ◌∷◌}
+use Rattle.std.specs.Prelude.{Option, Some, None}
 use borrow.Author.Tests.{le-leb, lt-leb}
 use lib.ListN.{length, get_or, drop}
 use lib.Seq.{drop-cons}
 use Rattle.text.specs.Decimal.{decimal, read_on, value}
 use Rattle.text.specs.Field.{ascii}
 use Rattle.text.proofs.DecimalLaws.{length_decimal, digits_positive, decimal_within, value_decimal}
-use Rattle.asked.specs.declared.Word.{Word}
-use Rattle.asked.specs.declared.Word.TheVariants as word
 use Rattle.asked.specs.Asked.{largest, is_digit, only_digits, is_number, number_of}
 
 -- what is read from a number on, with these codes behind its digits
-unfoldable pub word_on : ℕ → List ℕ → Word
-word_on x l = cond (only_digits l) (word.Number (min (read_on x l) largest)) word.Other
+unfoldable pub word_on : ℕ → List ℕ → Option ℕ
+word_on x l = cond (only_digits l) (Some (min (read_on x l) largest)) None
 
 -- ---- codes
 
@@ -53,15 +52,15 @@ read_within (c ∷ l) y =
 on_digit :
     (x c : ℕ) (l : List ℕ) → is_digit c ≡ true → word_on x (c ∷ l) ≡ word_on (min (x * 10 + (c - 48)) largest) l
 unfolding word_on only_digits read_on
-on_digit x c l e = rw e (ap (λ n. cond (only_digits l) (word.Number n) word.Other) (sym (read_within l (x * 10 + (c - 48)))))
+on_digit x c l e = rw e (ap (λ n. cond (only_digits l) (Some n) None) (sym (read_within l (x * 10 + (c - 48)))))
 
-on_none : (x c : ℕ) (l : List ℕ) → is_digit c ≡ false → word_on x (c ∷ l) ≡ word.Other
+on_none : (x c : ℕ) (l : List ℕ) → is_digit c ≡ false → word_on x (c ∷ l) ≡ None
 unfolding word_on only_digits
 on_none x c l e = rw e
 
 -- ---- the loop
 
-pub number_empty : (w : List ℕ) → length w ≡ 0 → word.Other ≡ number_of w
+pub number_empty : (w : List ℕ) → length w ≡ 0 → None ≡ number_of w
 unfolding number_of is_number
 number_empty [] e = refl
 number_empty (c ∷ l) e = absurd (omega arith)
@@ -72,11 +71,11 @@ number_start [] h = absurd (not-suc-le-zero h)
 number_start (c ∷ l) h = refl
 
 module _ (w : List ℕ) (x i : ℕ) (within : i < length w) (so_far : word_on x (drop i w) ≡ number_of w) where
-  pub number_low : get_or w i 0 < 48 → word.Other ≡ number_of w
+  pub number_low : get_or w i 0 < 48 → None ≡ number_of w
   number_low low =
       sym (on_none x (get_or w i 0) (drop (suc i) w) (low_is_none _ low)) ∙ sym (ap (word_on x) (drop-cons w i 0 within)) ∙ so_far
 
-  pub number_high : 57 < get_or w i 0 → word.Other ≡ number_of w
+  pub number_high : 57 < get_or w i 0 → None ≡ number_of w
   number_high high =
       sym (on_none x (get_or w i 0) (drop (suc i) w) (high_is_none _ high)) ∙ sym (ap (word_on x) (drop-cons w i 0 within)) ∙ so_far
 
@@ -88,15 +87,15 @@ module _ (w : List ℕ) (x i : ℕ) (within : i < length w) (so_far : word_on x 
       (sym (on_digit x (get_or w i 0) (drop (suc i) w) (digit_is _ low high)) ∙ sym (ap (word_on x) (drop-cons w i 0 within)) ∙ so_far)
 
 -- behind the last code
-on_end : (w : List ℕ) (x i : ℕ) → length w ≤ i → x ≤ largest → word_on x (drop i w) ≡ word.Number x
+on_end : (w : List ℕ) (x i : ℕ) → length w ≤ i → x ≤ largest → word_on x (drop i w) ≡ Some x
 unfolding word_on only_digits read_on
-on_end [] x zero h small = ap word.Number (omega arith)
-on_end [] x (suc i) h small = ap word.Number (omega arith)
+on_end [] x zero h small = ap Some (omega arith)
+on_end [] x (suc i) h small = ap Some (omega arith)
 on_end (c ∷ l) x zero h small = absurd (not-suc-le-zero h)
 on_end (c ∷ l) x (suc i) h small = on_end l x i (omega arith) small
 
 pub number_end :
-    (w : List ℕ) (x i : ℕ) → length w ≤ i → x ≤ largest → word_on x (drop i w) ≡ number_of w → word.Number x ≡ number_of w
+    (w : List ℕ) (x i : ℕ) → length w ≤ i → x ≤ largest → word_on x (drop i w) ≡ number_of w → Some x ≡ number_of w
 number_end w x i h small so_far = sym (on_end w x i h small) ∙ so_far
 
 -- ---- a number in decimal
@@ -114,12 +113,12 @@ some_number [] h e = absurd (not-suc-le-zero h)
 some_number (c ∷ l) h e = e
 
 -- a number in decimal is read as that number, for every number that a usize holds
-pub asked_decimal : (x : ℕ) → x < 2 ^ 64 → number_of (decimal x) ≡ word.Number x
+pub asked_decimal : (x : ℕ) → x < 2 ^ 64 → number_of (decimal x) ≡ Some x
 unfolding number_of
 asked_decimal x h =
     let digits = all_digits (decimal x) (decimal_within x) in
     let some : 0 < length (decimal x) = omega (arith, length_decimal x, digits_positive x) in
-    rw (some_number (decimal x) some digits, value_decimal x (omega arith)) (ap word.Number (omega arith))
+    rw (some_number (decimal x) some digits, value_decimal x (omega arith)) (ap Some (omega arith))
 
 -- a zero in front of a number changes nothing
 pub zero_in_front : (c : ℕ) (l : List ℕ) → number_of (48 ∷ c ∷ l) ≡ number_of (c ∷ l)
@@ -128,22 +127,22 @@ zero_in_front c l = refl
 
 -- ---- words, by computation
 
-pub leading_zero : number_of (ascii "07") ≡ word.Number 7
+pub leading_zero : number_of (ascii "07") ≡ Some 7
 unfolding number_of is_number only_digits is_digit value read_on
 leading_zero = refl
 
-pub one_too_large : number_of (ascii "18446744073709551616") ≡ word.Number largest
+pub one_too_large : number_of (ascii "18446744073709551616") ≡ Some largest
 unfolding number_of is_number only_digits is_digit value read_on
 one_too_large = refl
 
-pub no_digits : number_of (ascii "") ≡ word.Other
+pub no_digits : number_of (ascii "") ≡ None
 unfolding number_of is_number
 no_digits = refl
 
-pub a_sign : number_of (ascii "+7") ≡ word.Other
+pub a_sign : number_of (ascii "+7") ≡ None
 unfolding number_of is_number only_digits is_digit
 a_sign = refl
 
-pub a_blank : number_of (ascii "7 ") ≡ word.Other
+pub a_blank : number_of (ascii "7 ") ≡ None
 unfolding number_of is_number only_digits is_digit
 a_blank = refl

@@ -1,11 +1,8 @@
 -- Words read as decimal numbers, and what two words ask for: a station and a number of walks. Definitions only.
 -- Assumes nothing.
-use Rattle.std.specs.Prelude.{ℕ, ◌≤◌, min, Bool, true, false, cond, List, [], ◌∷◌, eqb, leb}
+use Rattle.std.specs.Prelude.{ℕ, ◌≤◌, min, Bool, true, false, cond, List, [], ◌∷◌, Option, Some, None, eqb, leb}
 use Rattle.text.specs.Decimal.{value}
-use Rattle.asked.specs.declared.Word.{Word}
-use Rattle.asked.specs.declared.Word.TheVariants as word
 use Rattle.asked.specs.declared.Request.{Request}
-use Rattle.asked.specs.declared.Request.TheVariants as request
 
 -- the largest number of 64 bits
 abbrev pub largest : ℕ
@@ -26,24 +23,24 @@ is_number [] = false
 is_number (c ∷ l) = only_digits (c ∷ l)
 
 -- what a word says: the number whose digits it has, which may begin with zeros; every number above the largest counts as the largest
-unfoldable pub number_of : List ℕ → Word
-number_of w = cond (is_number w) (word.Number (min (value w) largest)) word.Other
+unfoldable pub number_of : List ℕ → Option ℕ
+number_of w = cond (is_number w) (Some (min (value w) largest)) None
 
 -- the most walks that may be asked for
 abbrev pub most_asked : ℕ
 most_asked = 8
 
 -- what two words ask for
-unfoldable pub asked : Word → Word → Request
-asked (word.Number v) (word.Number k) = cond (leb k most_asked) (request.Account v k) request.Wrong
-asked (word.Number v) word.Other = request.Wrong
-asked word.Other b = request.Wrong
+unfoldable pub asked : Option ℕ → Option ℕ → Option Request
+asked (Some v) (Some k) = cond (leb k most_asked) (Some (record { station = v; walks = k })) None
+asked (Some v) None = None
+asked None b = None
 
 -- what so many arguments ask for, the program's name among them, with two words behind it
-unfoldable pub request_of : ℕ → List ℕ → List ℕ → Request
-request_of count first second = cond (eqb count 3) (asked (number_of first) (number_of second)) request.Wrong
+unfoldable pub request_of : ℕ → List ℕ → List ℕ → Option Request
+request_of count first second = cond (eqb count 3) (asked (number_of first) (number_of second)) None
 
 -- no more walks than may be asked for
-abbrev pub RequestWithin : Request → Type 0
-RequestWithin (request.Account v k) = k ≤ most_asked
-RequestWithin request.Wrong = Unit {0}
+abbrev pub RequestWithin : Option Request → Type 0
+RequestWithin (Some r) = r.walks ≤ most_asked
+RequestWithin None = Unit {0}

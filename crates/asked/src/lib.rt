@@ -6,22 +6,12 @@ ghost use Rattle.asked.specs.Asked.{largest, number_of, request_of, RequestWithi
 
 use std::env::{Env, FillError};
 
-// What a word says: a number, or it is none.
+// What the arguments ask for.
 #[derive(Clone, Copy)]
-pub enum Word {
-    Number(usize),
-    Other,
+pub struct Request {
+    pub station: usize,
+    pub walks: usize,
 }
-
-// What the arguments ask for: a station and a number of walks; or they are wrong.
-#[derive(Clone, Copy)]
-pub enum Request {
-    Account(usize, usize),
-    Wrong,
-}
-
-// The largest number that a usize holds, in place of every larger one.
-const LARGEST: usize = usize::MAX;
 
 // The most walks that may be asked for.
 const MOST_WALKS: usize = 8;
@@ -32,56 +22,45 @@ const ARGUMENTS: usize = 3;
 // Room for the longest argument that Linux hands to a program: 32 pages, with the 0 that ends it.
 const LONGEST: usize = 131072;
 
-// The number whose digits are those of x and one more.
+// The number whose digits are those of x and one more; the largest that a usize holds in place of every larger one.
 fn grown(x: usize, digit: usize) -> usize
     ensures { result ≡ min (x * 10 + digit) largest }
 {
-    if (LARGEST - digit) / 10 < x {
-        return LARGEST;
-    }
-    x * 10 + digit
+    x.saturating_mul(10).saturating_add(digit)
 }
 
-// The number that a word is in decimal.
-pub fn number(word: &[u8]) -> Word
+// The number that a word is in decimal, or none.
+pub fn number(word: &[u8]) -> Option<usize>
     ensures { result ≡ number_of word.now }
 {
-    if word.len() < 1 {
-        return Word::Other;
+    if word.is_empty() {
+        return None;
     }
     let mut x = 0;
-    let mut i = 0;
-    while i < word.len() {
-        let c = word[i] as usize;
-        if c < 48 {
-            return Word::Other;
+    for c in word {
+        if *c < b'0' || b'9' < *c {
+            return None;
         }
-        if 57 < c {
-            return Word::Other;
-        }
-        x = grown(x, c - 48);
-        i += 1;
+        x = grown(x, usize::from(*c - b'0'));
     }
-    Word::Number(x)
+    Some(x)
 }
 
-// What so many arguments ask for, of which two words are the first and the second behind the program's name.
-pub fn request_of(count: usize, first: &[u8], second: &[u8]) -> Request
+// What so many arguments ask for, of which two words are the first and the second behind the program's name; none where they are
+// wrong.
+#[tactic(auto, unfolding(crate::specs::Asked::request_of, crate::specs::Asked::asked))]
+pub fn request_of(count: usize, first: &[u8], second: &[u8]) -> Option<Request>
     ensures { result ≡ request_of count first.now second.now }
 {
     if count != ARGUMENTS {
-        return Request::Wrong;
+        return None;
     }
-    let Word::Number(station) = number(first) else {
-        return Request::Wrong;
-    };
-    let Word::Number(walks) = number(second) else {
-        return Request::Wrong;
-    };
+    let station = number(first)?;
+    let walks = number(second)?;
     if MOST_WALKS < walks {
-        return Request::Wrong;
+        return None;
     }
-    Request::Account(station, walks)
+    Some(Request { station, walks })
 }
 
 // Whether the program has an argument of this number; its name has number 0.
@@ -97,11 +76,12 @@ fn is_given<V: Env>(environment: &V, number: usize) -> bool {
 fn count_of<V: Env>(environment: &V) -> usize
     ensures { result ≤ 4 }
 {
-    let mut count = 0;
-    while count <= ARGUMENTS && is_given(environment, count) {
-        count += 1;
+    for count in 0..=ARGUMENTS {
+        if !is_given(environment, count) {
+            return count;
+        }
     }
-    count
+    ARGUMENTS + 1
 }
 
 // Puts an argument at the beginning of a buffer; its length, 0 where it is missing or longer than the buffer.
@@ -113,20 +93,17 @@ fn read_word<V: Env>(environment: &V, number: usize, word: &mut [u8]) -> usize
 
 // What the program's own arguments ask for. Where they are wrong, one line says what they are to be. An argument that is missing or too
 // long counts as an empty word, which is no number.
-pub fn arguments<V: Env, E: Print>(environment: &V, errors: &E, wrong: &[u8]) -> Request
+#[tactic(auto, using(crate::proofs::RequestLaws::request_within))]
+pub fn arguments<V: Env, E: Print>(environment: &V, errors: &E, wrong: &[u8]) -> Option<Request>
     ensures { RequestWithin result }
 {
     let mut first = [0u8; LONGEST];
     let mut second = [0u8; LONGEST];
     let a = read_word(environment, 1, &mut first);
     let b = read_word(environment, 2, &mut second);
-    let Request::Account(station, walks) = request_of(
-        count_of(environment),
-        &first[..a],
-        &second[..b],
-    ) else {
+    let request = request_of(count_of(environment), &first[..a], &second[..b]);
+    if request.is_none() {
         let _ = errors.write_all(wrong);
-        return Request::Wrong;
-    };
-    Request::Account(station, walks)
+    }
+    request
 }

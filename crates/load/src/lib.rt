@@ -4,7 +4,7 @@
 
 ghost use Rattle.input.specs.Input.{InputWithin};
 
-use input::Input;
+use input::ReadFault;
 use std::io::Read;
 
 // Reads until the input ends or the buffer is full.
@@ -13,14 +13,14 @@ pub fn read_records<R: Read, E: Print>(
     errors: &E,
     failed: &[u8],
     bytes: &mut [u8],
-) -> Input
+) -> Result<usize, ReadFault>
     ensures { InputWithin result bytes.new }
 {
-    let Input::Read(got) = input::read_all(reader, bytes) else {
+    let got = input::read_all(reader, bytes);
+    if got.is_err() {
         let _ = errors.write_all(failed);
-        return Input::Failed;
-    };
-    Input::Read(got)
+    }
+    got
 }
 
 // Writes a text.

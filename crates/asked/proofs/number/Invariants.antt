@@ -1,14 +1,10 @@
--- `asked::number` meets its contract. The loop's invariant: what is read from here on is what the word says. The measure: the bytes that
--- are left. Assumes nothing.
-use Prim.Native.Nat.{◌-◌, ◌≤◌}
+-- `asked::number` meets its contract. The loop's invariant: what is read from here on is what the word says. Assumes nothing.
+use Prim.Native.Nat.{◌≤◌}
 use mathlib.Core.Path.{◌≡◌}
-use lib.ListN.{length, drop}
+use lib.ListN.{drop}
 use Rattle.asked.specs.Asked.{largest, number_of}
 use Rattle.asked.proofs.NumberLaws.{word_on}
 use Rattle.asked.proofs.number.Given as goal
 
-abbrev pub invariant-loop-i : goal.invariant-loop-i
-invariant-loop-i l = (l.x ≤ largest) × (word_on l.x (drop l.i l.word) ≡ number_of l.word)
-
-abbrev pub decreases-loop-i : goal.decreases-loop-i
-decreases-loop-i l = length l.word - l.i
+abbrev pub invariant-loop-c : goal.invariant-loop-c
+invariant-loop-c l = (l.x ≤ largest) × (word_on l.x (drop l.c-index l.word) ≡ number_of l.word)
