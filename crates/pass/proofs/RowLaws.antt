@@ -13,14 +13,6 @@ pub record Combining (f : ℕ → ℕ → ℕ) (to from size : ℕ) (old : List 
   pub rest : combined f now (to + j) (from + j) (size - j) ≡ combined f old to from size
 
 module _ (f : ℕ → ℕ → ℕ) (to from size : ℕ) (old : List ℕ) where
-  -- at first no entry is written
-  pub combining_none : Combining f to from size old 0 old
-  combining_none =
-      let a : to + 0 ≡ to = omega arith in
-      let b : from + 0 ≡ from = omega arith in
-      let c : size - 0 ≡ size = omega arith in
-      record { within = omega arith; same = refl; rest = rw (a, b, c) }
-
   -- one entry more
   pub combining_more : (j : ℕ) (now : List ℕ) → j < size → Combining f to from size old j now
       → Combining f to from size old (j + 1) (set now (to + j) (f (get_or now (to + j) 0) (get_or now (from + j) 0)))

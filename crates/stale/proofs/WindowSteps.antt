@@ -1,10 +1,10 @@
 -- The functions of the pass where readings go stale: what they leave, from what the functions that they call leave, and their loops.
 -- Assumes nothing.
-use Rattle.std.proofs.Common.{◌≡◌, ℕ, zero, suc, ◌+◌, ◌-◌, ◌*◌, ◌/◌, ◌%◌, ◌^◌, ◌<◌, ◌≤◌, Bool, true, false, eqb, ltb, ◌≢◌, List, length, get_or, set, sym, refl, ap, ◌∙◌, le_of_lt, mul-le-mul, arith, pow_mono, le-ltb, lt-ltb, eq-eqb, ne_eqb}
+use Rattle.std.proofs.Common.{◌≡◌, ℕ, zero, suc, ◌+◌, ◌-◌, ◌*◌, ◌/◌, ◌%◌, ◌^◌, ◌<◌, ◌≤◌, Bool, true, false, ltb, ◌≢◌, List, length, get_or, set, sym, refl, ap, ◌∙◌, subst, le_of_lt, mul-le-mul, arith, pow_mono, le-ltb, lt-ltb, eq-eqb, ne_eqb}
+use Rattle.std.specs.Prelude.{Option, Some, None, is_none, IfSome}
 use mathlib.Core.Bool.{and-false}
 use Rattle.temporal.specs.Plan.{Terms, units, window_first, window_end}
 use Rattle.temporal.specs.Bytes.{contact_at}
-use Rattle.lists.proofs.ListLaws.{not_both}
 use Rattle.memory.specs.Fill.{filled}
 use Rattle.temporal.specs.Plan as temporal
 use Rattle.plan.specs.declared.Contact.{Contact}
@@ -101,7 +101,7 @@ module _ (split n : ℕ) (w : List ℕ) (at x : ℕ) (is : x ≡ split) where
   unfolding wide_entry
   entry_some r some e = rw (lt-ltb (get_or w at 0) 65535 some) (e ∙ wide_split x split 65535 0 (get_or w at 0) (get_or w (at + n) 0) is)
 
-  pub entry_none : 65535 ≤ get_or w at 0 → false ≡ wide_entry (lanes_by split) n w at
+  pub entry_none : 65535 ≤ get_or w at 0 → ltb (get_or w at 0) 65535 ≡ wide_entry (lanes_by split) n w at
   unfolding wide_entry
   entry_none none = rw (le-ltb (get_or w at 0) 65535 none)
 
@@ -155,14 +155,6 @@ module _ (n block d : ℕ) (w : List ℕ) (base v slot end k : ℕ) where
   pub kept_late : end ≤ slot → w ≡ kept_cell n block d w base v slot end k
   unfolding kept_cell
   kept_late late = sym (rw (le-ltb slot end late))
-
-pub link_low : (link head : ℕ) → link < head → link ≡ lower_link link head
-unfolding lower_link
-link_low link head h = sym (rw (lt-ltb link head h))
-
-pub link_none : (link head : ℕ) → head ≤ link → 0 ≡ lower_link link head
-unfolding lower_link
-link_none link head h = sym (rw (le-ltb link head h))
 
 module _ (n block d : ℕ) (w : List ℕ) (base v first end head at : ℕ) (some : 0 < head) (is : at ≡ number_mark n block d (head - 1)) where
   pub follow_early : get_or w at 0 % 256 < first → Followed n block d base v first end head w w 0
@@ -245,27 +237,21 @@ pub on_rest : (x : Sweep) (rest : List ℕ → Sweep) → x.over ≡ false → g
 unfolding goes_on
 on_rest x rest e = rw e
 
-module _ (lay : Lanes) (n block d : ℕ) (terms : Terms) (s : ℕ) (col : ℕ → ℕ) (w : List ℕ) (last v v' u : ℕ) (is : v ≡ v')
-    (inside : v' < n) where
-  station : eqb v n ≡ false
-  station = ne_eqb v n (omega arith)
-
-  pub next_same : v ≡ last → GatheredNext n v' v w (window_next lay n block d terms s col w last v' u)
+module _ (lay : Lanes) (n block d : ℕ) (terms : Terms) (s : ℕ) (col : ℕ → ℕ) (w : List ℕ) (last v v' u : ℕ) (is : v ≡ v') where
+  pub next_same : v ≡ last → GatheredNext v' (Some v) w (window_next lay n block d terms s col w last v' u)
   unfolding window_next
-  next_same same = record { swept = rw (station, eq-eqb v' last (omega arith)); is = λ e. is }
+  next_same same = record { swept = rw (eq-eqb v' last (sym is ∙ same)); is = is }
 
   module _ (r : Bool) (out : List ℕ) (other : v ≢ last) (e : sweep_of r out ≡ window_cell lay n block d terms s col w v u) where
     gathered : sweep_of r out ≡ window_next lay n block d terms s col w last v' u
     unfolding window_next
     gathered = rw (ne_eqb v' last (λ q. other (is ∙ q))) (e ∙ rw is)
 
-    pub next_stop : r ≡ true → GatheredNext n v' n out (window_next lay n block d terms s col w last v' u)
-    next_stop up =
-        let here = eq-eqb n n refl in
-        record { swept = rw here (ap (λ b. sweep_of b out) (sym up) ∙ gathered); is = λ e. omega (arith, not_both here e) }
+    pub next_stop : r ≡ true → GatheredNext v' None out (window_next lay n block d terms s col w last v' u)
+    next_stop up = record { swept = ap (λ b. sweep_of b out) (sym up) ∙ gathered; is = tt }
 
-    pub next_other : r ≡ false → GatheredNext n v' v out (window_next lay n block d terms s col w last v' u)
-    next_other down = record { swept = rw station (ap (λ b. sweep_of b out) (sym down) ∙ gathered); is = λ e. is }
+    pub next_other : r ≡ false → GatheredNext v' (Some v) out (window_next lay n block d terms s col w last v' u)
+    next_other down = record { swept = ap (λ b. sweep_of b out) (sym down) ∙ gathered; is = is }
 
 -- the records before i are done
 pub record GatheringRecords (bs : List ℕ) (lay : Lanes) (n block d : ℕ) (terms : Terms) (s : ℕ) (col : ℕ → ℕ) (u j end : ℕ)
@@ -278,11 +264,11 @@ module _ (bs : List ℕ) (lay : Lanes) (n block d : ℕ) (terms : Terms) (s : �
   pub windows_none : GatheringRecords bs lay n block d terms s col u j end old n j old
   windows_none = record { from = omega arith; same = refl; rest = refl }
 
-  module _ (last last' i : ℕ) (now now' : List ℕ) (less : i < end)
+  module _ (last i : ℕ) (r : Option ℕ) (now now' : List ℕ) (less : i < end)
       (g : GatheringRecords bs lay n block d terms s col u j end old last i now)
-      (e : GatheredNext n (contact_at bs i).sender last' now'
+      (e : GatheredNext (contact_at bs i).sender r now'
       (window_next lay n block d terms s col now last (contact_at bs i).sender u)) where
-    window_more : goes_on (sweep_of (eqb last' n) now')
+    window_more : goes_on (sweep_of (is_none r) now')
         (λ y. windows_of bs lay n block d terms s col y u (contact_at bs i).sender (i + 1) (end - (i + 1)))
         ≡ windows_of bs lay n block d terms s col old u n j (end - j)
     unfolding windows_of
@@ -290,19 +276,21 @@ module _ (bs : List ℕ) (lay : Lanes) (n block d : ℕ) (terms : Terms) (s : �
         let more : end - i ≡ suc (end - (i + 1)) = omega arith in
         rw e.swept (sym (ap (windows_of bs lay n block d terms s col now u last i) more) ∙ g.rest)
 
-    pub windows_stop : last' ≡ n → sweep_of true now' ≡ windows_of bs lay n block d terms s col old u n j (end - j)
+    pub windows_stop : r ≡ None → sweep_of true now' ≡ windows_of bs lay n block d terms s col old u n j (end - j)
     windows_stop up =
-        let flag = eq-eqb last' n up in
-        ap (λ b. sweep_of b now') (sym flag) ∙ sym (on_stop (sweep_of (eqb last' n) now') _ flag) ∙ window_more
+        let flag : is_none r ≡ true = ap is_none up in
+        ap (λ b. sweep_of b now') (sym flag) ∙ sym (on_stop (sweep_of (is_none r) now') _ flag) ∙ window_more
 
-    pub windows_more : last' ≢ n → length now' ≡ length now → GatheringRecords bs lay n block d terms s col u j end old last' (i + 1) now'
-    windows_more down kept =
-        let flag = ne_eqb last' n down in
+    pub windows_more : (v : ℕ) → r ≡ Some v → length now' ≡ length now
+        → GatheringRecords bs lay n block d terms s col u j end old v (i + 1) now'
+    windows_more v down kept =
+        let flag : is_none r ≡ false = ap is_none down in
         let f = g.from in
         record {
           from = omega arith;
           same = kept ∙ g.same;
-          rest = rw (e.is flag) (sym (on_rest (sweep_of (eqb last' n) now') _ flag) ∙ window_more);
+          rest = rw (subst (λ o. IfSome o (λ y. y ≡ (contact_at bs i).sender)) down e.is)
+              (sym (on_rest (sweep_of (is_none r) now') _ flag) ∙ window_more);
         }
 
   pub windows_all : (last i : ℕ) (now : List ℕ) → end ≤ i → GatheringRecords bs lay n block d terms s col u j end old last i now

@@ -7,7 +7,7 @@
 -- appearances have been kept in all.
 -- Definitions only.
 -- Assumes nothing.
-use Rattle.std.specs.Prelude.{◌≡◌, ℕ, zero, suc, ◌+◌, ◌-◌, ◌*◌, ◌/◌, ◌%◌, ◌^◌, ◌<◌, ◌≤◌, Bool, true, false, cond, ◌&&◌, List, length, set, ◌==◌, nat_eq, nat_lt, slice_index, slice_set}
+use Rattle.std.specs.Prelude.{◌≡◌, ℕ, zero, suc, ◌+◌, ◌-◌, ◌*◌, ◌/◌, ◌%◌, ◌^◌, ◌<◌, ◌≤◌, Bool, true, false, cond, ◌&&◌, Option, is_none, IfSome, List, length, set, ◌==◌, nat_lt, slice_index, slice_set}
 use Rattle.temporal.specs.Plan.{Terms, Allowed, window_first, window_end}
 use Rattle.temporal.specs.Bytes.{contact_at}
 use Rattle.temporal.specs.Cause.{plan_fault}
@@ -208,10 +208,10 @@ pub record Followed (n block d base v first end head : ℕ) (old new : List ℕ)
   pub next : r ≡ next_head n block d old first head
   pub falls : r < head
 
--- what gathering the next window leaves, of the record's sender: the number n where the flag is up, and the sender where it is not
-pub record GatheredNext (n sender r : ℕ) (w : List ℕ) (x : Sweep) : Type 0 where
-  pub swept : sweep_of (r == n) w ≡ x
-  pub is : nat_eq r n ≡ false → r ≡ sender
+-- what gathering the next window leaves, of the record's sender: none where the flag is up, and the sender where it is not
+pub record GatheredNext (sender : ℕ) (r : Option ℕ) (w : List ℕ) (x : Sweep) : Type 0 where
+  pub swept : sweep_of (is_none r) w ≡ x
+  pub is : IfSome r (λ v. v ≡ sender)
 
 -- what the pass asks: an accepted plan, units whose terms no cause refuses, a ring that is deep enough, a source, and a work area that is
 -- long enough

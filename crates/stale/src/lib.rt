@@ -123,11 +123,7 @@ fn wide_entry(work: &[u64], n: usize, at: usize, columns: Columns) -> bool
         return false;
     }
     let h = work[at];
-    if h < 65535 {
-        let counted = at + n;
-        return pass::too_wide(split, 65535, 0, h, work[counted]);
-    }
-    false
+    h < 65535 && pass::too_wide(split, 65535, 0, h, work[at + n])
 }
 
 // Writes 0 to the column that stands for v in its own row in the part that begins at base. Where its count there does not fit a lane: true,
@@ -217,12 +213,7 @@ fn oldest_of(work: &[u64], n: usize, block: usize, depth: usize, source: usize) 
     requires { WindowArea n block depth work.now × (source < n) }
     ensures { result ≡ oldest_of n block depth source work.now }
 {
-    let kept = head_of(work, n, block, depth, source);
-    let cells = n * depth;
-    if kept < cells {
-        return 0;
-    }
-    kept - cells
+    head_of(work, n, block, depth, source).saturating_sub(n * depth)
 }
 
 // Takes the cell of number k, of a slot, into the entry of station v in the part that begins at base, where that slot is before slot end.
@@ -248,15 +239,13 @@ fn take_kept(
 }
 
 // A link, where it is lower than the head that it follows.
+#[tactic(auto, unfolding(crate::specs::Window::lower_link))]
 fn lower_link(link: u64, head: usize) -> usize
     requires { 0 < head }
     ensures { (result ≡ lower_link link head) × (result < head) }
 {
     let low = link as usize;
-    if low < head {
-        return low;
-    }
-    0
+    if low < head { low } else { 0 }
 }
 
 // The same as take_kept for the number that a head names, where its slot is not before slot first. Returns the head of what its station kept
@@ -303,6 +292,7 @@ fn gather(
     requires { WindowArea n block depth work.old × (base + part_size n block ≤ length work.old) × (v < n) }
     ensures { work.new ≡ gathered_cell n block depth work.old base v oldest first end head head }
 {
+    // From head to head along the links, which skip numbers.
     let mut at = head;
     while oldest < at {
         at = follow(work, n, block, depth, base, v, first, end, at);
@@ -354,8 +344,8 @@ fn gather_window(
     mask_entry(work, n, block, columns, set, base, v)
 }
 
-// The same for the sender of the record at j, which it returns, but not where that is the station last. Where the count does not fit a lane
-// it returns n.
+// The same for the sender of the record at j, which it returns, but not where that is the station last. None where the count does not fit a
+// lane.
 fn gather_next(
     work: &mut [u64],
     plan: &[u8],
@@ -371,23 +361,19 @@ fn gather_next(
     u: usize,
     last: usize,
     j: usize,
-) -> usize
+) -> Option<usize>
     requires { WindowArea n block depth work.old × (0 < g) × (j * 6 + 5 < length (lacking_record plan.now out)) ×
         ((contact_at (lacking_record plan.now out) j).sender < n) × (split_of columns ≤ 3) × (source < n) }
-    ensures { GatheredNext n (contact_at (lacking_record plan.now out) j).sender result work.new
+    ensures { GatheredNext (contact_at (lacking_record plan.now out) j).sender result work.new
         (window_next (lanes_by (split_of columns)) n block depth (units g h) source
         (column_of columns set.now (block * 2 ^ split_of columns)) work.old last
         (contact_at (lacking_record plan.now out) j).sender u) }
 {
-    let c = plan::kept_contact(plan, out, j);
-    let v = c.sender;
-    if v == last {
-        return v;
+    let v = plan::kept_contact(plan, out, j).sender;
+    if v != last && gather_window(work, n, block, g, h, depth, source, columns, set, v, u) {
+        return None;
     }
-    if gather_window(work, n, block, g, h, depth, source, columns, set, v, u) {
-        return n;
-    }
-    v
+    Some(v)
 }
 
 // Gathers the windows of the senders of the records from j to before end. True where a count does not fit a lane, at the first.
@@ -414,15 +400,13 @@ fn gather_records(
         (column_of columns set.now (block * 2 ^ split_of columns)) work.old u n j (end - j) }
 {
     let mut last = n;
-    let mut i = j;
-    while i < end {
-        last = gather_next(
+    for i in j..end {
+        let Some(v) = gather_next(
             work, plan, out, n, block, g, h, depth, source, columns, set, u, last, i,
-        );
-        if last == n {
+        ) else {
             return true;
-        }
-        i += 1;
+        };
+        last = v;
     }
     false
 }
@@ -464,10 +448,8 @@ fn send_records(
     ensures { work.new ≡
         sent_records (lacking_record plan.now out) n block from to work.old j (end - j) }
 {
-    let mut i = j;
-    while i < end {
+    for i in j..end {
         send_record(work, plan, out, n, block, from, to, i);
-        i += 1;
     }
 }
 
@@ -501,7 +483,7 @@ fn push_marks(
     let link = work[head] % 72057594037927936;
     let mark = number_mark(n, block, depth, k);
     work[mark] = link * 256 + u as u64 % 256;
-    let next = std::num::wrapping_add_u64(k as u64, 1);
+    let next = (k as u64).wrapping_add(1);
     work[head] = next;
     let counter = mark_at(n, block, depth, depth, source);
     work[counter] = next;
@@ -541,10 +523,7 @@ fn keep_one(
     let l = work[at];
     if l < 65535 {
         let d = work[at + n];
-        if d == 0 {
-            return true;
-        }
-        if pass::wide_at(work, n, v, l, d, columns) {
+        if d == 0 || pass::wide_at(work, n, v, l, d, columns) {
             return true;
         }
         take(work, n, block, 0, v, size, v, 0);
@@ -572,8 +551,8 @@ fn keep_record(
     ensures { sweep_of result work.new ≡ kept_next (lanes_by (split_of columns)) n block depth source u work.old
         (contact_at (lacking_record plan.now out) j).hearer }
 {
-    let c = plan::kept_contact(plan, out, j);
-    keep_one(work, n, block, depth, source, columns, u, c.hearer)
+    let v = plan::kept_contact(plan, out, j).hearer;
+    keep_one(work, n, block, depth, source, columns, u, v)
 }
 
 // The same for the records from j to before end, up to the first at whose hearer it is true.
@@ -596,12 +575,10 @@ fn keep_records(
         kept_records (lacking_record plan.now out) (lanes_by (split_of columns)) n block depth source u work.old j
         (end - j) }
 {
-    let mut i = j;
-    while i < end {
+    for i in j..end {
         if keep_record(work, plan, out, n, block, depth, source, columns, u, i) {
             return true;
         }
-        i += 1;
     }
     false
 }
@@ -680,8 +657,7 @@ pub fn pass_window(
 {
     begin_window(work, n, block, depth, source, columns);
     let mut j = 0;
-    let mut u = 1;
-    while u <= t {
+    for u in 1..t + 1 {
         let end = plan::kept_slot_end(plan, out, j, u);
         if window_slot(
             work, plan, out, n, block, g, h, depth, source, columns, set, u, j, end,
@@ -689,7 +665,6 @@ pub fn pass_window(
             return Err(pass::stop_reason(columns));
         }
         j = end;
-        u += 1;
     }
     pass::end_pass(work, n, t, n)
 }
@@ -699,17 +674,7 @@ fn load_of(n: usize, j: usize, end: usize) -> usize
     requires { j ≤ end }
     ensures { result ≡ min n (end - j) }
 {
-    pass::smaller(n, end - j)
-}
-
-// The slot h slots before slot u, or 0.
-fn slot_before(h: usize, u: usize) -> usize
-    ensures { result ≡ u - h }
-{
-    if u <= h {
-        return 0;
-    }
-    u - h
+    n.min(end - j)
 }
 
 // The larger of a depth and the least for which n stations have room for so many appearances.
@@ -717,11 +682,7 @@ fn deeper(depth: usize, n: usize, load: usize) -> usize
     requires { (0 < n) × (n ≤ 256) × (load ≤ 65536) }
     ensures { (depth ≤ result) × (load ≤ n * result) }
 {
-    let least = (load + (n - 1)) / n;
-    if depth < least {
-        return least;
-    }
-    depth
+    depth.max(load.div_ceil(n))
 }
 
 // A depth for a plan: as many parts of the ring as a reading is kept for slots, or as have room for the appearances of any h slots, if those
@@ -734,20 +695,17 @@ pub fn depth_of(plan: &[u8], n: usize, t: usize, h: usize) -> usize
     let mut load = 0;
     let mut enter = 0;
     let mut leave = 0;
-    let mut u = 1;
-    while u <= t {
+    for u in 1..t + 1 {
         let entered = plan::slot_end(plan, enter, u);
-        let old = slot_before(h, u);
-        let left = plan::slot_end(plan, leave, old);
+        let left = plan::slot_end(plan, leave, u.saturating_sub(h));
         let more = load_of(n, enter, entered);
         let less = load_of(n, leave, left);
         load = load + more - less;
         depth = deeper(depth, n, load);
         enter = entered;
         leave = left;
-        u += 1;
     }
-    pass::smaller(h, depth)
+    h.min(depth)
 }
 
 // The most columns for which the pass fits e entries for each of n stations.
@@ -755,5 +713,5 @@ pub fn window_columns(n: usize, e: usize, depth: usize) -> usize
     requires { 4 * depth + 10 ≤ e }
     ensures { result ≡ window_columns n e depth }
 {
-    pass::smaller(n, (e - (depth + 1)) / (3 + depth) - 2)
+    n.min((e - (depth + 1)) / (3 + depth) - 2)
 }

@@ -1,11 +1,8 @@
 -- `stale::deeper` meets its contract.
 -- Assumes nothing.
 use Rattle.std.proofs.Common.{arith}
-use Rattle.stale.proofs.DepthLaws.{deeper_least, deeper_more}
+use Rattle.stale.proofs.DepthLaws.{deeper_more}
 use Rattle.stale.proofs.deeper.Goals as goal
-
-pub returns-then-depth-least : goal.returns-then-depth-least
-returns-then-depth-least c = (omega arith, deeper_least _ _ c.requires.0)
 
 pub returns : goal.returns
 returns c = (omega arith, deeper_more _ _ _ c.requires.0 (omega arith))

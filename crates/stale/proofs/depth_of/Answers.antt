@@ -1,5 +1,5 @@
 -- `stale::depth_of` meets its contract. The loop's invariant: the sum is that of the h slots before u, and the depth has room for them and
--- for any h slots before. The measure is the number of slots left.
+-- for any h slots before.
 -- Assumes nothing.
 use Rattle.std.proofs.Common.{refl, arith}
 use Rattle.walks.proofs.Accepted.{accepted}
@@ -25,7 +25,7 @@ pub overflow_add-load : goal.overflow_add-load
 overflow_add-load c =
     omega (
       arith,
-      (slide_fits _ _ _ _ c.requires _ _ _ _ _ _ _ _ _ _ c.loop-u.invariant c.slot_end-entered.ensures c.slot_before-old.ensures
+      (slide_fits _ _ _ _ c.requires _ _ _ _ _ _ _ _ _ _ c.loop-u.invariant c.slot_end-entered.ensures c.saturating_sub.ensures
           c.slot_end-left.ensures c.load_of-more.ensures c.load_of-less.ensures).1,
     )
 
@@ -33,7 +33,7 @@ pub overflow_sub-load : goal.overflow_sub-load
 overflow_sub-load c =
     omega (
       arith,
-      (slide_fits _ _ _ _ c.requires _ _ _ _ _ _ _ _ _ _ c.loop-u.invariant c.slot_end-entered.ensures c.slot_before-old.ensures
+      (slide_fits _ _ _ _ c.requires _ _ _ _ _ _ _ _ _ _ c.loop-u.invariant c.slot_end-entered.ensures c.saturating_sub.ensures
           c.slot_end-left.ensures c.load_of-more.ensures c.load_of-less.ensures).0,
     )
 
@@ -42,23 +42,20 @@ deeper-depth-requires c =
     let plan_kept = accepted _ _ _ c.requires.accepted in (
       plan_kept.some_station,
       plan_kept.stations,
-      (slide_fits _ _ _ _ c.requires _ _ _ _ _ _ _ _ _ _ c.loop-u.invariant c.slot_end-entered.ensures c.slot_before-old.ensures
+      (slide_fits _ _ _ _ c.requires _ _ _ _ _ _ _ _ _ _ c.loop-u.invariant c.slot_end-entered.ensures c.saturating_sub.ensures
           c.slot_end-left.ensures c.load_of-more.ensures c.load_of-less.ensures).2,
     )
 
-pub overflow_add-u : goal.overflow_add-u
-overflow_add-u c =
+pub overflow_add-u-end : goal.overflow_add-u-end
+overflow_add-u-end c =
     omega (arith, (accepted _ _ _ c.requires.accepted).slots)
-
-pub loop-u-smaller : goal.loop-u-smaller
-loop-u-smaller c = omega arith
 
 pub loop-u-preserved : goal.loop-u-preserved
 loop-u-preserved c =
-    sliding_more _ _ _ _ c.requires _ _ _ _ _ _ _ _ _ _ c.loop-u.invariant c.slot_end-entered.ensures c.slot_before-old.ensures
+    sliding_more _ _ _ _ c.requires _ _ _ _ _ _ _ _ _ _ c.loop-u.invariant c.slot_end-entered.ensures c.saturating_sub.ensures
     c.slot_end-left.ensures c.load_of-more.ensures c.load_of-less.ensures
     _ _ refl c.deeper-depth.ensures.0 c.deeper-depth.ensures.1
 
 pub returns : goal.returns
 returns c =
-    depth_found _ _ _ _ c.requires _ _ _ _ _ _ (omega arith) c.loop-u.invariant c.smaller.ensures
+    depth_found _ _ _ _ c.requires _ _ _ _ _ _ (omega arith) c.loop-u.invariant c.min.ensures

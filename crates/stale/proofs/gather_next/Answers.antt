@@ -3,15 +3,12 @@
 use Rattle.std.proofs.Common.{ap, arith}
 use Rattle.stale.proofs.WindowSteps.{next_same, next_stop, next_other}
 use Rattle.stale.proofs.gather_next.Goals as goal
-
-pub returns-then-v-last : goal.returns-then-v-last
-returns-then-v-last c =
-    next_same _ _ _ _ _ _ _ _ _ _ _ _ (ap (λ d. d.sender) c.kept_contact-c.ensures) c.requires.3 (omega arith)
+use Rattle.stale.proofs.gather_next.Goals.{else-v-last-via-else-v-last, else-v-last-via-then-v-last+else-gather_window}
 
 pub gather_window-requires : goal.gather_window-requires
 gather_window-requires c = (
   c.requires.0,
-  omega (arith, ap (λ d. d.sender) c.kept_contact-c.ensures, c.requires.3),
+  omega (arith, ap (λ d. d.sender) c.kept_contact-v.ensures, c.requires.3),
   c.requires.1,
   c.requires.4,
   c.requires.5,
@@ -19,10 +16,15 @@ gather_window-requires c = (
 
 pub returns-then-gather_window : goal.returns-then-gather_window
 returns-then-gather_window c =
-    next_stop _ _ _ _ _ _ _ _ _ _ _ _ (ap (λ d. d.sender) c.kept_contact-c.ensures) c.requires.3 _ _ (omega arith)
+    next_stop _ _ _ _ _ _ _ _ _ _ _ _ (ap (λ d. d.sender) c.kept_contact-v.ensures) _ _ (omega arith)
     c.gather_window.ensures c.if-gather_window.true
 
 pub returns : goal.returns
 returns c =
-    next_other _ _ _ _ _ _ _ _ _ _ _ _ (ap (λ d. d.sender) c.kept_contact-c.ensures) c.requires.3 _ _ (omega arith)
-    c.gather_window.ensures c.if-gather_window.false
+    elim c.else-v-last.branch [
+      | else-v-last-via-else-v-last w ↦
+          rw w.work-is (next_same _ _ _ _ _ _ _ _ _ _ _ _ (ap (λ d. d.sender) c.kept_contact-v.ensures) (omega arith))
+      | else-v-last-via-then-v-last+else-gather_window w ↦
+          rw w.work-is (next_other _ _ _ _ _ _ _ _ _ _ _ _ (ap (λ d. d.sender) c.kept_contact-v.ensures) _ _ (omega arith)
+          w.gather_window.ensures w.if-gather_window.false)
+    ]

@@ -4,14 +4,16 @@
 use Rattle.std.proofs.Common.{arith}
 use Rattle.stale.proofs.WindowSteps.{kept_over, kept_wide, kept_within, kept_none}
 use Rattle.stale.proofs.keep_one.Goals as goal
+use Rattle.stale.proofs.keep_one.Goals.{then-d-eq0-via-then-d-eq0, then-d-eq0-via-else-d-eq0+then-wide_at}
 
 pub returns-then-d-eq0 : goal.returns-then-d-eq0
 returns-then-d-eq0 c =
-    kept_over _ _ _ _ _ _ _ _ _ c.part_size-size.ensures (omega arith) (omega arith)
-
-pub returns-then-wide_at : goal.returns-then-wide_at
-returns-then-wide_at c =
-    kept_wide _ _ _ _ _ _ _ _ _ c.part_size-size.ensures _ (omega arith) (omega arith) c.wide_at.ensures c.if-wide_at.true
+    elim c.then-d-eq0.branch [
+      | then-d-eq0-via-then-d-eq0 w ↦
+          kept_over _ _ _ _ _ _ _ _ _ c.part_size-size.ensures (omega arith) (omega arith)
+      | then-d-eq0-via-else-d-eq0+then-wide_at w ↦
+          kept_wide _ _ _ _ _ _ _ _ _ c.part_size-size.ensures _ (omega arith) (omega arith) w.wide_at.ensures w.if-wide_at.true
+    ]
 
 pub returns-else-wide_at : goal.returns-else-wide_at
 returns-else-wide_at c =

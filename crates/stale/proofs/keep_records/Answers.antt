@@ -28,12 +28,6 @@ returns-then-keep_record c =
     keeping_stop _ _ _ _ _ _ _ _ _ _ _ _ _ _ (omega arith) c.loop-i.invariant c.keep_record.ensures
     c.if-keep_record.true
 
-pub overflow_add-i : goal.overflow_add-i
-overflow_add-i c = omega arith
-
-pub loop-i-smaller : goal.loop-i-smaller
-loop-i-smaller c = omega arith
-
 pub loop-i-preserved : goal.loop-i-preserved
 loop-i-preserved c =
     keeping_more _ _ _ _ _ _ _ _ _ _ _ _ _ _ (omega arith) c.loop-i.invariant c.keep_record.ensures c.if-keep_record.false

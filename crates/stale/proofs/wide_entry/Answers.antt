@@ -12,6 +12,6 @@ pub returns-then-h-lt65535 : goal.returns-then-h-lt65535
 returns-then-h-lt65535 c =
     entry_some _ _ _ _ _ c.split_of-split.ensures _ (omega arith) c.too_wide.ensures
 
-pub returns : goal.returns
-returns c =
+pub returns-else-h-lt65535 : goal.returns-else-h-lt65535
+returns-else-h-lt65535 c =
     entry_none _ _ _ _ _ c.split_of-split.ensures (omega arith)

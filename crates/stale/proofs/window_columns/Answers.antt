@@ -8,4 +8,4 @@ pub overflow_sub-e-2 : goal.overflow_sub-e-2
 overflow_sub-e-2 c = omega (arith, three_parts c.args.n _ _ c.requires)
 
 pub returns : goal.returns
-returns c = columns_by _ _ _ _ c.smaller.ensures
+returns c = columns_by _ _ _ _ c.min.ensures
