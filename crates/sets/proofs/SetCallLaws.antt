@@ -6,11 +6,12 @@ use mathlib.Core.Path.{◌≡◌, refl, sym, ap, ap₂, subst, ◌∙◌}
 use mathlib.Core.Bool.{Bool, true, false}
 use mathlib.Core.List.{List, [], ◌∷◌}
 use mathlib.Core.Logic.{◌≢◌, by_cases, ⊎_elim}
-use borrow.Author.Tests.{lt-ltb, le-ltb, eq-eqb, ne_eqb}
+use borrow.Author.Tests.{lt-ltb, ltb-true, eq-eqb, ne_eqb}
 use lib.Dec.{ltb}
-use lib.ListN.{length, get_or, replicate}
+use lib.ListN.{length, get_or, take, replicate}
+use Rattle.std.proofs.lemmas.List.{length-take-le, get_or-take}
+use Rattle.entries.proofs.SearchLaws.{any_by}
 use Rattle.temporal.specs.Plan.{Terms, Allowed}
-use Rattle.temporal.specs.Lists.{any, from}
 use Rattle.temporal.specs.Shortest.{shortest_walks_to, hops}
 use Rattle.temporal.specs.Set.{touched}
 use Rattle.temporal.specs.Bytes.{plan_of}
@@ -27,14 +28,10 @@ use Rattle.walks.proofs.ShortestLaws.{hops_empty}
 use Rattle.plan.specs.Fault.{plan_number, call_number, check_number}
 use Rattle.plan.specs.declared.PlanFault.{PlanFault}
 use Rattle.plan.specs.declared.CallFault.{CallFault}
-use Rattle.plan.specs.declared.CheckAnswer.{CheckAnswer}
-use Rattle.plan.specs.declared.CheckAnswer.TheVariants as check-answer
 use Rattle.plan.proofs.Answers.{number-positive, call-number-within}
+use Rattle.std.specs.Prelude.{Result, Ok, Err, IsTrue, SomeIndex, ◌↔◌}
 use Rattle.calls.specs.Call.{pair_call_fault, call_check_number}
-use Rattle.calls.specs.declared.CallCheck.{CallCheck}
-use Rattle.calls.specs.declared.CallCheck.TheVariants as call-check
 use Rattle.calls.proofs.CallLaws.{free_call}
-use Rattle.entries.proofs.SearchLaws.{any_found, any_pass, any_end, any_start}
 use Rattle.forward.specs.Passed.{pass_size, Counted, SetReady, SetPassed}
 use Rattle.forward.proofs.SizeLaws.{small_fits, first_part}
 use Rattle.sets.specs.Work.{SetAsked, touched_entry, Readable}
@@ -52,23 +49,22 @@ module _ (work : List ℕ) (n z : ℕ) where
 
 -- ---- the search of the bytes
 
--- whether a byte is neither 0 nor 1
-abbrev pub wrong_byte : List ℕ → ℕ → Bool
-wrong_byte set v = ltb 1 (get_or set v 0)
-
-pub search_start : (set : List ℕ) (n : ℕ) → wrong_set n set ≡ any (wrong_byte set) (from 0 (n - 0))
+-- an answer that is true exactly where one of the first n bytes is above 1
+pub wrong_by :
+    (set : List ℕ) (n : ℕ) → n ≤ length set → (b : Bool) →
+    (IsTrue b ↔ SomeIndex (take n set) (λ k. 1 < get_or (take n set) k 0)) → b ≡ wrong_set n set
 unfolding wrong_set
-search_start set n = any_start (wrong_byte set) n
-
-module _ (set : List ℕ) (n v : ℕ) (rest : wrong_set n set ≡ any (wrong_byte set) (from v (n - v))) where
-  pub search_found : v < n → 1 < get_or set v 0 → wrong_set n set ≡ true
-  search_found h e = rest ∙ any_found (wrong_byte set) v n h (lt-ltb 1 (get_or set v 0) e)
-
-  pub search_pass : v < n → get_or set v 0 ≤ 1 → wrong_set n set ≡ any (wrong_byte set) (from (v + 1) (n - (v + 1)))
-  search_pass h e = rest ∙ any_pass (wrong_byte set) v n h (le-ltb 1 (get_or set v 0) e)
-
-  pub search_end : n ≤ v → wrong_set n set ≡ false
-  search_end h = rest ∙ any_end (wrong_byte set) v n h
+wrong_by set n room b h =
+    let size = length-take-le n set room in
+    any_by (λ v. ltb 1 (get_or set v 0)) n b (
+      λ e.
+          let some = h.0 e in
+          let inside : some.0 < n = let low = some.1 in omega arith in
+          (some.0, inside, lt-ltb 1 (get_or set some.0 0) (rw (get_or-take n set some.0 0 inside) at some.2)),
+      λ some.
+          h.1
+          (some.0, let low = some.1 in omega arith, rw (get_or-take n set some.0 0 some.1) (ltb-true 1 (get_or set some.0 0) some.2)),
+    )
 
 -- ---- the work
 
@@ -175,7 +171,7 @@ module _ (bs : List ℕ) (n t : ℕ) (terms : Terms) (s z : ℕ) (set area : Lis
 
   -- a plan that check refuses
   pub set_plan :
-      (r : CheckAnswer) (f : PlanFault) → check_number r ≡ plan_fault bs n t → r ≡ check-answer.Refused f →
+      (r : Result (Unit {0}) PlanFault) (f : PlanFault) → check_number r ≡ plan_fault bs n t → r ≡ Err f →
       ◌≡◌ {A = Outcome ℕ (List ℕ)} (record { number = plan_number f; values = 0; buffers = area })
       (through_set bs n t terms s z set area)
   unfolding through_set work
@@ -185,10 +181,10 @@ module _ (bs : List ℕ) (n t : ℕ) (terms : Terms) (s z : ℕ) (set area : Lis
       ap (refused_with 0 area work) number ∙ sym (entered_plan 0 area work bs n t _ (omega arith))
 
   module _ (ok : plan_fault bs n t ≡ 0) where
-    module _ (r : CallCheck) (answer : call_check_number r ≡ pair_call_fault n t terms s z (length set) n (length area)) where
+    module _ (r : Result (Unit {0}) CallFault) (answer : call_check_number r ≡ pair_call_fault n t terms s z (length set) n (length area)) where
       -- 12, 14, 6, 7 or 8
       pub set_call :
-          (f : CallFault) → r ≡ call-check.Refused f →
+          (f : CallFault) → r ≡ Err f →
           ◌≡◌ {A = Outcome ℕ (List ℕ)} (record { number = call_number f; values = 0; buffers = area })
           (through_set bs n t terms s z set area)
       unfolding through_set entered set_causes pair_call_fault work
@@ -200,7 +196,7 @@ module _ (bs : List ℕ) (n t : ℕ) (terms : Terms) (s z : ℕ) (set area : Lis
           sym (entered_call 0 area work bs n t _ ok ∙ unless_some _ _ _ (omega arith))
 
       -- none of them
-      pub set_asked : r ≡ call-check.Free → SetAsked bs n t terms s z set area
+      pub set_asked : r ≡ Ok tt → SetAsked bs n t terms s z set area
       set_asked e =
           let f = free_call n t terms s z (length set) n (length area) (sym answer ∙ ap call_check_number e) in
           record {

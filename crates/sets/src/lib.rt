@@ -5,34 +5,18 @@
 ghost use Rattle.std.specs.Prelude.{◌≡◌, ◌≤◌, length};
 ghost use Rattle.temporal.specs.Plan.{units};
 ghost use Rattle.temporal.specs.Bytes.{plan_of};
-ghost use Rattle.temporal.specs.Cause.{plan_fault};
 ghost use Rattle.temporal.specs.OutcomeSet.{wrong_set, set_counted, through_set};
 ghost use Rattle.sets.specs.Answer.{set_outcome};
 ghost use Rattle.sets.specs.Work.{SetAsked, touched_entry, Readable};
 
-use calls::CallCheck;
-use plan::{CallFault, CheckAnswer, Fault};
-
-// What the operation answers.
-#[derive(Clone, Copy)]
-pub enum SetAnswer {
-    Counted(u64),
-    Refused(Fault),
-}
+use plan::{CallFault, Fault};
 
 // Whether one of the first n bytes is neither 0 nor 1.
 fn wrong_set(set: &[u8], n: usize) -> bool
     requires { n ≤ length set.now }
     ensures { result ≡ wrong_set n set.now }
 {
-    let mut v = 0;
-    while v < n {
-        if 1 < set[v] {
-            return true;
-        }
-        v += 1;
-    }
-    false
+    set[..n].iter().any(|x| 1 < *x)
 }
 
 // How many shortest walks to the destination have a member inside, from what the pass left.
@@ -41,9 +25,10 @@ fn touched_at(work: &[u64], n: usize, z: usize) -> u64
     ensures { result ≡ touched_entry work.now n z }
 {
     if work[z] == 65535 {
-        return 0;
+        0
+    } else {
+        work[n + z] - work[2 * n + z]
     }
-    work[n + z] - work[2 * n + z]
 }
 
 // The operation once 1 to 8, 11, 12 and 14 are excluded.
@@ -57,63 +42,18 @@ fn set_work(
     s: usize,
     z: usize,
     set: &[u8],
-) -> SetAnswer
+) -> Result<u64, Fault>
     requires { SetAsked plan.now n t (units g h) s z set.now work.old }
     ensures { set_outcome result work.new ≡
         set_counted (plan_of plan.now n t (units g h)) s z set.now work.old }
 {
     if forward::set_pass(work, plan, n, t, g, h, s, z, set) {
         memory::clear(work, 4 * (n * (t + 1)));
-        return SetAnswer::Refused(Fault::Call(CallFault::TooMany));
+        return Err(Fault::Call(CallFault::TooMany));
     }
     let count = touched_at(work, n, z);
     memory::clear(work, 4 * (n * (t + 1)));
-    SetAnswer::Counted(count)
-}
-
-// The operation once 1 to 8, 12 and 14 are excluded: 11, then the work.
-fn set_free(
-    work: &mut [u64],
-    plan: &[u8],
-    n: usize,
-    t: usize,
-    g: usize,
-    h: usize,
-    s: usize,
-    z: usize,
-    set: &[u8],
-) -> SetAnswer
-    requires { SetAsked plan.now n t (units g h) s z set.now work.old }
-    ensures { set_outcome result work.new ≡
-        through_set plan.now n t (units g h) s z set.now work.old }
-{
-    if wrong_set(set, n) {
-        return SetAnswer::Refused(Fault::Call(CallFault::SetByte));
-    }
-    set_work(work, plan, n, t, g, h, s, z, set)
-}
-
-// The operation on an accepted plan: 12, 14, 6, 7 and 8, then the rest.
-fn set_accepted(
-    work: &mut [u64],
-    plan: &[u8],
-    n: usize,
-    t: usize,
-    g: usize,
-    h: usize,
-    s: usize,
-    z: usize,
-    set: &[u8],
-) -> SetAnswer
-    requires { plan_fault plan.now n t ≡ 0 }
-    ensures { set_outcome result work.new ≡
-        through_set plan.now n t (units g h) s z set.now work.old }
-{
-    let CallCheck::Refused(fault) = calls::pair_call(n, t, g, h, s, z, set.len(), n, work.len())
-    else {
-        return set_free(work, plan, n, t, g, h, s, z, set);
-    };
-    SetAnswer::Refused(Fault::Call(fault))
+    Ok(count)
 }
 
 // How many shortest walks from s to z have at least one member of the set inside, 0 where there is no walk. The set has a byte
@@ -128,12 +68,14 @@ pub fn through_set(
     z: usize,
     set: &[u8],
     work: &mut [u64],
-) -> SetAnswer
+) -> Result<u64, Fault>
     ensures { set_outcome result work.new ≡
         through_set plan.now n t (units g h) s z set.now work.old }
 {
-    let CheckAnswer::Refused(fault) = plan::check(plan, n, t) else {
-        return set_accepted(work, plan, n, t, g, h, s, z, set);
-    };
-    SetAnswer::Refused(Fault::Plan(fault))
+    plan::check(plan, n, t)?;
+    calls::pair_call(n, t, g, h, s, z, set.len(), n, work.len())?;
+    if wrong_set(set, n) {
+        return Err(Fault::Call(CallFault::SetByte));
+    }
+    set_work(work, plan, n, t, g, h, s, z, set)
 }

@@ -10,5 +10,5 @@ returns-then-work-z-eq65535 c = sym (entry_none _ _ _ c.if-work-z-eq65535.true)
 pub overflow_sub-result : goal.overflow_sub-result
 overflow_sub-result c = c.requires.at_most c.if-work-z-eq65535.false
 
-pub returns : goal.returns
-returns c = sym (entry_some _ _ _ c.if-work-z-eq65535.false)
+pub returns-else-work-z-eq65535 : goal.returns-else-work-z-eq65535
+returns-else-work-z-eq65535 c = sym (entry_some _ _ _ c.if-work-z-eq65535.false)
