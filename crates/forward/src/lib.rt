@@ -8,7 +8,7 @@ ghost use Rattle.temporal.specs.Bytes.{plan_of};
 ghost use Rattle.temporal.specs.Cause.{is_too_many};
 ghost use Rattle.temporal.specs.Struck.{lacking_record};
 ghost use Rattle.pass.specs.Column.{block_column, column_of, whole, lanes_by, split_of};
-ghost use Rattle.pass.specs.PassedColumns.{area_size, Spared, ColumnsPassed, slot_of};
+ghost use Rattle.pass.specs.PassedColumns.{area_size, Spared, ColumnsPassed};
 ghost use Rattle.stale.specs.Depth.{DepthOf};
 ghost use Rattle.stale.specs.Size.{window_size};
 ghost use Rattle.forward.specs.Passed.{
@@ -69,9 +69,10 @@ pub fn depth(work: &mut [u64], plan: &[u8], n: usize, t: usize, h: usize) -> usi
     ensures { DepthOf plan.now n h work.old work.new result }
 {
     if t <= h + 1 {
-        return h;
+        h
+    } else {
+        stale::depth_of(plan, n, t, h)
     }
-    stale::depth_of(plan, n, t, h)
 }
 
 // The most columns of a row for which the pass fits e entries a station where nothing goes stale, with q parts of what waits.
@@ -79,7 +80,7 @@ fn kept_columns(n: usize, e: usize, q: usize) -> usize
     requires { (q < 18446744073709551615) × (2 * (1 + q) ≤ e) }
     ensures { result ≡ kept_columns n e q }
 {
-    pass::smaller(n, e / (1 + q) - 2)
+    n.min(e / (1 + q) - 2)
 }
 
 // How many entries it uses then, with blocks of so many columns.
@@ -96,10 +97,10 @@ pub fn most_columns(n: usize, t: usize, g: usize, h: usize, depth: usize, e: usi
     ensures { result ≡ most_columns n t (units g h) depth e }
 {
     if t <= h + 1 {
-        let q = pass::smaller(g, t);
-        return kept_columns(n, e, q);
+        kept_columns(n, e, g.min(t))
+    } else {
+        stale::window_columns(n, e, depth)
     }
-    stale::window_columns(n, e, depth)
 }
 
 // How many entries it uses where readings go stale.
@@ -116,10 +117,10 @@ pub fn pass_size(n: usize, t: usize, g: usize, h: usize, depth: usize, block: us
     ensures { result ≡ pass_size n t (units g h) depth block }
 {
     if t <= h + 1 {
-        let q = pass::smaller(g, t);
-        return kept_size(n, q, block);
+        kept_size(n, g.min(t), block)
+    } else {
+        window_size(n, depth, block)
     }
-    window_size(n, depth, block)
 }
 
 // The pass for any columns, to the slot in which the station until is reached. The record at position out is left out; where there is
@@ -147,13 +148,14 @@ fn pass_slots(
         (pass_size n t (units g h) depth block) work.old work.new result }
 {
     if t <= h + 1 {
-        return pass::pass_columns(
+        pass::pass_columns(
             work, plan, out, known, n, t, g, h, source, columns, set, block, until,
-        );
+        )
+    } else {
+        stale::pass_window(
+            work, plan, out, n, t, g, h, depth, source, columns, set, block,
+        )
     }
-    stale::pass_window(
-        work, plan, out, n, t, g, h, depth, source, columns, set, block,
-    )
 }
 
 // The pass for a block of stations, to the slot in which the station until is reached: column j of a row is about station
@@ -194,13 +196,6 @@ pub fn pass_until(
         block,
         until,
     )
-}
-
-// The slot in which a pass ended settled; 0 where it met a count over 2^64 - 1, or too wide for its lane.
-pub fn settled_slot(ended: Result<usize, Stopped>) -> usize
-    ensures { result ≡ slot_of ended }
-{
-    ended.unwrap_or(0)
 }
 
 // The pass for a block of stations through every slot, with 2^split stations to an entry of a row of so many entries, without the record
@@ -363,13 +358,13 @@ pub fn sources_at_once(n: usize, t: usize, g: usize, h: usize, base: usize, left
     requires { GroupAsked n t (units g h) base left }
     ensures { GroupFits n t (units g h) base left result }
 {
-    let few = pass::smaller(left, 32);
+    let few = left.min(32);
     if t <= h + 1 {
-        let q = pass::smaller(g, t);
-        let size = source_size(n, q);
-        return pass::smaller(few, base / size);
+        let q = g.min(t);
+        few.min(base / source_size(n, q))
+    } else {
+        few
     }
-    few
 }
 
 // For each of many sources from first on the split of its rows, two bits each, the first lowest, and that cause 9 does not hold for it; 0
@@ -390,9 +385,10 @@ pub fn widths(
         work.old work.new result }
 {
     if t <= h + 1 {
-        return widths::widths_of(work, plan, out, n, t, g, h, first, many);
+        widths::widths_of(work, plan, out, n, t, g, h, first, many)
+    } else {
+        0
     }
-    0
 }
 
 // What is known of the next sources, from source on and before end: as it is where it is about some, else what the pass without rows finds in
@@ -419,10 +415,7 @@ pub fn refilled(
     }
     let left = sources_at_once(n, t, g, h, base, end - source);
     let word = widths(work, plan, out, n, t, g, h, source, left);
-    Splits {
-        left: left,
-        word: word,
-    }
+    Splits { left, word }
 }
 
 // Nothing is known of any source.

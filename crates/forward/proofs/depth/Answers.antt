@@ -12,5 +12,5 @@ depth_of-requires c =
     let pre = c.requires in
     record { accepted = pre.accepted; keeps = pre.some; most = pre.most }
 
-pub returns : goal.returns
-returns c = depth_untouched _ _ _ _ _ c.depth_of.ensures.0 c.depth_of.ensures.1
+pub returns-else-t-h : goal.returns-else-t-h
+returns-else-t-h c = depth_untouched _ _ _ _ _ c.depth_of.ensures.0 c.depth_of.ensures.1

@@ -10,4 +10,4 @@ overflow_sub-e c = omega (arith, parts_within 2 _ _ (omega arith) c.requires.1)
 
 pub returns : goal.returns
 unfolding kept_columns
-returns c = c.smaller.ensures
+returns c = c.min.ensures

@@ -14,7 +14,7 @@ pub pass_window-requires : goal.pass_window-requires
 pass_window-requires c =
     (window_ready _ _ _ _ _ _ _ _ _ c.requires.0 (omega arith), c.requires.1)
 
-pub returns : goal.returns
-returns c =
+pub returns-else-t-h : goal.returns-else-t-h
+returns-else-t-h c =
     window_passed _ _ _ _ _ _ _ _ _ c.requires.0 (omega arith) _ _ _ _
     c.pass_window.ensures

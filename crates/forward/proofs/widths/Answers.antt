@@ -11,5 +11,5 @@ pub returns-then-t-h : goal.returns-then-t-h
 returns-then-t-h c =
     widths_known _ _ _ _ _ _ _ c.requires (omega arith) _ _ c.widths_of.ensures
 
-pub returns : goal.returns
-returns c = widths_unknown _ _ _ _ _ _ _ c.requires
+pub returns-else-t-h : goal.returns-else-t-h
+returns-else-t-h c = widths_unknown _ _ _ _ _ _ _ c.requires
