@@ -1,11 +1,12 @@
 -- A lane by shifts of 64-bit words. Assumes nothing.
 use Prim.Native.Nat.{ℕ, ◌+◌, ◌-◌, ◌*◌, ◌/◌, ◌%◌, ◌^◌, ◌<◌, ◌≤◌}
-use native.Mathlib.Nat.{div-add-mod', mod-eq_of_lt}
 use mathlib.Core.Path.{◌≡◌, sym, ap, ◌∙◌}
 use native.Mathlib.Omega.{arith}
 use lib.Pow.{field, shr-shr, shl-shr, shl_exact}
-use Rattle.lanes.specs.Lane.{lane, without_lane}
-use Rattle.lanes.proofs.LaneLaws.{lane_part, lane_below}
+use Rattle.std.specs.Prelude.{bit_and}
+use Rattle.std.proofs.lemmas.Nat.{and_mask}
+use Rattle.lanes.specs.Lane.{lane, without_lane, lanes_of}
+use Rattle.lanes.proofs.LaneLaws.{lane_part, lane_below, lanes_shift}
 
 -- shifted left until the lane is the highest, then right until it is the lowest
 pub lane_shifts : (x w l : ℕ) → w * l + w ≤ 64 → x * 2 ^ (64 - w - w * l) % 2 ^ 64 / 2 ^ (64 - w) ≡ lane w x l
@@ -37,17 +38,7 @@ module _ (x w l : ℕ) {r : ℕ} (inside : w * l + w ≤ 64) (read : r ≡ lane 
 pub shifted_up : (x s : ℕ) → s ≤ 3 → x < 2 ^ 60 → x * 2 ^ s % 2 ^ 64 ≡ x * 2 ^ s
 shifted_up x s few small = shl_exact 60 s 64 small (omega arith)
 
-module _ (x s : ℕ) (small : x < 2 ^ 63) where
-  whole_part : x / 2 ^ s * 2 ^ s + x % 2 ^ s ≡ x
-  whole_part = div-add-mod' x (2 ^ s)
-
-  held : x / 2 ^ s * 2 ^ s % 2 ^ 64 ≡ x / 2 ^ s * 2 ^ s
-  held = mod-eq_of_lt (omega (arith, whole_part))
-
-  -- what is shifted out is no more than the number
-  pub shifted_out : x / 2 ^ s * 2 ^ s % 2 ^ 64 ≤ x
-  shifted_out = rw held (omega (arith, whole_part))
-
-  -- and taken from it, it leaves the lowest places
-  pub shifted_rest : x - x / 2 ^ s * 2 ^ s % 2 ^ 64 ≡ x % 2 ^ s
-  shifted_rest = rw held (omega (arith, whole_part))
+-- the lowest s places of a number
+pub masked : (x s : ℕ) → s ≤ 3 → bit_and x (1 * 2 ^ s % 2 ^ 64 - 1) ≡ x % 2 ^ s
+unfolding lanes_of
+masked x s few = ap (λ n. bit_and x (n - 1)) (lanes_shift s few) ∙ and_mask x s

@@ -27,9 +27,9 @@ pub fn ones_of(s: usize) -> u64
 {
     match s {
         0 => 1,
-        1 => 4294967297,
-        2 => 281479271743489,
-        _ => 72340172838076673,
+        1 => 0x0000_0001_0000_0001,
+        2 => 0x0001_0001_0001_0001,
+        _ => 0x0101_0101_0101_0101,
     }
 }
 
@@ -47,10 +47,10 @@ pub fn limit_of(s: usize) -> u64
     ensures { result ≡ 2 ^ (64 / 2 ^ s) - 1 }
 {
     match s {
-        0 => 18446744073709551615,
-        1 => 4294967295,
-        2 => 65535,
-        _ => 255,
+        0 => u64::MAX,
+        1 => u64::from(u32::MAX),
+        2 => u64::from(u16::MAX),
+        _ => u64::from(u8::MAX),
     }
 }
 
@@ -67,7 +67,7 @@ pub fn lane_of(j: usize, s: usize) -> usize
     requires { (s ≤ 3) × (j < 2 ^ 63) }
     ensures { result ≡ j % 2 ^ s }
 {
-    j - ((j >> s) << s)
+    j & ((1 << s) - 1)
 }
 
 // How many columns so many entries hold.
