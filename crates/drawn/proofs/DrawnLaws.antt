@@ -29,20 +29,15 @@ use Rattle.walks.proofs.EnteredLaws.{
 }
 use Rattle.lists.proofs.ListLaws.{true_or_false}
 use Rattle.counting.proofs.ExactSum.{pairs_at_most, load_below}
-use Rattle.plan.specs.Fault.{plan_number, call_number, fault_number, check_number}
+use Rattle.plan.specs.Fault.{plan_number, call_number, fault_number, check_number, answer_number}
 use Rattle.plan.specs.declared.Fault.{Fault}
 use Rattle.plan.specs.declared.CallFault.{CallFault}
 use Rattle.plan.specs.declared.PlanFault.{PlanFault}
-use Rattle.plan.specs.declared.CheckAnswer.{CheckAnswer}
-use Rattle.plan.specs.declared.CheckAnswer.TheVariants as check-answer
+use Rattle.std.specs.Prelude.{Result, Ok, Err}
 use Rattle.plan.proofs.Answers.{number-positive, fault-number-within}
 use Rattle.calls.specs.Call.{call_check_number}
-use Rattle.calls.specs.declared.CallCheck.{CallCheck}
-use Rattle.calls.specs.declared.CallCheck.TheVariants as call-check
 use Rattle.calls.proofs.CallLaws.{terms_allowed, terms_refused}
-use Rattle.loads.specs.Answer.{load_buffers, loads_outcome, loads_number}
-use Rattle.loads.specs.declared.LoadsAnswer.{LoadsAnswer}
-use Rattle.loads.specs.declared.LoadsAnswer.TheVariants as loads-answer
+use Rattle.loads.specs.Answer.{load_buffers, loads_outcome}
 use Rattle.drawn.specs.Answer.{drawn_buffers, drawn_outcome}
 use Rattle.drawn.specs.Work.{records_from, Drawable, DrawnReady}
 use Rattle.drawn.proofs.RecordsLaws.{records_all}
@@ -50,7 +45,7 @@ use Rattle.drawn.proofs.RecordsLaws.{records_all}
 -- ---- the work, from what loads leaves
 
 module _ (bs : List ℕ) (n t : ℕ) (terms : Terms) (ps ls rs area : List ℕ) (ready : DrawnReady bs n t terms ps ls rs area)
-    (r : LoadsAnswer) (ps' ls' area' : List ℕ)
+    (r : Result (Unit {0}) Fault) (ps' ls' area' : List ℕ)
     (left : loads_outcome r (load_buffers ps' ls' area') ≡ partly_loaded (plan_of bs n t terms) n (load_buffers ps ls area)) where
   -- the records besides
   drawn_by :
@@ -66,32 +61,32 @@ module _ (bs : List ℕ) (n t : ℕ) (terms : Terms) (ps ls rs area : List ℕ) 
       left e
 
   -- loads refused: its number is 9, and the records are cleared
-  module _ (f : Fault) (is : r ≡ loads-answer.Refused f) where
+  module _ (f : Fault) (is : r ≡ Err f) where
     many : too_many_anywhere (plan_of bs n t terms) ≡ true
     unfolding partly_loaded plan_of
     many =
         ⊎_elim
         (λ yes. yes)
         (λ no.
-        let number : fault_number f ≡ 0 = ap loads_number (sym is) ∙ ap (λ o. o.number) (rw no at left) in
+        let number : fault_number f ≡ 0 = ap answer_number (sym is) ∙ ap (λ o. o.number) (rw no at left) in
         absurd (omega (arith, (fault-number-within f).0)))
         (true_or_false (too_many_anywhere (plan_of bs n t terms)))
 
     pub drawn_refused :
         (rs' : List ℕ) → rs' ≡ over (replicate (records_size n) 0) rs →
-        drawn_outcome (loads-answer.Refused f) (drawn_buffers ps' ls' rs' area') ≡
+        drawn_outcome (Err f) (drawn_buffers ps' ls' rs' area') ≡
         drawn_loaded (plan_of bs n t terms) (drawn_buffers ps ls rs area)
     unfolding cleared
     drawn_refused rs' e =
         ap (λ a. drawn_outcome a (drawn_buffers ps' ls' rs' area')) (sym is) ∙ drawn_by rs' (rw many e)
 
   -- loads went through: the tables have the pairs and the loads, which are small enough to be drawn
-  module _ (is : r ≡ loads-answer.Loaded) where
+  module _ (is : r ≡ Ok tt) where
     few : too_many_anywhere (plan_of bs n t terms) ≡ false
     unfolding partly_loaded plan_of
     few =
         ⊎_elim
-        (λ yes. absurd (let z : ◌≡◌ {A = ℕ} 0 9 = ap loads_number (sym is) ∙ ap (λ o. o.number) (rw yes at left) in omega arith))
+        (λ yes. absurd (let z : ◌≡◌ {A = ℕ} 0 9 = ap answer_number (sym is) ∙ ap (λ o. o.number) (rw yes at left) in omega arith))
         (λ no. no)
         (true_or_false (too_many_anywhere (plan_of bs n t terms)))
 
@@ -129,7 +124,7 @@ module _ (bs : List ℕ) (n t : ℕ) (terms : Terms) (ps ls rs area : List ℕ) 
 
     pub drawn_loaded_law :
         (rs' : List ℕ) → rs' ≡ over (records_from ps' ls' 0 n) rs →
-        drawn_outcome loads-answer.Loaded (drawn_buffers ps' ls' rs' area') ≡
+        drawn_outcome (Ok tt) (drawn_buffers ps' ls' rs' area') ≡
         drawn_loaded (plan_of bs n t terms) (drawn_buffers ps ls rs area)
     unfolding plan_of
     drawn_loaded_law rs' e =
@@ -148,7 +143,7 @@ module _ (bs : List ℕ) (n t : ℕ) (terms : Terms) (ps ls rs area : List ℕ) 
   abbrev Is : ℕ → Type 0
   Is k = ◌≡◌ {A = Outcome (Unit {0}) DrawnBuffers} (record { number = k; values = tt; buffers = buffers }) (drawn_loads bs n t terms buffers)
 
-  pub drawn_plan : (r : CheckAnswer) (f : PlanFault) → check_number r ≡ plan_fault bs n t → r ≡ check-answer.Refused f → Is (plan_number f)
+  pub drawn_plan : (r : Result (Unit {0}) PlanFault) (f : PlanFault) → check_number r ≡ plan_fault bs n t → r ≡ Err f → Is (plan_number f)
   unfolding drawn_loads
   drawn_plan r f answer e =
       let number : plan_number f ≡ plan_fault bs n t = ap check_number (sym e) ∙ answer in
@@ -159,7 +154,7 @@ module _ (bs : List ℕ) (n t : ℕ) (terms : Terms) (ps ls rs area : List ℕ) 
   module _ (ok : plan_fault bs n t ≡ 0) where
     -- 12 or 14
     pub drawn_terms :
-        (r : CallCheck) → call_check_number r ≡ first (terms_causes terms) → (f : CallFault) → r ≡ call-check.Refused f → Is (call_number f)
+        (r : Result (Unit {0}) CallFault) → call_check_number r ≡ first (terms_causes terms) → (f : CallFault) → r ≡ Err f → Is (call_number f)
     unfolding drawn_loads
     drawn_terms r found f e = terms_refused tt buffers _ bs n t terms _ ok r found f e
 

@@ -11,9 +11,7 @@ ghost use Rattle.temporal.specs.OutcomeDrawn.{drawn_loaded, drawn_loads};
 ghost use Rattle.drawn.specs.Answer.{drawn_buffers, drawn_outcome};
 ghost use Rattle.drawn.specs.Work.{entry_record, records_from, Drawable, DrawnReady};
 
-use calls::CallCheck;
-use loads::LoadsAnswer;
-use plan::{CallFault, CheckAnswer, Fault};
+use plan::{CallFault, Fault};
 
 // Writes the record of station v, by its entries in both tables, to its place.
 fn draw_entry(records: &mut [u8], pairs: &[u64], sums: &[u64], n: usize, v: usize)
@@ -44,20 +42,18 @@ fn drawn_loads_work(
     t: usize,
     g: usize,
     h: usize,
-) -> LoadsAnswer
+) -> Result<(), Fault>
     requires { DrawnReady plan.now n t (units g h) pairs.old sums.old records.old work.old }
     ensures { drawn_outcome result (drawn_buffers pairs.new sums.new records.new work.new) ≡
         drawn_loaded (plan_of plan.now n t (units g h))
         (drawn_buffers pairs.old sums.old records.old work.old) }
 {
-    let LoadsAnswer::Refused(fault) = loads::partial_loads_work(
-        pairs, sums, work, plan, n, t, g, h, n,
-    ) else {
-        draw_records(records, pairs, sums, n);
-        return LoadsAnswer::Loaded;
-    };
-    memory::fill8(records, 18 * n, 0);
-    LoadsAnswer::Refused(fault)
+    if let Err(fault) = loads::partial_loads_work(pairs, sums, work, plan, n, t, g, h, n) {
+        memory::fill(records, 18 * n, 0);
+        return Err(fault);
+    }
+    draw_records(records, pairs, sums, n);
+    Ok(())
 }
 
 // The operation once 1 to 5, 12 and 14 are excluded: 8, then the work.
@@ -71,48 +67,20 @@ fn drawn_loads_asked(
     t: usize,
     g: usize,
     h: usize,
-) -> LoadsAnswer
+) -> Result<(), Fault>
     requires { (plan_fault plan.now n t ≡ 0) × (first (terms_causes (units g h)) ≡ 0) }
     ensures { drawn_outcome result (drawn_buffers pairs.new sums.new records.new work.new) ≡
         drawn_loads plan.now n t (units g h)
         (drawn_buffers pairs.old sums.old records.old work.old) }
 {
-    if pairs.len() < n {
-        return LoadsAnswer::Refused(Fault::Call(CallFault::Short));
-    }
-    if sums.len() < n {
-        return LoadsAnswer::Refused(Fault::Call(CallFault::Short));
-    }
-    if records.len() < 18 * n {
-        return LoadsAnswer::Refused(Fault::Call(CallFault::Short));
-    }
-    if work.len() < 4 * (n * (t + 1)) {
-        return LoadsAnswer::Refused(Fault::Call(CallFault::Short));
+    if pairs.len() < n
+        || sums.len() < n
+        || records.len() < 18 * n
+        || work.len() < 4 * (n * (t + 1))
+    {
+        return Err(Fault::Call(CallFault::Short));
     }
     drawn_loads_work(pairs, sums, records, work, plan, n, t, g, h)
-}
-
-// The operation on an accepted plan: 12 and 14, then the rest.
-fn drawn_loads_accepted(
-    pairs: &mut [u64],
-    sums: &mut [u64],
-    records: &mut [u8],
-    work: &mut [u64],
-    plan: &[u8],
-    n: usize,
-    t: usize,
-    g: usize,
-    h: usize,
-) -> LoadsAnswer
-    requires { plan_fault plan.now n t ≡ 0 }
-    ensures { drawn_outcome result (drawn_buffers pairs.new sums.new records.new work.new) ≡
-        drawn_loads plan.now n t (units g h)
-        (drawn_buffers pairs.old sums.old records.old work.old) }
-{
-    let CallCheck::Refused(fault) = calls::terms_call(g, h) else {
-        return drawn_loads_asked(pairs, sums, records, work, plan, n, t, g, h);
-    };
-    LoadsAnswer::Refused(Fault::Call(fault))
 }
 
 // Loads for the drawing program: the pairs and the load of each station, and its record of 18 bytes.
@@ -126,13 +94,12 @@ pub fn drawn_loads(
     sums: &mut [u64],
     records: &mut [u8],
     work: &mut [u64],
-) -> LoadsAnswer
+) -> Result<(), Fault>
     ensures { drawn_outcome result (drawn_buffers pairs.new sums.new records.new work.new) ≡
         drawn_loads plan.now n t (units g h)
         (drawn_buffers pairs.old sums.old records.old work.old) }
 {
-    let CheckAnswer::Refused(fault) = plan::check(plan, n, t) else {
-        return drawn_loads_accepted(pairs, sums, records, work, plan, n, t, g, h);
-    };
-    LoadsAnswer::Refused(Fault::Plan(fault))
+    plan::check(plan, n, t)?;
+    calls::terms_call(g, h)?;
+    drawn_loads_asked(pairs, sums, records, work, plan, n, t, g, h)
 }

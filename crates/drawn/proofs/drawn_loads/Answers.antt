@@ -1,12 +1,22 @@
--- `drawn::drawn_loads` meets its contract: a refusal of the plan is passed on, an accepted plan goes on to the call.
+-- `drawn::drawn_loads` meets its contract: a refusal of the plan, and one for 12 or 14, is passed on, else the rest decides.
 -- Assumes nothing.
 use mathlib.Core.Path.{sym, ap, ◌∙◌}
 use Rattle.plan.specs.Fault.{check_number}
-use Rattle.drawn.proofs.DrawnLaws.{drawn_plan}
+use Rattle.plan.proofs.Answers.{err_is}
+use Rattle.calls.proofs.CallLaws.{terms_free_by}
+use Rattle.drawn.proofs.DrawnLaws.{drawn_plan, drawn_terms}
 use Rattle.drawn.proofs.drawn_loads.Goals as goal
 
-pub drawn_loads_accepted-requires : goal.drawn_loads_accepted-requires
-drawn_loads_accepted-requires c = sym c.check.ensures ∙ ap check_number c.in_default.is
+pub returns-in_err-check : goal.returns-in_err-check
+returns-in_err-check c =
+    rw (err_is _ _ c.from_residual.ensures.1) (drawn_plan _ _ _ _ _ _ _ _ _ _ c.check.ensures c.in_err-check.was)
 
-pub returns : goal.returns
-returns c = drawn_plan _ _ _ _ _ _ _ _ _ _ c.check.ensures c.in-Refused.is
+pub returns-in_err-terms_call : goal.returns-in_err-terms_call
+returns-in_err-terms_call c =
+    let ok = sym c.check.ensures ∙ ap check_number c.in_ok-check.was in
+    rw (err_is _ _ c.from_residual-in_err-terms_call.ensures.1)
+    (drawn_terms _ _ _ _ _ _ _ _ ok _ c.terms_call.ensures _ c.in_err-terms_call.was)
+
+pub drawn_loads_asked-requires : goal.drawn_loads_asked-requires
+drawn_loads_asked-requires c =
+    (sym c.check.ensures ∙ ap check_number c.in_ok-check.was, terms_free_by _ _ c.terms_call.ensures c.in_ok-terms_call.was)
