@@ -5,8 +5,7 @@ use native.Mathlib.Omega.{arith}
 use mathlib.Core.Path.{◌≡◌, refl, sym, ap, ◌∙◌}
 use mathlib.Core.Bool.{Bool, true, false, not, cond, ◌&&◌}
 use mathlib.Core.List.{List}
-use mathlib.Core.Logic.{◌≢◌, inr}
-use borrow.Author.Tests.{eq-eqb, ne_eqb}
+use mathlib.Core.Logic.{inr}
 use lib.Dec.{eqb}
 use lib.ListN.{length, get_or, drop}
 use Rattle.temporal.specs.Lists.{from, below, sum}
@@ -25,7 +24,7 @@ use Rattle.pass.proofs.PassLaws.{drop_same}
 use Rattle.forward.specs.Passed.{pass_size, PassReady, Passed}
 use Rattle.tallies.specs.Progress.{ends}
 use Rattle.tallies.proofs.BlockLaws.{later_same}
-use Rattle.struck.specs.declared.Used.TheVariants as used
+use Rattle.std.specs.Prelude.{Some, None}
 use Rattle.struck.specs.Work.{differs_at, differing_at, differing, Comparable, users_from, CompareReady, ComparedAs, Compared}
 
 -- ---- how many stations differ
@@ -115,7 +114,7 @@ module _ (bs : List ℕ) (i n t : ℕ) (terms : Terms) (d at s : ℕ) (old : Lis
       passed_beyond r x =
           later_drop (pass_size n t terms d 0) (at + 2 * n) new mid (let a = ready.area in omega arith) x.beyond ∙ mid_beyond
 
-      pub compared_over : Passed bs n t terms d s 0 0 mid new true → Compared bs i n t terms at s old new used.TooMany
+      pub compared_over : Passed bs n t terms d s 0 0 mid new true → Compared bs i n t terms at s old new None
       unfolding ComparedAs
       compared_over x =
           record { answer = sym x.too_many; beyond = passed_beyond true x; same_length = x.same_length ∙ mid_length }
@@ -158,7 +157,7 @@ module _ (bs : List ℕ) (i n t : ℕ) (terms : Terms) (d at s : ℕ) (old : Lis
             rw (hops_with, count_with, hops_out, count_out) (sym (uses_differs p i s z (omega arith)))
 
         -- so the number of those that differ is the number of those that use it
-        pub compared_pairs : (k : ℕ) → k ≡ differing n at new s 0 n → Compared bs i n t terms at s old new (used.Pairs k)
+        pub compared_pairs : (k : ℕ) → k ≡ differing n at new s 0 n → Compared bs i n t terms at s old new (Some k)
         unfolding ComparedAs users_from differing differing_at below plan_of
         compared_pairs k is =
             record {

@@ -40,8 +40,7 @@ use Rattle.tallies.specs.Progress.{ends, pair_term, load_term, TallyEntry}
 use Rattle.tallies.specs.Sources.{SourceReady, SourceDone}
 use Rattle.tallies.proofs.BlockLaws.{later_same, entry_later}
 use Rattle.tallies.proofs.TermLaws.{partly_none, load_partly}
-use Rattle.struck.specs.declared.Used.{Used}
-use Rattle.struck.specs.declared.Used.TheVariants as used
+use Rattle.std.specs.Prelude.{Option, Some, None}
 use Rattle.struck.specs.Work.{differs_at, differing_at, differing, Comparable, users_from, ParkReady, ParkDone, with_at, without_at, kept_at}
 use Rattle.struck.specs.Work.{BothSummed, RoomReady, BothReady, BothAs, BothStruck, RoomAs, RoomStruck, RoomAsked, RoomFor}
 use Rattle.struck.proofs.StrikeLaws.{or_second, or_neither, users_few, users_all}
@@ -187,7 +186,7 @@ module _ (bs : List ℕ) (i n t : ℕ) (terms : Terms) (d base block s : ℕ) (o
     done_with r x = subst (λ l. ParkDone l n t terms base (with_at n base) s old first r) (lacking_nothing bs) x
 
     pub both_over_with : ParkDone (lacking_record bs (length bs)) n t terms base (with_at n base) s old first true →
-        BothStruck bs i n t terms base s old first used.TooMany
+        BothStruck bs i n t terms base s old first None
     unfolding BothAs
     both_over_with y =
         let x = done_with true y in
@@ -248,7 +247,7 @@ module _ (bs : List ℕ) (i n t : ℕ) (terms : Terms) (d base block s : ℕ) (o
               copied_other first mid (kept_at n base) 0 (2 * n) kept k (inr (omega arith)) ∙ x.others k (omega arith) (inr (omega arith)))
 
           pub both_over_without : ParkDone (lacking_record bs i) n t terms base (without_at n base) s mid new true →
-              BothStruck bs i n t terms base s old new used.TooMany
+              BothStruck bs i n t terms base s old new None
           unfolding BothAs
           both_over_without z =
               record {
@@ -297,7 +296,7 @@ module _ (bs : List ℕ) (i n t : ℕ) (terms : Terms) (d base block s : ℕ) (o
                 (eqb_turned (count (shortest_walks_to (struck_out p i) s v)) (count (shortest_walks_to p s v))) ∙
                 sym (uses_differs p i s v (omega arith)))
 
-            pub both_pairs : (k : ℕ) → k ≡ differing n (kept_at n base) new s 0 n → BothStruck bs i n t terms base s old new (used.Pairs k)
+            pub both_pairs : (k : ℕ) → k ≡ differing n (kept_at n base) new s 0 n → BothStruck bs i n t terms base s old new (Some k)
             unfolding BothAs users_from differing differing_at below plan_of
             both_pairs k is =
                 record {
@@ -434,7 +433,7 @@ module _ (bs : List ℕ) (i n t : ℕ) (terms : Terms) (d base block : ℕ) (old
           same_length = same ∙ f.same_length;
         }
 
-    pub pairing_over : s < n → (x : List ℕ) → BothStruck bs i n t terms base s w x used.TooMany → RoomStruck bs i n t terms base old x used.TooMany
+    pub pairing_over : s < n → (x : List ℕ) → BothStruck bs i n t terms base s w x None → RoomStruck bs i n t terms base old x None
     unfolding BothAs RoomAs too_many_below plan_of struck_out
     pairing_over h x o =
         record {
@@ -453,7 +452,7 @@ module _ (bs : List ℕ) (i n t : ℕ) (terms : Terms) (d base block : ℕ) (old
             rw there (or_second (too_many_anywhere (plan_of bs n t terms)))
         either false false e g q = absurd (let z : ◌≡◌ {A = ℕ} 0 1 = cc in omega arith)
 
-    pub pairing_fits : s < n → (k : ℕ) (x : List ℕ) → BothStruck bs i n t terms base s w x (used.Pairs k) → pairs + k ≤ (s + 1) * n
+    pub pairing_fits : s < n → (k : ℕ) (x : List ℕ) → BothStruck bs i n t terms base s w x (Some k) → pairs + k ≤ (s + 1) * n
     unfolding BothAs plan_of
     pairing_fits h k x o =
         let few = users_few (plan_of bs n t terms) i s in
@@ -462,7 +461,7 @@ module _ (bs : List ℕ) (i n t : ℕ) (terms : Terms) (d base block : ℕ) (old
         let next : (s + 1) * n ≡ s * n + n = omega arith in
         omega arith
 
-    pub pairing_small : s < n → (k : ℕ) (x : List ℕ) → BothStruck bs i n t terms base s w x (used.Pairs k) → pairs + k ≤ 65536
+    pub pairing_small : s < n → (k : ℕ) (x : List ℕ) → BothStruck bs i n t terms base s w x (Some k) → pairs + k ≤ 65536
     pairing_small h k x o =
         let few = (accepted bs n t pre.accepted).stations in
         let next : s + 1 ≤ 256 = omega arith in
@@ -470,7 +469,7 @@ module _ (bs : List ℕ) (i n t : ℕ) (terms : Terms) (d base block : ℕ) (old
         let less = pairing_fits h k x o in
         omega arith
 
-    pub pairing_more : s < n → (k : ℕ) (x : List ℕ) → BothStruck bs i n t terms base s w x (used.Pairs k) →
+    pub pairing_more : s < n → (k : ℕ) (x : List ℕ) → BothStruck bs i n t terms base s w x (Some k) →
         Pairing bs i n t terms base old (s + 1) x (pairs + k)
     unfolding BothAs
     pairing_more h k x o =
@@ -484,7 +483,7 @@ module _ (bs : List ℕ) (i n t : ℕ) (terms : Terms) (d base block : ℕ) (old
           same_length = o.same_length ∙ f.same_length;
         }
 
-    pub pairing_all : n ≤ s → RoomStruck bs i n t terms base old w (used.Pairs pairs)
+    pub pairing_all : n ≤ s → RoomStruck bs i n t terms base old w (Some pairs)
     unfolding RoomAs too_many_below plan_of struck_out
     pairing_all h =
         let p = plan_of bs n t terms in
@@ -512,7 +511,7 @@ module _ (bs : List ℕ) (i n t : ℕ) (terms : Terms) (d base block : ℕ) (old
         }
 
   -- what is promised of the cleared list is promised of the list before
-  pub pairing_before : (w x : List ℕ) (r : Used) → w ≡ filled old (with_at n base) (4 * n) 0 → RoomStruck bs i n t terms base w x r →
+  pub pairing_before : (w x : List ℕ) (r : Option ℕ) → w ≡ filled old (with_at n base) (4 * n) 0 → RoomStruck bs i n t terms base w x r →
       RoomStruck bs i n t terms base old x r
   pairing_before w x r e o =
       let same = ap length e ∙ filled_length old (with_at n base) (4 * n) 0 in

@@ -40,8 +40,7 @@ use Rattle.tallies.proofs.BlockLaws.{later_same}
 use Rattle.tallies.proofs.Sizes.{base_fits}
 use Rattle.tallies.proofs.StateLaws.{kept_over}
 use Rattle.tallies.proofs.SourceLaws.{Summing, summing_none, summing_ready, summing_kept, summing_all, source_refill, depth_ready, columns_lent}
-use Rattle.struck.specs.declared.Used.{Used}
-use Rattle.struck.specs.declared.Used.TheVariants as used
+use Rattle.std.specs.Prelude.{Option, Some, None}
 use Rattle.struck.specs.Work.{users_from, CompareReady, ComparedAs, Compared, OneReady, StruckAs, OneStruck, AllAsked, AllReady}
 use Rattle.struck.specs.Work.{AllAs, AllStruck}
 
@@ -59,7 +58,7 @@ or_neither a b e f = rw (e, f)
 module _ (bs : List ℕ) (i n t : ℕ) (terms : Terms) (d base block s : ℕ) (old : List ℕ)
     (ready : OneReady bs i n t terms d base block s old) (mid : List ℕ) where
   -- too many without the record
-  pub one_over : SourceDone (lacking_record bs i) n t terms base s old mid true → OneStruck bs i n t terms base s old mid used.TooMany
+  pub one_over : SourceDone (lacking_record bs i) n t terms base s old mid true → OneStruck bs i n t terms base s old mid None
   unfolding StruckAs
   one_over x =
       record {
@@ -97,11 +96,11 @@ module _ (bs : List ℕ) (i n t : ℕ) (terms : Terms) (d base block s : ℕ) (o
             same_length = same;
           })
 
-      pub one_struck : (r : Used) → Compared bs i n t terms (base - 2 * n) s mid new r → OneStruck bs i n t terms base s old new r
+      pub one_struck : (r : Option ℕ) → Compared bs i n t terms (base - 2 * n) s mid new r → OneStruck bs i n t terms base s old new r
       unfolding ComparedAs StruckAs
-      one_struck used.TooMany c =
+      one_struck None c =
           record { answer = rw c.answer; kept = new_kept c.beyond c.same_length }
-      one_struck (used.Pairs k) c =
+      one_struck (Some k) c =
           record {
             answer = (
               or_neither _ _ c.answer.0 (sym x.too_many),
@@ -254,8 +253,8 @@ module _ (bs : List ℕ) (i n t : ℕ) (terms : Terms) (d base block : ℕ) (old
           small = f.small;
         }
 
-    pub striking_over : s < n → (x : List ℕ) → OneStruck bs i n t terms base s w x used.TooMany →
-        AllStruck bs i n t terms old x used.TooMany
+    pub striking_over : s < n → (x : List ℕ) → OneStruck bs i n t terms base s w x None →
+        AllStruck bs i n t terms old x None
     unfolding StruckAs AllAs too_many_below plan_of struck_out
     striking_over h x o =
         let kept = kept_over n base f.summing.kept o.kept in
@@ -275,7 +274,7 @@ module _ (bs : List ℕ) (i n t : ℕ) (terms : Terms) (d base block : ℕ) (old
             rw there (or_second (too_many_anywhere (plan_of bs n t terms)))
         either false false e g q = absurd (let z : ◌≡◌ {A = ℕ} 0 1 = cc in omega arith)
 
-    pub striking_fits : s < n → (k : ℕ) (x : List ℕ) → OneStruck bs i n t terms base s w x (used.Pairs k) → pairs + k ≤ (s + 1) * n
+    pub striking_fits : s < n → (k : ℕ) (x : List ℕ) → OneStruck bs i n t terms base s w x (Some k) → pairs + k ≤ (s + 1) * n
     unfolding StruckAs plan_of
     striking_fits h k x o =
         let few = users_few (plan_of bs n t terms) i s in
@@ -284,7 +283,7 @@ module _ (bs : List ℕ) (i n t : ℕ) (terms : Terms) (d base block : ℕ) (old
         let next : (s + 1) * n ≡ s * n + n = omega arith in
         omega arith
 
-    pub striking_small : s < n → (k : ℕ) (x : List ℕ) → OneStruck bs i n t terms base s w x (used.Pairs k) → pairs + k ≤ 65536
+    pub striking_small : s < n → (k : ℕ) (x : List ℕ) → OneStruck bs i n t terms base s w x (Some k) → pairs + k ≤ 65536
     striking_small h k x o =
         let few = (accepted bs n t pre.asked.accepted).stations in
         let next : s + 1 ≤ 256 = omega arith in
@@ -292,7 +291,7 @@ module _ (bs : List ℕ) (i n t : ℕ) (terms : Terms) (d base block : ℕ) (old
         let less = striking_fits h k x o in
         omega arith
 
-    pub striking_more : s < n → (k : ℕ) (x : List ℕ) → OneStruck bs i n t terms base s w x (used.Pairs k) →
+    pub striking_more : s < n → (k : ℕ) (x : List ℕ) → OneStruck bs i n t terms base s w x (Some k) →
         Striking bs i n t terms base old (s + 1) x (pairs + k)
     unfolding StruckAs
     striking_more h k x o =
@@ -314,7 +313,7 @@ module _ (bs : List ℕ) (i n t : ℕ) (terms : Terms) (d base block : ℕ) (old
         neither true b q = absurd (let z : ◌≡◌ {A = ℕ} 0 1 = cc in omega arith)
         neither false b q = (refl, q)
 
-    pub striking_all : n ≤ s → AllStruck bs i n t terms old w (used.Pairs pairs)
+    pub striking_all : n ≤ s → AllStruck bs i n t terms old w (Some pairs)
     unfolding AllAs too_many_below plan_of struck_out
     striking_all h =
         let p = plan_of bs n t terms in
@@ -336,7 +335,7 @@ module _ (bs : List ℕ) (i n t : ℕ) (terms : Terms) (d base block : ℕ) (old
         }
 
   -- what is promised of the cleared list is promised of the list before
-  pub struck_cleared : (w x : List ℕ) (r : Used) → w ≡ filled old base (2 * n) 0 → AllStruck bs i n t terms w x r →
+  pub struck_cleared : (w x : List ℕ) (r : Option ℕ) → w ≡ filled old base (2 * n) 0 → AllStruck bs i n t terms w x r →
       AllStruck bs i n t terms old x r
   struck_cleared w x r e o =
       let same = ap length e ∙ filled_length old base (2 * n) 0 in
@@ -376,7 +375,7 @@ module _ (bs : List ℕ) (n t g h : ℕ) (old : List ℕ) (asked : AllAsked bs n
           base_there = f;
         }
 
-    pub struck_entry : (i : ℕ) (new : List ℕ) (r : Used) → AllStruck bs i n t (units g h) mid new r →
+    pub struck_entry : (i : ℕ) (new : List ℕ) (r : Option ℕ) → AllStruck bs i n t (units g h) mid new r →
         AllStruck bs i n t (units g h) old new r
     struck_entry i new r o =
         record {

@@ -22,7 +22,7 @@ use Rattle.changes.specs.Changes.{Writable, Subtractable, with_loads, with_diffe
 use Rattle.changes.proofs.WrittenLaws.{over_over, written_subtractable, written_differences}
 use Rattle.tallies.specs.Tally.{tally_base, Tallyable, Tallied}
 use Rattle.tallies.proofs.Sizes.{base_fits}
-use Rattle.struck.specs.declared.Used.TheVariants as used
+use Rattle.std.specs.Prelude.{Some, None, Result, Err}
 use Rattle.struck.specs.Answer.{struck_buffers}
 use Rattle.struck.specs.Work.{AllAsked, AllAs, AllStruck, StruckReady, ClearReady, too_many_struck, with_at, without_at}
 use Rattle.struck.specs.Work.{RoomAs, RoomStruck, RoomAsked, RoomFor, RoomyReady}
@@ -50,12 +50,8 @@ use Rattle.counting.proofs.ExactSum.{load_below}
 use Rattle.plan.specs.Fault.{plan_number, call_number, check_number}
 use Rattle.plan.specs.declared.CallFault.{CallFault}
 use Rattle.plan.specs.declared.PlanFault.{PlanFault}
-use Rattle.plan.specs.declared.CheckAnswer.{CheckAnswer}
-use Rattle.plan.specs.declared.CheckAnswer.TheVariants as check-answer
 use Rattle.plan.proofs.Answers.{number-positive}
 use Rattle.calls.specs.Call.{call_check_number}
-use Rattle.calls.specs.declared.CallCheck.{CallCheck}
-use Rattle.calls.specs.declared.CallCheck.TheVariants as call-check
 use Rattle.calls.proofs.CallLaws.{terms_allowed, terms_refused}
 use borrow.Author.Tests.{lt-ltb, le-ltb, le-leb, lt-leb}
 use lib.ListN.{length-map, length-replicate}
@@ -140,13 +136,13 @@ module _ (bs : List ℕ) (i n t : ℕ) (terms : Terms) (changes : List ℤ) (are
 
       module _ (changes' : List ℤ) (written : changes' ≡ with_loads mid place n changes) (new : List ℕ) where
         -- a count in one of the two plans is over 2^64 - 1
-        pub struck_either : AllStruck bs i n t terms mid new used.TooMany →
+        pub struck_either : AllStruck bs i n t terms mid new None →
             too_many_struck n t (struck_buffers changes' new)
             ≡ struck_off (plan_of bs n t terms) i (struck_buffers changes area)
         unfolding AllAs
         struck_either o = struck_refused o.answer changes' new (ap (with_zeros n) written ∙ zeros_over) (o.beyond ∙ x.beyond)
 
-        module _ (k : ℕ) (o : AllStruck bs i n t terms mid new (used.Pairs k)) where
+        module _ (k : ℕ) (o : AllStruck bs i n t terms mid new (Some k)) where
           load_without : (v : ℕ) → v < n → get_or new (place + v) 0 ≡ load (struck_out (plan_of bs n t terms) i) v
           unfolding AllAs
           load_without v h = ap (λ b. get_or new (b + n + v) 0) there ∙ o.answer.1.1 v h
@@ -207,12 +203,12 @@ module _ (bs : List ℕ) (i n t : ℕ) (terms : Terms) (d base block : ℕ) (cha
     pub roomy_clear : length new ≡ length area → ClearReady n t changes new
     roomy_clear e = clear_ready bs 0 n t terms changes area whole changes new refl e
 
-    pub roomy_over : RoomStruck bs i n t terms base area new used.TooMany →
+    pub roomy_over : RoomStruck bs i n t terms base area new None →
         too_many_struck n t (struck_buffers changes new) ≡ struck_off (plan_of bs n t terms) i (struck_buffers changes area)
     unfolding RoomAs
     roomy_over o = struck_refused bs i n t terms changes area whole o.answer changes new refl (within_area new o.beyond)
 
-    module _ (k : ℕ) (o : RoomStruck bs i n t terms base area new (used.Pairs k)) where
+    module _ (k : ℕ) (o : RoomStruck bs i n t terms base area new (Some k)) where
       stations_most : n ≤ 256
       stations_most = (accepted bs n t ready.room.accepted).stations
 
@@ -361,7 +357,7 @@ module _ (bs : List ℕ) (n t : ℕ) (terms : Terms) (i : ℕ) (changes : List �
   abbrev Is : ℕ → Type 0
   Is k = ◌≡◌ {A = Outcome ℕ StruckBuffers} (record { number = k; values = 0; buffers = buffers }) (struck bs n t terms i buffers)
 
-  pub struck_plan : (r : CheckAnswer) (f : PlanFault) → check_number r ≡ plan_fault bs n t → r ≡ check-answer.Refused f → Is (plan_number f)
+  pub struck_plan : (r : Result (Unit {0}) PlanFault) (f : PlanFault) → check_number r ≡ plan_fault bs n t → r ≡ Err f → Is (plan_number f)
   unfolding struck
   struck_plan r f answer e =
       let number : plan_number f ≡ plan_fault bs n t = ap check_number (sym e) ∙ answer in
@@ -372,7 +368,7 @@ module _ (bs : List ℕ) (n t : ℕ) (terms : Terms) (i : ℕ) (changes : List �
   module _ (ok : plan_fault bs n t ≡ 0) where
     -- 12 or 14
     pub struck_terms :
-        (r : CallCheck) → call_check_number r ≡ first (terms_causes terms) → (f : CallFault) → r ≡ call-check.Refused f → Is (call_number f)
+        (r : Result (Unit {0}) CallFault) → call_check_number r ≡ first (terms_causes terms) → (f : CallFault) → r ≡ Err f → Is (call_number f)
     unfolding struck
     struck_terms r found f e = terms_refused 0 buffers _ bs n t terms _ ok r found f e
 

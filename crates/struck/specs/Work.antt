@@ -1,6 +1,6 @@
 -- What the inner functions of the operation on a contact that is struck out ask and leave. Definitions only.
 -- Assumes nothing.
-use Rattle.std.specs.Prelude.{ℕ, ◌+◌, ◌*◌, ◌<◌, ◌≤◌, ◌≡◌, Bool, true, false, not, cond, ◌&&◌, ◌||◌, List, map, ◌⊎◌, eqb, ℤ, pos, length, get_or, drop, replicate}
+use Rattle.std.specs.Prelude.{ℕ, ◌+◌, ◌*◌, ◌<◌, ◌≤◌, ◌≡◌, Bool, true, false, not, cond, ◌&&◌, ◌||◌, Option, Some, None, List, map, ◌⊎◌, eqb, ℤ, pos, length, get_or, drop, replicate}
 use Rattle.temporal.specs.Lists.{from, below, sum}
 use Rattle.temporal.specs.Plan.{Plan, Terms, Allowed}
 use Rattle.temporal.specs.Bytes.{plan_of}
@@ -15,8 +15,6 @@ use Rattle.forward.specs.Passed.{pass_size, Counted, Known}
 use Rattle.tallies.specs.Tally.{block_of, tally_base}
 use Rattle.tallies.specs.Progress.{ends, TallyEntry, Kept}
 use Rattle.tallies.specs.Sources.{SourceReady}
-use Rattle.struck.specs.declared.Used.{Used}
-use Rattle.struck.specs.declared.Used.TheVariants as used
 
 -- ---- two plans' hops and counts
 
@@ -55,11 +53,11 @@ pub record CompareReady (bs : List ℕ) (i n t : ℕ) (terms : Terms) (d at s : 
   pub stations : Counted (lacking_record bs i) n t terms s 0 0 work
 
 -- how many destinations use the contact, or that the plan with the record has too many
-unfoldable pub ComparedAs : Plan → ℕ → ℕ → Used → Type 0
-ComparedAs p i s (used.Pairs k) = (is_too_many p s ≡ false) × (k ≡ users_from p i s)
-ComparedAs p i s used.TooMany = is_too_many p s ≡ true
+unfoldable pub ComparedAs : Plan → ℕ → ℕ → Option ℕ → Type 0
+ComparedAs p i s (Some k) = (is_too_many p s ≡ false) × (k ≡ users_from p i s)
+ComparedAs p i s None = is_too_many p s ≡ true
 
-pub record Compared (bs : List ℕ) (i n t : ℕ) (terms : Terms) (at s : ℕ) (old new : List ℕ) (r : Used) : Type 0 where
+pub record Compared (bs : List ℕ) (i n t : ℕ) (terms : Terms) (at s : ℕ) (old new : List ℕ) (r : Option ℕ) : Type 0 where
   pub answer : ComparedAs (plan_of bs n t terms) i s r
   pub beyond : drop (at + 2 * n) new ≡ drop (at + 2 * n) old
   pub same_length : length new ≡ length old
@@ -73,12 +71,12 @@ pub record OneReady (bs : List ℕ) (i n t : ℕ) (terms : Terms) (d base block 
   pub without : SourceReady (lacking_record bs i) n t terms d base block s work
 
 -- how many destinations use the contact, and the source tallied without the record; or that one of the two plans has too many
-unfoldable pub StruckAs : Plan → Plan → ℕ → ℕ → ℕ → ℕ → List ℕ → Used → Type 0
-StruckAs p q i n base s new (used.Pairs k) =
+unfoldable pub StruckAs : Plan → Plan → ℕ → ℕ → ℕ → ℕ → List ℕ → Option ℕ → Type 0
+StruckAs p q i n base s new (Some k) =
     ((is_too_many p s || is_too_many q s) ≡ false) × ((k ≡ users_from p i s) × ((v : ℕ) → v < n → TallyEntry q n base (s + 1) v 0 new))
-StruckAs p q i n base s new used.TooMany = (is_too_many p s || is_too_many q s) ≡ true
+StruckAs p q i n base s new None = (is_too_many p s || is_too_many q s) ≡ true
 
-pub record OneStruck (bs : List ℕ) (i n t : ℕ) (terms : Terms) (base s : ℕ) (old new : List ℕ) (r : Used) : Type 0 where
+pub record OneStruck (bs : List ℕ) (i n t : ℕ) (terms : Terms) (base s : ℕ) (old new : List ℕ) (r : Option ℕ) : Type 0 where
   pub answer : StruckAs (plan_of bs n t terms) (plan_of (lacking_record bs i) n t terms) i n base s new r
   pub kept : Kept n base old new
 
@@ -97,13 +95,13 @@ pub record AllReady (bs : List ℕ) (n t : ℕ) (terms : Terms) (d base block : 
   pub base_there : base ≡ tally_base n t
 
 -- how many pairs use the contact, and every station's load without the record; or that one of the two plans has too many
-unfoldable pub AllAs : Plan → Plan → ℕ → ℕ → ℕ → List ℕ → Used → Type 0
-AllAs p q i n t new (used.Pairs k) =
+unfoldable pub AllAs : Plan → Plan → ℕ → ℕ → ℕ → List ℕ → Option ℕ → Type 0
+AllAs p q i n t new (Some k) =
     (either_too_many p i ≡ false) ×
     ((k ≡ length (pairs_using p i)) × ((v : ℕ) → v < n → get_or new (tally_base n t + n + v) 0 ≡ load q v))
-AllAs p q i n t new used.TooMany = either_too_many p i ≡ true
+AllAs p q i n t new None = either_too_many p i ≡ true
 
-pub record AllStruck (bs : List ℕ) (i n t : ℕ) (terms : Terms) (old new : List ℕ) (r : Used) : Type 0 where
+pub record AllStruck (bs : List ℕ) (i n t : ℕ) (terms : Terms) (old new : List ℕ) (r : Option ℕ) : Type 0 where
   pub answer : AllAs (plan_of bs n t terms) (struck_out (plan_of bs n t terms) i) i n t new r
   pub beyond : drop (work_size n t) new ≡ drop (work_size n t) old
   pub same_length : length new ≡ length old
@@ -169,26 +167,26 @@ pub record BothKnown (bs : List ℕ) (i n t : ℕ) (terms : Terms) (s whole lack
   pub without_record : Known (lacking_record bs i) n t terms s lacking
 
 -- how many destinations use the contact from source s, and both plans' tallies of it; or that one of them has too many
-unfoldable pub BothAs : Plan → Plan → ℕ → ℕ → ℕ → ℕ → List ℕ → Used → Type 0
-BothAs p q i n base s new (used.Pairs k) =
+unfoldable pub BothAs : Plan → Plan → ℕ → ℕ → ℕ → ℕ → List ℕ → Option ℕ → Type 0
+BothAs p q i n base s new (Some k) =
     ((is_too_many p s || is_too_many q s) ≡ false) × ((k ≡ users_from p i s) × BothSummed p q n base (s + 1) new)
-BothAs p q i n base s new used.TooMany = (is_too_many p s || is_too_many q s) ≡ true
+BothAs p q i n base s new None = (is_too_many p s || is_too_many q s) ≡ true
 
-pub record BothStruck (bs : List ℕ) (i n t : ℕ) (terms : Terms) (base s : ℕ) (old new : List ℕ) (r : Used) : Type 0 where
+pub record BothStruck (bs : List ℕ) (i n t : ℕ) (terms : Terms) (base s : ℕ) (old new : List ℕ) (r : Option ℕ) : Type 0 where
   pub answer : BothAs (plan_of bs n t terms) (plan_of (lacking_record bs i) n t terms) i n base s new r
   pub beyond : drop (base + 8 * n) new ≡ drop (base + 8 * n) old
   pub same_length : length new ≡ length old
 
 -- how many pairs use the contact, and every station's load with the record and without it; or that one of the two plans has too many
-unfoldable pub RoomAs : Plan → ℕ → ℕ → ℕ → List ℕ → Used → Type 0
-RoomAs p i n base new (used.Pairs k) =
+unfoldable pub RoomAs : Plan → ℕ → ℕ → ℕ → List ℕ → Option ℕ → Type 0
+RoomAs p i n base new (Some k) =
     (either_too_many p i ≡ false) ×
     ((k ≡ length (pairs_using p i)) ×
     ((v : ℕ) → v < n →
     (get_or new (with_at n base + n + v) 0 ≡ load p v) × (get_or new (without_at n base + n + v) 0 ≡ load (struck_out p i) v)))
-RoomAs p i n base new used.TooMany = either_too_many p i ≡ true
+RoomAs p i n base new None = either_too_many p i ≡ true
 
-pub record RoomStruck (bs : List ℕ) (i n t : ℕ) (terms : Terms) (base : ℕ) (old new : List ℕ) (r : Used) : Type 0 where
+pub record RoomStruck (bs : List ℕ) (i n t : ℕ) (terms : Terms) (base : ℕ) (old new : List ℕ) (r : Option ℕ) : Type 0 where
   pub answer : RoomAs (plan_of bs n t terms) i n base new r
   pub beyond : drop (base + 8 * n) new ≡ drop (base + 8 * n) old
   pub same_length : length new ≡ length old

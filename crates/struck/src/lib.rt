@@ -38,22 +38,7 @@ ghost use Rattle.struck.specs.Work.{
   too_many_struck,
 };
 
-use calls::CallCheck;
-use plan::{CallFault, CheckAnswer, Fault};
-
-// What the operation answers: the number of pairs that use the contact.
-#[derive(Clone, Copy)]
-pub enum StruckAnswer {
-    Pairs(u64),
-    Refused(Fault),
-}
-
-// How many pairs use the contact, or that a count is over 2^64 - 1.
-#[derive(Clone, Copy)]
-pub enum Used {
-    Pairs(usize),
-    TooMany,
-}
+use plan::{CallFault, Fault};
 
 // Whether hops or count of station z differ from those kept from a place on.
 #[tactic(auto, unfolding(crate::specs::Work::differs_at))]
@@ -88,7 +73,7 @@ fn count_differing(work: &[u64], n: usize, at: usize, source: usize) -> usize
 }
 
 // How many destinations use the contact from the source: keeps the hops and counts without the record from a place on, and compares them
-// with those of the whole plan.
+// with those of the whole plan. None where a count is over 2^64 - 1.
 fn compare_source(
     work: &mut [u64],
     plan: &[u8],
@@ -100,18 +85,19 @@ fn compare_source(
     depth: usize,
     at: usize,
     source: usize,
-) -> Used
+) -> Option<usize>
     requires { CompareReady plan.now out n t (units g h) depth at source work.old }
     ensures { Compared plan.now out n t (units g h) at source work.old work.new result }
 {
     pass::copy_row(work, at, 0, 2 * n);
     if forward::pass(work, plan, n, t, g, h, depth, source, 0, 0) {
-        return Used::TooMany;
+        return None;
     }
-    Used::Pairs(count_differing(work, n, at, source))
+    Some(count_differing(work, n, at, source))
 }
 
-// Works on one source, from what is known of it without the record: tallies it without the record, then compares.
+// Works on one source, from what is known of it without the record: tallies it without the record, then compares. None where a count is over
+// 2^64 - 1.
 fn strike_source(
     work: &mut [u64],
     plan: &[u8],
@@ -125,7 +111,7 @@ fn strike_source(
     block: usize,
     source: usize,
     width: usize,
-) -> Used
+) -> Option<usize>
     requires { OneReady plan.now out n t (units g h) depth base block source work.old ×
         Known (lacking_record plan.now out) n t (units g h) source width }
     ensures { OneStruck plan.now out n t (units g h) base source work.old work.new result }
@@ -133,7 +119,7 @@ fn strike_source(
     if tallies::tally_source(
         work, plan, out, n, t, g, h, depth, base, block, source, width,
     ) {
-        return Used::TooMany;
+        return None;
     }
     compare_source(work, plan, out, n, t, g, h, depth, base - 2 * n, source)
 }
@@ -150,7 +136,7 @@ fn strike_sources(
     depth: usize,
     base: usize,
     block: usize,
-) -> Used
+) -> Option<usize>
     requires { AllReady plan.now n t (units g h) depth base block work.old }
     ensures { AllStruck plan.now out n t (units g h) work.old work.new result }
 {
@@ -160,19 +146,24 @@ fn strike_sources(
     for source in 0..n {
         splits = forward::refilled(work, plan, out, n, t, g, h, base, source, n, splits);
         let width = forward::next_split(splits);
-        let Used::Pairs(k) = strike_source(
+        pairs += strike_source(
             work, plan, out, n, t, g, h, depth, base, block, source, width,
-        ) else {
-            return Used::TooMany;
-        };
+        )?;
         splits = forward::later_splits(splits);
-        pairs += k;
     }
-    Used::Pairs(pairs)
+    Some(pairs)
 }
 
 // How many pairs use the contact, and in the tallies every station's load without the record.
-fn strike(work: &mut [u64], plan: &[u8], out: usize, n: usize, t: usize, g: usize, h: usize) -> Used
+fn strike(
+    work: &mut [u64],
+    plan: &[u8],
+    out: usize,
+    n: usize,
+    t: usize,
+    g: usize,
+    h: usize,
+) -> Option<usize>
     requires { AllAsked plan.now n t (units g h) work.old }
     ensures { AllStruck plan.now out n t (units g h) work.old work.new result }
 {
@@ -229,7 +220,7 @@ fn strike_both(
     source: usize,
     whole: usize,
     lacking: usize,
-) -> Used
+) -> Option<usize>
     requires { BothReady plan.now out n t (units g h) depth base block source work.old ×
         BothKnown plan.now out n t (units g h) source whole lacking }
     ensures { BothStruck plan.now out n t (units g h) base source work.old work.new result }
@@ -252,15 +243,15 @@ fn strike_both(
         source,
         whole,
     ) {
-        return Used::TooMany;
+        return None;
     }
     pass::copy_row(work, kept, 0, 2 * n);
     if tally_parked(
         work, plan, out, n, t, g, h, depth, base, block, without, source, lacking,
     ) {
-        return Used::TooMany;
+        return None;
     }
-    Used::Pairs(count_differing(work, n, kept, source))
+    Some(count_differing(work, n, kept, source))
 }
 
 // Works on every source in both plans, from cleared tallies on.
@@ -275,7 +266,7 @@ fn strike_roomy(
     depth: usize,
     base: usize,
     block: usize,
-) -> Used
+) -> Option<usize>
     requires { RoomReady plan.now n t (units g h) depth base block work.old }
     ensures { RoomStruck plan.now out n t (units g h) base work.old work.new result }
 {
@@ -287,7 +278,7 @@ fn strike_roomy(
     for source in 0..n {
         whole = forward::refilled(work, plan, plan.len(), n, t, g, h, base, source, n, whole);
         lacking = forward::refilled(work, plan, out, n, t, g, h, base, source, n, lacking);
-        let Used::Pairs(k) = strike_both(
+        let used = strike_both(
             work,
             plan,
             out,
@@ -301,25 +292,23 @@ fn strike_roomy(
             source,
             forward::next_split(whole),
             forward::next_split(lacking),
-        ) else {
-            return Used::TooMany; // in either plan
-        };
+        );
         whole = forward::later_splits(whole);
         lacking = forward::later_splits(lacking);
-        pairs += k;
+        pairs += used?;
     }
-    Used::Pairs(pairs)
+    Some(pairs)
 }
 
 // Refuses with 9: both lent parts are cleared.
-fn refuse_too_many(changes: &mut [i64], work: &mut [u64], n: usize, t: usize) -> StruckAnswer
+fn refuse_too_many(changes: &mut [i64], work: &mut [u64], n: usize, t: usize) -> Result<u64, Fault>
     requires { ClearReady n t changes.old work.old }
     ensures { struck_outcome result (struck_buffers changes.new work.new) ≡
         too_many_struck n t (struck_buffers changes.old work.old) }
 {
     changes::clear_changes(changes, n);
     memory::clear(work, 4 * (n * (t + 1)));
-    StruckAnswer::Refused(Fault::Call(CallFault::TooMany))
+    Err(Fault::Call(CallFault::TooMany))
 }
 
 // The operation once 1 to 8, 12, 14 and 17 are excluded, where both plans' tallies do not fit behind the pass: the loads with the record go
@@ -333,7 +322,7 @@ fn struck_narrow(
     g: usize,
     h: usize,
     position: usize,
-) -> StruckAnswer
+) -> Result<u64, Fault>
     requires { StruckReady plan.now n t (units g h) changes.old work.old }
     ensures { struck_outcome result (struck_buffers changes.new work.new) ≡
         struck_off (plan_of plan.now n t (units g h)) position (struck_buffers changes.old work.old) }
@@ -343,12 +332,12 @@ fn struck_narrow(
     }
     let loads = tallies::base_of(n, t) + n;
     changes::write_loads(changes, work, loads, n);
-    let Used::Pairs(pairs) = strike(work, plan, position, n, t, g, h) else {
+    let Some(pairs) = strike(work, plan, position, n, t, g, h) else {
         return refuse_too_many(changes, work, n, t);
     };
     changes::subtract_loads(changes, work, loads, n);
     memory::clear(work, 4 * (n * (t + 1)));
-    StruckAnswer::Pairs(pairs as u64)
+    Ok(pairs as u64)
 }
 
 // A block of columns with which both plans' tallies and a source's hops and counts fit, from one that fits before the tallies of one plan: the
@@ -389,21 +378,20 @@ fn struck_roomy(
     depth: usize,
     base: usize,
     block: usize,
-) -> StruckAnswer
+) -> Result<u64, Fault>
     requires { RoomyReady plan.now n t (units g h) depth base block changes.old work.old }
     ensures { struck_outcome result (struck_buffers changes.new work.new) ≡
         struck_off (plan_of plan.now n t (units g h)) position (struck_buffers changes.old work.old) }
 {
     let with = base + 3 * n;
     let without = base + 5 * n;
-    let Used::Pairs(pairs) = strike_roomy(work, plan, position, n, t, g, h, depth, base, block)
-    else {
+    let Some(pairs) = strike_roomy(work, plan, position, n, t, g, h, depth, base, block) else {
         return refuse_too_many(changes, work, n, t);
     };
     changes::write_loads(changes, work, with, n);
     changes::subtract_loads(changes, work, without, n);
     memory::clear(work, 4 * (n * (t + 1)));
-    StruckAnswer::Pairs(pairs as u64)
+    Ok(pairs as u64)
 }
 
 // The operation once 1 to 8, 12, 14 and 17 are excluded.
@@ -416,7 +404,7 @@ fn struck_work(
     g: usize,
     h: usize,
     position: usize,
-) -> StruckAnswer
+) -> Result<u64, Fault>
     requires { StruckReady plan.now n t (units g h) changes.old work.old }
     ensures { struck_outcome result (struck_buffers changes.new work.new) ≡
         struck_off (plan_of plan.now n t (units g h)) position (struck_buffers changes.old work.old) }
@@ -453,42 +441,18 @@ fn struck_asked(
     g: usize,
     h: usize,
     position: usize,
-) -> StruckAnswer
+) -> Result<u64, Fault>
     requires { (plan_fault plan.now n t ≡ 0) × (first (terms_causes (units g h)) ≡ 0) }
     ensures { struck_outcome result (struck_buffers changes.new work.new) ≡
         struck plan.now n t (units g h) position (struck_buffers changes.old work.old) }
 {
-    if changes.len() < n {
-        return StruckAnswer::Refused(Fault::Call(CallFault::Short));
-    }
-    if work.len() < 4 * (n * (t + 1)) {
-        return StruckAnswer::Refused(Fault::Call(CallFault::Short));
+    if changes.len() < n || work.len() < 4 * (n * (t + 1)) {
+        return Err(Fault::Call(CallFault::Short));
     }
     if plan.len() / 6 <= position {
-        return StruckAnswer::Refused(Fault::Call(CallFault::Position));
+        return Err(Fault::Call(CallFault::Position));
     }
     struck_work(changes, work, plan, n, t, g, h, position)
-}
-
-// The operation on an accepted plan: 12 and 14, then the rest.
-fn struck_accepted(
-    changes: &mut [i64],
-    work: &mut [u64],
-    plan: &[u8],
-    n: usize,
-    t: usize,
-    g: usize,
-    h: usize,
-    position: usize,
-) -> StruckAnswer
-    requires { plan_fault plan.now n t ≡ 0 }
-    ensures { struck_outcome result (struck_buffers changes.new work.new) ≡
-        struck plan.now n t (units g h) position (struck_buffers changes.old work.old) }
-{
-    let CallCheck::Refused(fault) = calls::terms_call(g, h) else {
-        return struck_asked(changes, work, plan, n, t, g, h, position);
-    };
-    StruckAnswer::Refused(Fault::Call(fault))
 }
 
 // Every station's change of load if the contact at a position is struck out, and how many ordered pairs have a shortest walk that uses it.
@@ -501,12 +465,11 @@ pub fn struck_out(
     position: usize,
     changes: &mut [i64],
     work: &mut [u64],
-) -> StruckAnswer
+) -> Result<u64, Fault>
     ensures { struck_outcome result (struck_buffers changes.new work.new) ≡
         struck plan.now n t (units g h) position (struck_buffers changes.old work.old) }
 {
-    let CheckAnswer::Refused(fault) = plan::check(plan, n, t) else {
-        return struck_accepted(changes, work, plan, n, t, g, h, position);
-    };
-    StruckAnswer::Refused(Fault::Plan(fault))
+    plan::check(plan, n, t)?;
+    calls::terms_call(g, h)?;
+    struck_asked(changes, work, plan, n, t, g, h, position)
 }

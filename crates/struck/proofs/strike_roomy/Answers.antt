@@ -40,8 +40,8 @@ refilled-lacking-requires c =
     let mid = pairing_kept _ _ _ _ _ _ _ _ _ pre _ _ _ c.loop-source.invariant.0 _ whole.beyond whole.same_length in
     pairing_refill _ _ _ _ _ _ _ _ _ pre _ _ _ mid _ c.loop-source-test.true _ c.loop-source.invariant.2
 
-pub strike_both-requires : goal.strike_both-requires
-strike_both-requires c =
+pub strike_both-used-requires : goal.strike_both-used-requires
+strike_both-used-requires c =
     let pre = pairing_cleared _ 0 _ _ _ _ _ _ _ c.requires _ c.fill_part.ensures in
     let whole = c.refilled-whole.ensures in
     let mid = pairing_kept _ _ _ _ _ _ _ _ _ pre _ _ _ c.loop-source.invariant.0 _ whole.beyond whole.same_length in
@@ -54,19 +54,20 @@ strike_both-requires c =
       },
     )
 
-pub shape_of-work-in_default : goal.shape_of-work-in_default
-shape_of-work-in_default c =
-    c.strike_both.auto.work ∙ c.refilled-lacking.auto.work ∙ c.refilled-whole.auto.work ∙ c.loop-source.invariant.0.same_length ∙ c.fill_part.auto.table
+pub shape_of-work-in_err-pairs : goal.shape_of-work-in_err-pairs
+shape_of-work-in_err-pairs c =
+    c.strike_both-used.auto.work ∙ c.refilled-lacking.auto.work ∙ c.refilled-whole.auto.work ∙ c.loop-source.invariant.0.same_length ∙ c.fill_part.auto.table
 
-pub returns-in_default : goal.returns-in_default
-returns-in_default c =
+pub returns-in_err-pairs : goal.returns-in_err-pairs
+returns-in_err-pairs c =
     let pre = pairing_cleared _ 0 _ _ _ _ _ _ _ c.requires _ c.fill_part.ensures in
     let whole = c.refilled-whole.ensures in
     let mid = pairing_kept _ _ _ _ _ _ _ _ _ pre _ _ _ c.loop-source.invariant.0 _ whole.beyond whole.same_length in
     let lacking = c.refilled-lacking.ensures in
     let now = pairing_kept _ _ _ _ _ _ _ _ _ pre _ _ _ mid _ lacking.beyond lacking.same_length in
-    pairing_before _ _ _ _ _ _ _ _ _ c.requires _ _ _ c.fill_part.ensures
-    (pairing_over _ _ _ _ _ _ _ _ _ pre _ _ _ now c.loop-source-test.true _ (rw c.in_default.is at c.strike_both.ensures))
+    rw c.from_residual.ensures
+    (pairing_before _ _ _ _ _ _ _ _ _ c.requires _ _ _ c.fill_part.ensures
+    (pairing_over _ _ _ _ _ _ _ _ _ pre _ _ _ now c.loop-source-test.true _ (rw c.in_err-pairs.was at c.strike_both-used.ensures)))
 
 pub later_splits-whole-requires : goal.later_splits-whole-requires
 later_splits-whole-requires c = c.refilled-whole.ensures.some
@@ -81,7 +82,7 @@ overflow_add-pairs c =
     let mid = pairing_kept _ _ _ _ _ _ _ _ _ pre _ _ _ c.loop-source.invariant.0 _ whole.beyond whole.same_length in
     let lacking = c.refilled-lacking.ensures in
     let now = pairing_kept _ _ _ _ _ _ _ _ _ pre _ _ _ mid _ lacking.beyond lacking.same_length in
-    omega (arith, pairing_small _ _ _ _ _ _ _ _ _ pre _ _ _ now c.loop-source-test.true _ _ (rw c.in-Pairs.is at c.strike_both.ensures))
+    omega (arith, pairing_small _ _ _ _ _ _ _ _ _ pre _ _ _ now c.loop-source-test.true _ _ (rw c.in_ok-pairs.was at c.strike_both-used.ensures))
 
 pub loop-source-preserved : goal.loop-source-preserved
 loop-source-preserved c =
@@ -90,7 +91,7 @@ loop-source-preserved c =
     let mid = pairing_kept _ _ _ _ _ _ _ _ _ pre _ _ _ c.loop-source.invariant.0 _ whole.beyond whole.same_length in
     let lacking = c.refilled-lacking.ensures in
     let now = pairing_kept _ _ _ _ _ _ _ _ _ pre _ _ _ mid _ lacking.beyond lacking.same_length in (
-      pairing_more _ _ _ _ _ _ _ _ _ pre _ _ _ now c.loop-source-test.true _ _ (rw c.in-Pairs.is at c.strike_both.ensures),
+      pairing_more _ _ _ _ _ _ _ _ _ pre _ _ _ now c.loop-source-test.true _ _ (rw c.in_ok-pairs.was at c.strike_both-used.ensures),
       rw c.later_splits-whole.ensures (knows_later _ _ _ _ _ _ _ whole.knows whole.some),
       rw c.later_splits-lacking.ensures (knows_later _ _ _ _ _ _ _ lacking.knows lacking.some),
     )

@@ -33,17 +33,18 @@ strike_source-requires c =
       rw c.next_split-width.ensures (knows_next _ _ _ _ _ _ _ knows.knows knows.some),
     )
 
-pub shape_of-work-in_default : goal.shape_of-work-in_default
-shape_of-work-in_default c =
+pub shape_of-work-in_err-pairs : goal.shape_of-work-in_err-pairs
+shape_of-work-in_err-pairs c =
     c.strike_source.auto.work ∙ c.refilled-splits.auto.work ∙ c.loop-source.invariant.0.summing.kept.same_length ∙ c.fill_part.auto.table
 
-pub returns-in_default : goal.returns-in_default
-returns-in_default c =
+pub returns-in_err-pairs : goal.returns-in_err-pairs
+returns-in_err-pairs c =
     let pre = striking_cleared _ 0 _ _ _ _ _ _ _ c.requires _ c.fill_part.ensures in
     let knows = c.refilled-splits.ensures in
     let now = striking_kept _ _ _ _ _ _ _ _ _ pre _ _ _ c.loop-source.invariant.0 _ knows.beyond knows.same_length in
-    struck_cleared _ _ _ _ _ _ _ _ _ c.requires _ _ _ c.fill_part.ensures
-    (striking_over _ _ _ _ _ _ _ _ _ pre _ _ _ now c.loop-source-test.true _ (rw c.in_default.is at c.strike_source.ensures))
+    rw c.from_residual.ensures
+    (struck_cleared _ _ _ _ _ _ _ _ _ c.requires _ _ _ c.fill_part.ensures
+    (striking_over _ _ _ _ _ _ _ _ _ pre _ _ _ now c.loop-source-test.true _ c.in_err-pairs.ensures))
 
 pub later_splits-splits-requires : goal.later_splits-splits-requires
 later_splits-splits-requires c = c.refilled-splits.ensures.some
@@ -53,14 +54,14 @@ overflow_add-pairs c =
     let pre = striking_cleared _ 0 _ _ _ _ _ _ _ c.requires _ c.fill_part.ensures in
     let knows = c.refilled-splits.ensures in
     let now = striking_kept _ _ _ _ _ _ _ _ _ pre _ _ _ c.loop-source.invariant.0 _ knows.beyond knows.same_length in
-    omega (arith, striking_small _ _ _ _ _ _ _ _ _ pre _ _ _ now c.loop-source-test.true _ _ (rw c.in-Pairs.is at c.strike_source.ensures))
+    omega (arith, striking_small _ _ _ _ _ _ _ _ _ pre _ _ _ now c.loop-source-test.true _ _ c.in_ok-pairs.ensures)
 
 pub loop-source-preserved : goal.loop-source-preserved
 loop-source-preserved c =
     let pre = striking_cleared _ 0 _ _ _ _ _ _ _ c.requires _ c.fill_part.ensures in
     let knows = c.refilled-splits.ensures in
     let now = striking_kept _ _ _ _ _ _ _ _ _ pre _ _ _ c.loop-source.invariant.0 _ knows.beyond knows.same_length in (
-      striking_more _ _ _ _ _ _ _ _ _ pre _ _ _ now c.loop-source-test.true _ _ (rw c.in-Pairs.is at c.strike_source.ensures),
+      striking_more _ _ _ _ _ _ _ _ _ pre _ _ _ now c.loop-source-test.true _ _ c.in_ok-pairs.ensures,
       rw c.later_splits-splits.ensures (knows_later _ _ _ _ _ _ _ knows.knows knows.some),
     )
 

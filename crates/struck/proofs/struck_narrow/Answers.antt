@@ -30,7 +30,7 @@ pub returns-in_default : goal.returns-in_default
 returns-in_default c = c.refuse_too_many-in_default.ensures ∙ struck_either _ _ _ _ _ _ _ c.requires _ (rw c.if-tally.false at c.tally.ensures) _ c.base_of.ensures _ c.write_loads.ensures _ (rw c.in_default.is at c.strike.ensures)
 
 pub subtract_loads-requires : goal.subtract_loads-requires
-subtract_loads-requires c = struck_subtractable _ _ _ _ _ _ _ c.requires _ (rw c.if-tally.false at c.tally.ensures) _ c.base_of.ensures _ c.write_loads.ensures _ _ (rw c.in-Pairs.is at c.strike.ensures)
+subtract_loads-requires c = struck_subtractable _ _ _ _ _ _ _ c.requires _ (rw c.if-tally.false at c.tally.ensures) _ c.base_of.ensures _ c.write_loads.ensures _ _ (rw c.in-Some.is at c.strike.ensures)
 
 pub overflow_add-t : goal.overflow_add-t
 overflow_add-t c = omega (arith, (accepted _ _ _ c.requires.asked.accepted).slots)
@@ -42,4 +42,4 @@ pub overflow_mul-n-2 : goal.overflow_mul-n-2
 overflow_mul-n-2 c = let a = accepted _ _ _ c.requires.asked.accepted in omega (arith, limited_places _ _ a.stations a.slots)
 
 pub returns : goal.returns
-returns c = struck_done _ _ _ _ _ _ _ c.requires _ (rw c.if-tally.false at c.tally.ensures) _ c.base_of.ensures _ c.write_loads.ensures _ _ (rw c.in-Pairs.is at c.strike.ensures) _ _ c.subtract_loads.ensures c.clear.ensures
+returns c = struck_done _ _ _ _ _ _ _ c.requires _ (rw c.if-tally.false at c.tally.ensures) _ c.base_of.ensures _ c.write_loads.ensures _ _ (rw c.in-Some.is at c.strike.ensures) _ _ c.subtract_loads.ensures c.clear.ensures

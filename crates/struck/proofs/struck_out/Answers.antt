@@ -1,12 +1,22 @@
--- `struck::struck_out` meets its contract.
+-- `struck::struck_out` meets its contract: a refusal of the plan, and one for 12 or 14, is passed on, else the rest decides.
 -- Assumes nothing.
 use mathlib.Core.Path.{sym, ap, ◌∙◌}
 use Rattle.plan.specs.Fault.{check_number}
-use Rattle.struck.proofs.StruckLaws.{struck_plan}
+use Rattle.plan.proofs.Answers.{err_is}
+use Rattle.calls.proofs.CallLaws.{terms_free_by}
+use Rattle.struck.proofs.StruckLaws.{struck_plan, struck_terms}
 use Rattle.struck.proofs.struck_out.Goals as goal
 
-pub struck_accepted-requires : goal.struck_accepted-requires
-struck_accepted-requires c = sym c.check.ensures ∙ ap check_number c.in_default.is
+pub returns-in_err-check : goal.returns-in_err-check
+returns-in_err-check c =
+    rw (err_is _ _ c.from_residual.ensures.1) (struck_plan _ _ _ _ _ _ _ _ _ c.check.ensures c.in_err-check.was)
 
-pub returns : goal.returns
-returns c = struck_plan _ _ _ _ _ _ _ _ _ c.check.ensures c.in-Refused.is
+pub returns-in_err-terms_call : goal.returns-in_err-terms_call
+returns-in_err-terms_call c =
+    let ok = sym c.check.ensures ∙ ap check_number c.in_ok-check.was in
+    rw (err_is _ _ c.from_residual-in_err-terms_call.ensures.1)
+    (struck_terms _ _ _ _ _ _ _ ok _ c.terms_call.ensures _ c.in_err-terms_call.was)
+
+pub struck_asked-requires : goal.struck_asked-requires
+struck_asked-requires c =
+    (sym c.check.ensures ∙ ap check_number c.in_ok-check.was, terms_free_by _ _ c.terms_call.ensures c.in_ok-terms_call.was)
