@@ -2,6 +2,9 @@
 -- Assumes nothing.
 use Rattle.std.specs.Prelude.{ℕ, ◌||◌, ltb}
 use Rattle.temporal.specs.Plan.{Terms}
+use Rattle.temporal.specs.FirstNext
+use Rattle.plan.specs.Setting.{terms_of}
+use Rattle.calls.specs.declared.Question.{Question}
 use Rattle.temporal.specs.Cause.{first, ends_causes, pair_causes}
 use Rattle.temporal.specs.Outcome.{work_size}
 use Rattle.plan.specs.Fault.{call_number}
@@ -21,3 +24,15 @@ pair_call_fault n t terms s z lent named area = first (pair_causes terms n s z (
 abbrev pub call_check_number : Result (Unit {0}) CallFault → ℕ
 call_check_number (Ok x) = 0
 call_check_number (Err f) = call_number f
+
+-- what a call asks about, as the definitions have it
+abbrev pub asked : Question → FirstNext.Question
+asked q =
+    record {
+      bytes = q.plan.now;
+      stations = q.setting.stations;
+      slots = q.setting.slots;
+      terms = terms_of q.setting;
+      source = q.source;
+      destination = q.destination;
+    }

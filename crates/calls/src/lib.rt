@@ -7,10 +7,19 @@ ghost use Rattle.temporal.specs.Plan.{units};
 ghost use Rattle.temporal.specs.Cause.{first, wrong_turnaround, wrong_keeping, terms_causes};
 ghost use Rattle.calls.specs.Call.{stations_fault, pair_call_fault, call_check_number};
 
-use plan::CallFault;
+use plan::{CallFault, Setting};
 
 // The most slots for which a reading is kept.
 const MOST_KEEPING: usize = 255;
+
+// What a call on a pair asks about: a plan with its setting, a source and a destination.
+#[derive(Clone, Copy)]
+pub struct Question<'a> {
+    pub plan: &'a [u8],
+    pub setting: Setting,
+    pub source: usize,
+    pub destination: usize,
+}
 
 // Whether the turnaround is outside 1 to 16: 12.
 fn wrong_turnaround(g: usize) -> bool

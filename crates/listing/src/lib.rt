@@ -7,10 +7,12 @@ ghost use Rattle.temporal.specs.Cause.{plan_fault};
 ghost use Rattle.temporal.specs.Outcome.{over, work_size};
 ghost use Rattle.temporal.specs.Cursor.{first_way, next_way};
 ghost use Rattle.temporal.specs.FirstNext.{way_work, WayContract};
+ghost use Rattle.calls.specs.Call.{asked};
 ghost use Rattle.listing.specs.Answer.{reply_of, question};
 ghost use Rattle.listing.specs.Work.{WayReady, Worked, way_outcome};
 
-use plan::{CallFault, Fault};
+use calls::Question;
+use plan::{CallFault, Fault, Setting};
 use ways::Pair;
 
 // What first way and next way answer: a way, with its hops; no way; or no way after the one in the buffer.
@@ -31,33 +33,51 @@ fn clear_area(work: &mut [u64], n: usize, t: usize)
 
 // First way once 1 to 5, 12, 14 and 6 to 8 are excluded: the first walk of the list, or none where it is empty.
 fn first_work(
-    plan: &[u8],
-    n: usize,
-    t: usize,
-    g: usize,
-    h: usize,
-    source: usize,
-    destination: usize,
+    question: &Question<'_>,
     way: &mut [u16],
     work: &mut [u64],
 ) -> Result<WayAnswer, Fault>
-    requires { WayReady (question plan.now n t g h source destination) way.old work.old }
-    ensures { Worked first_way (question plan.now n t g h source destination) way.old work.old
-        (reply_of result) way.new work.new }
+    requires { WayReady (asked question.now) way.old work.old }
+    ensures { Worked first_way (asked question.now) way.old work.old (reply_of result) way.new work.new }
 {
-    if forward::pass(work, plan, n, t, g, h, h, source, 0, 0) {
+    let Question {
+        plan,
+        setting,
+        source,
+        destination,
+    } = *question;
+    if forward::pass(
+        work,
+        plan,
+        setting.stations,
+        setting.slots,
+        setting.turnaround,
+        setting.keeping,
+        setting.keeping,
+        source,
+        0,
+        0,
+    ) {
         return Err(Fault::Call(CallFault::TooMany));
     }
     let hops = work[destination] as usize;
     if hops == 65535 {
         return Ok(WayAnswer::NoPath);
     }
-    ways::complete(work, plan, n, t, g, h, destination);
+    ways::complete(
+        work,
+        plan,
+        setting.stations,
+        setting.slots,
+        setting.turnaround,
+        setting.keeping,
+        destination,
+    );
     let pair = Pair {
-        stations: n,
-        slots: t,
-        turnaround: g,
-        keeping: h,
+        stations: setting.stations,
+        slots: setting.slots,
+        turnaround: setting.turnaround,
+        keeping: setting.keeping,
         source,
         destination,
         hops,
@@ -68,22 +88,15 @@ fn first_work(
 
 // The work, and the work area cleared after it.
 fn first_cleared(
-    plan: &[u8],
-    n: usize,
-    t: usize,
-    g: usize,
-    h: usize,
-    source: usize,
-    destination: usize,
+    question: &Question<'_>,
     way: &mut [u16],
     work: &mut [u64],
 ) -> Result<WayAnswer, Fault>
-    requires { WayReady (question plan.now n t g h source destination) way.old work.old }
-    ensures { way_outcome (reply_of result) way.new work.new ≡
-        way_work first_way (question plan.now n t g h source destination) way.old work.old }
+    requires { WayReady (asked question.now) way.old work.old }
+    ensures { way_outcome (reply_of result) way.new work.new ≡ way_work first_way (asked question.now) way.old work.old }
 {
-    let answer = first_work(plan, n, t, g, h, source, destination, way, work);
-    clear_area(work, n, t);
+    let answer = first_work(question, way, work);
+    clear_area(work, question.setting.stations, question.setting.slots);
     answer
 }
 
@@ -104,34 +117,51 @@ pub fn first_way(
 {
     plan::check(plan, n, t)?;
     calls::pair_call(n, t, g, h, source, destination, way.len(), t, work.len())?;
-    first_cleared(plan, n, t, g, h, source, destination, way, work)
+    let question = Question {
+        plan,
+        setting: Setting {
+            stations: n,
+            slots: t,
+            turnaround: g,
+            keeping: h,
+        },
+        source,
+        destination,
+    };
+    first_cleared(&question, way, work)
 }
 
 // Next way once 1 to 5, 12, 14 and 6 to 8 are excluded: on from the walk with which the buffer begins; 10 where it begins with none.
-fn next_work(
-    plan: &[u8],
-    n: usize,
-    t: usize,
-    g: usize,
-    h: usize,
-    source: usize,
-    destination: usize,
-    way: &mut [u16],
-    work: &mut [u64],
-) -> Result<WayAnswer, Fault>
-    requires { WayReady (question plan.now n t g h source destination) way.old work.old }
-    ensures { Worked next_way (question plan.now n t g h source destination) way.old work.old
-        (reply_of result) way.new work.new }
+fn next_work(question: &Question<'_>, way: &mut [u16], work: &mut [u64]) -> Result<WayAnswer, Fault>
+    requires { WayReady (asked question.now) way.old work.old }
+    ensures { Worked next_way (asked question.now) way.old work.old (reply_of result) way.new work.new }
 {
-    if forward::pass(work, plan, n, t, g, h, h, source, 0, 0) {
+    let Question {
+        plan,
+        setting,
+        source,
+        destination,
+    } = *question;
+    if forward::pass(
+        work,
+        plan,
+        setting.stations,
+        setting.slots,
+        setting.turnaround,
+        setting.keeping,
+        setting.keeping,
+        source,
+        0,
+        0,
+    ) {
         return Err(Fault::Call(CallFault::TooMany));
     }
     let hops = work[destination] as usize;
     let pair = Pair {
-        stations: n,
-        slots: t,
-        turnaround: g,
-        keeping: h,
+        stations: setting.stations,
+        slots: setting.slots,
+        turnaround: setting.turnaround,
+        keeping: setting.keeping,
         source,
         destination,
         hops,
@@ -139,7 +169,15 @@ fn next_work(
     if hops == 65535 || !ways::offered(way, plan, pair) {
         return Err(Fault::Call(CallFault::NotShortestPath));
     }
-    ways::complete(work, plan, n, t, g, h, destination);
+    ways::complete(
+        work,
+        plan,
+        setting.stations,
+        setting.slots,
+        setting.turnaround,
+        setting.keeping,
+        destination,
+    );
     if ways::next_path(way, work, plan, pair) {
         return Ok(WayAnswer::Path(hops));
     }
@@ -148,22 +186,15 @@ fn next_work(
 
 // The work, and the work area cleared after it.
 fn next_cleared(
-    plan: &[u8],
-    n: usize,
-    t: usize,
-    g: usize,
-    h: usize,
-    source: usize,
-    destination: usize,
+    question: &Question<'_>,
     way: &mut [u16],
     work: &mut [u64],
 ) -> Result<WayAnswer, Fault>
-    requires { WayReady (question plan.now n t g h source destination) way.old work.old }
-    ensures { way_outcome (reply_of result) way.new work.new ≡
-        way_work next_way (question plan.now n t g h source destination) way.old work.old }
+    requires { WayReady (asked question.now) way.old work.old }
+    ensures { way_outcome (reply_of result) way.new work.new ≡ way_work next_way (asked question.now) way.old work.old }
 {
-    let answer = next_work(plan, n, t, g, h, source, destination, way, work);
-    clear_area(work, n, t);
+    let answer = next_work(question, way, work);
+    clear_area(work, question.setting.stations, question.setting.slots);
     answer
 }
 
@@ -184,5 +215,16 @@ pub fn next_way(
 {
     plan::check(plan, n, t)?;
     calls::pair_call(n, t, g, h, source, destination, way.len(), t, work.len())?;
-    next_cleared(plan, n, t, g, h, source, destination, way, work)
+    let question = Question {
+        plan,
+        setting: Setting {
+            stations: n,
+            slots: t,
+            turnaround: g,
+            keeping: h,
+        },
+        source,
+        destination,
+    };
+    next_cleared(&question, way, work)
 }

@@ -70,6 +70,15 @@ impl From<CallFault> for Fault {
     }
 }
 
+// How many stations and slots a plan has, its units' turnaround, and for how many slots they keep a reading.
+#[derive(Clone, Copy, Debug, PartialEq, Eq)]
+pub struct Setting {
+    pub stations: usize,
+    pub slots: usize,
+    pub turnaround: usize,
+    pub keeping: usize,
+}
+
 // Document 01's number of a fault of the plan.
 pub fn plan_number(fault: PlanFault) -> usize
     ensures { result ≡ plan_number fault }
