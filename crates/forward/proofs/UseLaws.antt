@@ -82,16 +82,7 @@ module _ (low block : ℕ) where
 -- the slot in which it ends is one of the plan's, where it waits for another station than the source
 module _ (bs : List ℕ) (n t : ℕ) (terms : Terms) (s until : ℕ) (ok : plan_fault bs n t ≡ 0) (other : s ≢ until) (col : ℕ → ℕ) (block : ℕ)
     (work : List ℕ) where
-  -- settled in a slot
-  pub settled_in : (r : Result ℕ Stopped) → EndedAs bs n t terms s until whole col block work r → slot_of r ≢ 0
-      → SettledAt bs n t terms s until whole col block work (slot_of r)
-  unfolding slot_of EndedAs
-  settled_in (Ok e) x d = x
-  settled_in (Err stopped.StationTooMany) x d = absurd (d refl)
-  settled_in (Err stopped.AppearanceTooMany) x d = absurd (d refl)
-  settled_in (Err stopped.TooWide) x d = absurd (x refl)
-
-  -- or not at all
+  -- it is settled in one, or meets a count over 2^64 - 1
   pub not_settled : (r : Result ℕ Stopped) → EndedAs bs n t terms s until whole col block work r → slot_of r ≡ 0 → Overfull bs n t terms s until
   unfolding slot_of EndedAs
   not_settled (Ok e) x d =

@@ -52,16 +52,6 @@ pub enum Stopped {
     TooWide,
 }
 
-// The smaller of two numbers.
-pub fn smaller(a: usize, b: usize) -> usize
-    ensures { result ≡ min a b }
-{
-    if b < a {
-        return b;
-    }
-    a
-}
-
 // Writes each entry of a row, the first one first, with f of itself and of its fellow in another row.
 pub fn combine_rows<F: Fn(u64, u64) -> u64>(
     work: &mut [u64],
