@@ -4,45 +4,61 @@
 
 ghost use Rattle.std.specs.Prelude.{◌≡◌};
 ghost use Rattle.temporal.specs.Plan.{units};
-ghost use Rattle.temporal.specs.Bytes.{plan_of};
 ghost use Rattle.temporal.specs.OutcomeVerdict.{judged, verdict};
-ghost use Rattle.listing.specs.Answer.{question};
+ghost use Rattle.plan.specs.Setting.{plan_in};
+ghost use Rattle.calls.specs.Call.{asked};
 ghost use Rattle.verdicts.specs.Answer.{verdict_outcome};
 ghost use Rattle.verdicts.specs.Work.{VerdictReady, VerdictWorked};
 
+use calls::Question;
 use judging::Judgement;
-use plan::{CallFault, Fault};
+use plan::{CallFault, Fault, Setting};
 use ways::Pair;
 
 // The operation once 1 to 5, 12, 14 and 6 to 8 are excluded.
-fn verdict_work(
-    plan: &[u8],
-    n: usize,
-    t: usize,
-    g: usize,
-    h: usize,
-    source: usize,
-    destination: usize,
-    list: &[u16],
-    work: &mut [u64],
-) -> Result<Judgement, Fault>
-    requires { VerdictReady (question plan.now n t g h source destination) work.old }
-    ensures { VerdictWorked (question plan.now n t g h source destination) list.now work.old result
+fn verdict_work(question: &Question<'_>, list: &[u16], work: &mut [u64]) -> Result<Judgement, Fault>
+    requires { VerdictReady (asked question.now) work.old }
+    ensures { VerdictWorked (asked question.now) list.now work.old result
         work.new }
 {
-    if forward::pass(work, plan, n, t, g, h, h, source, 0, 0) {
+    let Question {
+        plan,
+        setting,
+        source,
+        destination,
+    } = *question;
+    if forward::pass(
+        work,
+        plan,
+        setting.stations,
+        setting.slots,
+        setting.turnaround,
+        setting.keeping,
+        setting.keeping,
+        source,
+        0,
+        0,
+    ) {
         return Err(Fault::Call(CallFault::TooMany));
     }
     let hops = work[destination] as usize;
     if hops == 65535 {
         return Ok(judging::judge_none(list));
     }
-    ways::complete(work, plan, n, t, g, h, destination);
+    ways::complete(
+        work,
+        plan,
+        setting.stations,
+        setting.slots,
+        setting.turnaround,
+        setting.keeping,
+        destination,
+    );
     let pair = Pair {
-        stations: n,
-        slots: t,
-        turnaround: g,
-        keeping: h,
+        stations: setting.stations,
+        slots: setting.slots,
+        turnaround: setting.turnaround,
+        keeping: setting.keeping,
         source,
         destination,
         hops,
@@ -52,22 +68,20 @@ fn verdict_work(
 
 // The work, and the work area cleared after it.
 fn verdict_cleared(
-    plan: &[u8],
-    n: usize,
-    t: usize,
-    g: usize,
-    h: usize,
-    source: usize,
-    destination: usize,
+    question: &Question<'_>,
     list: &[u16],
     work: &mut [u64],
 ) -> Result<Judgement, Fault>
-    requires { VerdictReady (question plan.now n t g h source destination) work.old }
+    requires { VerdictReady (asked question.now) work.old }
     ensures { verdict_outcome result work.new ≡
-        judged (plan_of plan.now n t (units g h)) source destination list.now work.old }
+        judged (plan_in question.now.plan.now question.now.setting) question.now.source question.now.destination
+        list.now work.old }
 {
-    let answer = verdict_work(plan, n, t, g, h, source, destination, list, work);
-    memory::clear(work, 4 * (n * (t + 1)));
+    let answer = verdict_work(question, list, work);
+    memory::clear(
+        work,
+        4 * (question.setting.stations * (question.setting.slots + 1)),
+    );
     answer
 }
 
@@ -88,5 +102,16 @@ pub fn verdict(
 {
     plan::check(plan, n, t)?;
     calls::pair_call(n, t, g, h, source, destination, 0, 0, work.len())?;
-    verdict_cleared(plan, n, t, g, h, source, destination, list, work)
+    let question = Question {
+        plan,
+        setting: Setting {
+            stations: n,
+            slots: t,
+            turnaround: g,
+            keeping: h,
+        },
+        source,
+        destination,
+    };
+    verdict_cleared(&question, list, work)
 }
