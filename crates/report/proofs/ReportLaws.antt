@@ -29,12 +29,11 @@ use Rattle.temporal.proofs.CauseLaws.{
 }
 use Rattle.walks.proofs.EnteredLaws.{unless_some, unless_none, entered_plan, entered_call, entered_some}
 use Rattle.walks.proofs.PlanLaws.{contacts_length}
-use Rattle.plan.specs.Fault.{fault_number}
+use Rattle.std.specs.Prelude.{Result, Ok, Err}
+use Rattle.plan.specs.Fault.{fault_number, answer_number}
 use Rattle.plan.specs.declared.Fault.{Fault}
 use Rattle.plan.proofs.Answers.{fault-number-within}
-use Rattle.loads.specs.Answer.{load_buffers, loads_number, loads_outcome}
-use Rattle.loads.specs.declared.LoadsAnswer.{LoadsAnswer}
-use Rattle.loads.specs.declared.LoadsAnswer.TheVariants as loads-answer
+use Rattle.loads.specs.Answer.{load_buffers, loads_outcome}
 use Rattle.loads.proofs.LoadLaws.{loads_works}
 use Rattle.text.specs.Written as text
 use Rattle.text.proofs.PieceLaws.{pieces_all}
@@ -286,12 +285,12 @@ module _ (bs : List ℕ) (n t : ℕ) (terms : Terms) (out ps ls area : List ℕ)
         made_room f l l' e = omega (arith, ap length e, length_over (map f (below n)) l, length_made f n)
 
   -- the same of an answer of the code
-  module _ (r : LoadsAnswer) (ps' ls' area' : List ℕ)
+  module _ (r : Result (Unit {0}) Fault) (ps' ls' area' : List ℕ)
       (e : loads_outcome r (load_buffers ps' ls' area') ≡ loads bs n t terms (load_buffers ps ls area)) where
     pub lent_within : load_buffers ps' ls' area' ≡ lent_after bs terms (load_buffers ps ls area)
-    lent_within = lent_by (load_buffers ps' ls' area') (loads_number r) e
+    lent_within = lent_by (load_buffers ps' ls' area') (answer_number r) e
 
-    module _ (told : r ≡ loads-answer.Loaded) where
+    module _ (told : r ≡ Ok tt) where
       answer :
           ◌≡◌ {A = Outcome (Unit {0}) LoadBuffers}
           (record { number = 0; values = tt; buffers = load_buffers ps' ls' area' }) (loads bs n t terms old)
@@ -303,7 +302,7 @@ module _ (bs : List ℕ) (n t : ℕ) (terms : Terms) (out ps ls area : List ℕ)
       pub printed_loads : table_of ps' ls' n t (length bs / 6) ≡ printed bs terms
       printed_loads = printed_table ps' ls' area' answer
 
-    pub printed_refused : (f : Fault) (k : ℕ) → r ≡ loads-answer.Refused f → k ≡ fault_number f → refusal_text k ≡ printed bs terms
+    pub printed_refused : (f : Fault) (k : ℕ) → r ≡ Err f → k ≡ fault_number f → refusal_text k ≡ printed bs terms
     printed_refused f k told number =
         ap refusal_text number ∙
         printed_by f (load_buffers ps' ls' area') (ap (λ a. loads_outcome a (load_buffers ps' ls' area')) (sym told) ∙ e)

@@ -1,31 +1,24 @@
--- The largest of a list, one member after the other. Assumes nothing.
-use Prim.Native.Nat.{ℕ, suc, ◌+◌, ◌-◌, ◌<◌, max}
+-- The largest of the values over a range, from the left. Assumes nothing.
+use Prim.Native.Nat.{ℕ, zero, suc, ◌+◌, max}
 use native.Mathlib.Omega.{arith}
-use mathlib.Core.Path.{◌≡◌}
+use mathlib.Core.Path.{◌≡◌, ◌∙◌}
 use mathlib.Core.List.{map}
+use Rattle.std.proofs.Common.{fold}
+use Rattle.std.specs.List.{range_with_len}
 use Rattle.temporal.specs.Lists.{from, below}
 use Rattle.report.specs.Sizes.{largest}
 
-max_assoc : (a b c : ℕ) → max a (max b c) ≡ max (max a b) c
+max_assoc : (a b c : ℕ) → max (max a b) c ≡ max a (max b c)
 max_assoc a b c = omega arith
 
--- the largest of what was seen and of the k numbers from i on
-unfoldable pub largest_from : (ℕ → ℕ) → ℕ → ℕ → ℕ → ℕ
-largest_from f top i k = max top (largest (map f (from i k)))
-
-pub largest_begin : (f : ℕ → ℕ) (m : ℕ) → largest_from f 0 0 (m - 0) ≡ largest (map f (below m))
-unfolding largest_from below
-largest_begin f m =
-    let same : m - 0 ≡ m = omega arith in
-    rw same (omega arith)
-
-pub largest_next : (f : ℕ → ℕ) (top i m : ℕ) → i < m → largest_from f top i (m - i) ≡ largest_from f (max top (f i)) (i + 1) (m - (i + 1))
-unfolding largest_from from largest
-largest_next f top i m h =
-    let left : m - i ≡ suc (m - (i + 1)) = omega arith in
+-- from a number that was seen on, over k places from i on
+fold_largest : (f : ℕ → ℕ) (top i k : ℕ) → fold (λ a x. max a (f x)) top (range_with_len i k) ≡ max top (largest (map f (from i k)))
+unfolding from largest
+fold_largest f top i zero = omega arith
+fold_largest f top i (suc k) =
     let next : i + 1 ≡ suc i = omega arith in
-    rw (left, next) (max_assoc top (f i) (largest (map f (from (suc i) (m - suc i)))))
+    fold_largest f (max top (f i)) (i + 1) k ∙ rw next (max_assoc top (f i) (largest (map f (from (suc i) k))))
 
-pub largest_end : (f : ℕ → ℕ) (top i : ℕ) → largest_from f top i 0 ≡ top
-unfolding largest_from from largest
-largest_end f top i = omega arith
+pub fold_below : (f : ℕ → ℕ) (m : ℕ) → fold (λ a x. max a (f x)) 0 (range_with_len 0 m) ≡ largest (map f (below m))
+unfolding below
+fold_below f m = fold_largest f 0 0 m ∙ omega arith

@@ -9,9 +9,8 @@ ghost use Rattle.report.specs.Sizes.{top_station, input_stations, input_slots, w
 ghost use Rattle.report.specs.Report.{heading, line, refusal_text, Reported};
 ghost use Rattle.report.specs.Work.{lines_of, table_of, Printable, Within};
 
-use loads::LoadsAnswer;
-
 // The larger station number of a record.
+#[tactic(auto, unfolding(crate::specs::Sizes::top_station))]
 fn top_station(input: &[u8], i: usize) -> usize
     requires { i * 6 + 5 < length input.now }
     ensures { result ≡ top_station input.now i }
@@ -24,7 +23,10 @@ fn top_station(input: &[u8], i: usize) -> usize
 pub fn top_of(input: &[u8]) -> usize
     ensures { result + 1 ≡ input_stations input.now }
 {
-    (0..input.len() / 6).map(|i| top_station(input, i)).max().unwrap_or(0)
+    (0..input.len() / 6)
+        .map(|i| top_station(input, i))
+        .max()
+        .unwrap_or(0)
 }
 
 // The last record's slot; 1 where there is no record.
@@ -40,6 +42,7 @@ pub fn slots_of(input: &[u8]) -> usize
 }
 
 // Whether the input is not a multiple of 6 bytes, or over 1,024 records.
+#[tactic(auto, unfolding(crate::specs::Sizes::wrong_input, temporal::specs::Bytes::records))]
 pub fn wrong_input(input: &[u8]) -> bool
     ensures { result ≡ wrong_input input.now }
 {
@@ -47,6 +50,7 @@ pub fn wrong_input(input: &[u8]) -> bool
 }
 
 // Whether stations up to this one are over 32, or slots over 63.
+#[tactic(auto, unfolding(crate::specs::Sizes::over_limits))]
 pub fn over_limits(top: usize, t: usize) -> bool
     ensures { result ≡ over_limits (top + 1) t }
 {
@@ -125,10 +129,10 @@ fn report_within(
         (load_buffers pairs.old sums.old work.old) result out.new
         (load_buffers pairs.new sums.new work.new) }
 {
-    let LoadsAnswer::Refused(fault) = loads::loads(input, n, t, g, 255, pairs, sums, work) else {
-        return put_table(out, n, t, input.len() / 6, pairs, sums);
-    };
-    put_refusal(out, 0, plan::fault_number(fault) as u64)
+    match loads::loads(input, n, t, g, 255, pairs, sums, work) {
+        Ok(()) => put_table(out, n, t, input.len() / 6, pairs, sums),
+        Err(fault) => put_refusal(out, 0, plan::fault_number(fault) as u64),
+    }
 }
 
 // The whole text that a load program prints for an input and units with turnaround g, at the beginning of the output buffer; its

@@ -1,35 +1,29 @@
--- `report::top_of` meets its contract. The loop's invariant: the largest of what was seen and of what is left is the largest of
--- all. The measure is the number of records left.
+-- `report::top_of` meets its contract: the largest of what the chain gives.
 -- Assumes nothing.
-use Prim.Native.Nat.{◌+◌, ◌-◌, ◌/◌, max}
+use Prim.Native.Nat.{◌+◌, ◌/◌}
 use native.Mathlib.Omega.{arith}
-use mathlib.Core.Path.{◌≡◌, sym, ap, ◌∙◌}
+use mathlib.Core.Path.{refl, ap, ◌∙◌}
 use lib.ListN.{length}
+use borrow.Author.Rules.{rules}
+use Rattle.std.specs.Option.{unwrap_or}
+use Rattle.std.specs.List.{range_with_len}
+use Rattle.std.proofs.lemmas.Iterator.{YieldsList-from_range, YieldsList-from_map}
+use Rattle.std.proofs.lemmas.Iterator.Consumers.{YieldsList-at, reduce_from_yields_List}
+use Rattle.std.proofs.lemmas.List.Folds.{max_of_map}
 use Rattle.temporal.specs.Bytes.{records}
 use Rattle.report.specs.Sizes.{top_station, input_stations}
-use Rattle.report.proofs.SizeLaws.{largest_from, largest_begin, largest_next, largest_end}
+use Rattle.report.proofs.SizeLaws.{fold_below}
 use Rattle.report.proofs.top_of.Goals as goal
-
-pub loop-i-init : goal.loop-i-init
-loop-i-init c = (omega arith, largest_begin _ _)
-
-pub loop-i-preserved : goal.loop-i-preserved
-loop-i-preserved c =
-    let f = top_station c.args.input.now in
-    let m = length c.args.input.now / 6 in
-    let i = c.loop-i.i in (
-      omega arith,
-      ap (λ top. largest_from f top (i + 1) (m - (i + 1)))
-          (c.larger-top.ensures ∙ ap (max c.loop-i.top) c.top_station.ensures)
-          ∙ sym (largest_next f _ i m (omega arith)) ∙ c.loop-i.invariant.1,
-    )
 
 pub returns : goal.returns
 unfolding input_stations records
 returns c =
     let f = top_station c.args.input.now in
     let m = length c.args.input.now / 6 in
-    let none : m - c.loop-i.i ≡ 0 = omega arith in
     ap (λ k. k + 1)
-    (sym (largest_end f _ c.loop-i.i) ∙
-    ap (largest_from f _ c.loop-i.i) (sym none) ∙ c.loop-i.invariant.1)
+    (c.unwrap_or.ensures ∙
+    ap (λ o. unwrap_or o 0)
+    (reduce_from_yields_List _ c.map.result _ c.max.ensures.ran
+    (YieldsList-from_map _ f (YieldsList-at c.map.ensures.source (YieldsList-from_range 0 m m refl (omega arith)))
+    c.map.ensures.closure (λ x r q k. search rules))) ∙
+    max_of_map f (range_with_len 0 m) ∙ fold_below f m)
