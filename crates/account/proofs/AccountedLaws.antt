@@ -18,8 +18,10 @@ use Rattle.walks.proofs.Accepted.{accepted}
 use Rattle.lists.proofs.BufferLaws.{written}
 use Rattle.temporal.proofs.CauseLaws.{first_append_none, first_append_some}
 use Rattle.walks.proofs.EnteredLaws.{unless_some, unless_none}
-use Rattle.loads.specs.Answer.{load_buffers, loads_number, loads_outcome}
-use Rattle.loads.specs.declared.LoadsAnswer.{LoadsAnswer}
+use Rattle.loads.specs.Answer.{load_buffers, loads_outcome}
+use Rattle.std.specs.Prelude.{Result}
+use Rattle.plan.specs.Fault.{answer_number}
+use Rattle.plan.specs.declared.Fault.{Fault}
 use Rattle.text.specs.Written as text
 use Rattle.text.proofs.PutLaws.{room_first, room_rest, put_both}
 use Rattle.layered.specs.Layered.{layered}
@@ -69,9 +71,9 @@ account_input bs terms v k j e =
 -- ---- an input within the limits
 
 module _ (bs : List ℕ) (n t g v k : ℕ) (out ps ls layers way area : List ℕ)
-    (a : AccountWithin bs n t k out ps ls layers way area) (r : LoadsAnswer) (ps' ls' area' : List ℕ)
+    (a : AccountWithin bs n t k out ps ls layers way area) (r : Result (Unit {0}) Fault) (ps' ls' area' : List ℕ)
     (e : loads_outcome r (load_buffers ps' ls' area') ≡ loads bs n t (turning g) (load_buffers ps ls area)) (x : ℕ)
-    (told : x ≡ with_station (loads_number r) (leb n v)) where
+    (told : x ≡ with_station (answer_number r) (leb n v)) where
   -- the number of the refusal is the one that is told
   number_is : refusal_of bs (turning g) v ≡ x
   unfolding refusal_of report.causes
@@ -89,8 +91,8 @@ module _ (bs : List ℕ) (n t g v k : ℕ) (out ps ls layers way area : List ℕ
       sym (unless_some (refusal_of bs (turning g) v) _ _ (omega (arith, number_is)) ∙ ap refusal_text number_is)
 
   module _ (none : x ≡ 0) where
-    zeros : (loads_number r ≡ 0) × (leb n v ≡ false)
-    zeros = with_zero (loads_number r) (leb n v) (sym told ∙ none)
+    zeros : (answer_number r ≡ 0) × (leb n v ≡ false)
+    zeros = with_zero (answer_number r) (leb n v) (sym told ∙ none)
 
     pub accounted_loaded : station_text bs n t g v k ≡ accounted bs (turning g) v k
     unfolding accounted

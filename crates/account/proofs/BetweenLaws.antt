@@ -28,8 +28,8 @@ use Rattle.plan.specs.Fault.{fault_number}
 use Rattle.plan.specs.declared.Fault.{Fault}
 use Rattle.plan.proofs.Answers.{fault-number-within}
 use Rattle.pair.specs.Answer.{pair_buffers, pair_outcome}
-use Rattle.pair.specs.declared.PairAnswer.{PairAnswer}
-use Rattle.pair.specs.declared.PairAnswer.TheVariants as pair-answer
+use Rattle.std.specs.Prelude.{Result, Ok, Err}
+use Rattle.pair.specs.declared.PairCount.{PairCount}
 use Rattle.text.specs.Written.{Put}
 use Rattle.text.proofs.PutLaws.{put_none}
 use Rattle.layered.specs.Layered.{layered, down}
@@ -103,30 +103,30 @@ module _ (bs : List ℕ) (n t g v k s z at : ℕ) (ls table way work out : List 
     not_many = (any_false (is_too_many p) (below n)).0 a.counted s ((mem_below n).1 w.source)
 
     -- what pair answers and leaves
-    module _ (r : PairAnswer) (table' work' : List ℕ)
+    module _ (r : Result PairCount Fault) (table' work' : List ℕ)
         (answer : pair_outcome r (pair_buffers table' work') ≡ pair bs n t (turning g) s z (pair_buffers table work)) where
       no_number : (paired p s z (pair_buffers table work)).number ≡ 0
       unfolding paired
       no_number = rw not_many refl
 
       -- it does not refuse
-      pub between_refused : (f : Fault) → r ≡ pair-answer.Refused f → Put at (between_text bs n t g v k s z) out at out
+      pub between_refused : (f : Fault) → r ≡ Err f → Put at (between_text bs n t g v k s z) out at out
       between_refused f told =
           let number : fault_number f ≡ 0 =
           ap (λ r. (pair_outcome r (pair_buffers table' work')).number) (sym told) ∙ ap (λ o. o.number) (answer ∙ works) ∙ no_number in
           absurd (omega (arith, number, fault-number-within f))
 
-      module _ (h c : ℕ) (told : r ≡ pair-answer.Counted h c) where
+      module _ (got : PairCount) (told : r ≡ Ok got) where
         outcome :
             ◌≡◌ {A = Outcome PairValues PairBuffers}
-            (record { number = 0; values = record { hops = h; count = c }; buffers = pair_buffers table' work' }) (paired p s z (pair_buffers table work))
+            (record { number = 0; values = record { hops = got.hops; count = got.count }; buffers = pair_buffers table' work' }) (paired p s z (pair_buffers table work))
         outcome = ap (λ r. pair_outcome r (pair_buffers table' work')) (sym told) ∙ answer ∙ works
 
-        hops_are : h ≡ hops (shortest_walks_to p s z)
+        hops_are : got.hops ≡ hops (shortest_walks_to p s z)
         unfolding paired
         hops_are = ap (λ o. o.values.hops) outcome ∙ rw not_many refl
 
-        count_is : c ≡ count (shortest_walks_to p s z)
+        count_is : got.count ≡ count (shortest_walks_to p s z)
         unfolding paired
         count_is = ap (λ o. o.values.count) outcome ∙ rw not_many refl
 
@@ -150,7 +150,7 @@ module _ (bs : List ℕ) (n t g v k s z at : ℕ) (ls table way work out : List 
           at_most = select_shorter (is_interior p s z v) (shortest_walks_to p s z)
 
           -- the share can be formed
-          pub between_share : (get_or table' v 0 ≤ c) × (0 < c)
+          pub between_share : (get_or table' v 0 ≤ got.count) × (0 < got.count)
           between_share =
               let x = through_is in
               let y = count_is in
@@ -158,9 +158,9 @@ module _ (bs : List ℕ) (n t g v k s z at : ℕ) (ls table way work out : List 
               let q = positive in
               (omega arith, omega arith)
 
-          pub between_figures : (sh : ℕ) → sh ≡ 2 ^ 32 * get_or table' v 0 / c →
+          pub between_figures : (sh : ℕ) → sh ≡ 2 ^ 32 * get_or table' v 0 / got.count →
               ◌≡◌ {A = Figures}
-              (record { source = s; destination = z; hops = h; through = get_or table' v 0; count = c; share = sh }) (figures_of p v e)
+              (record { source = s; destination = z; hops = got.hops; through = get_or table' v 0; count = got.count; share = sh }) (figures_of p v e)
           unfolding share
           between_figures sh q = rw (q, through_is, count_is, hops_are) refl
 

@@ -79,18 +79,6 @@ terms_causes_other terms = decide (wrong_turnaround terms) (wrong_keeping terms)
 -- ---- the number
 
 module _ (k : ℕ) (b : Bool) where
-  pub with_right : b ≡ false → with_station k b ≡ k
-  unfolding with_station
-  with_right e = rw e
-
-  pub with_none : b ≡ true → k ≡ 0 → with_station k b ≡ 6
-  unfolding with_station
-  with_none e z = rw (e, z)
-
-  pub with_nine : b ≡ true → k ≡ 9 → with_station k b ≡ 6
-  unfolding with_station
-  with_nine e z = rw (e, z)
-
   pub with_other : k ≢ 0 → k ≢ 9 → with_station k b ≡ k
   unfolding with_station
   with_other zero-not nine-not = decide b

@@ -1,13 +1,13 @@
 // The account of a station: the text that tells a warden which pairs lean on it, how much, and along which walks.
 #![tactic(auto)]
 
-ghost use Rattle.std.specs.Prelude.{◌≡◌, [], ◌+◌, ◌*◌, ◌<◌, ◌≤◌, min, length, get_or, take};
+ghost use Rattle.std.specs.Prelude.{◌≡◌, [], ◌+◌, ◌*◌, ◌<◌, ◌≤◌, length, get_or, take};
 ghost use Rattle.temporal.specs.Plan.{turning};
 ghost use Rattle.temporal.specs.Outcome.{over};
 ghost use Rattle.text.specs.Written.{Put};
 ghost use Rattle.ways.specs.Found.{list_in};
-ghost use Rattle.loads.specs.Answer.{loads_number};
-ghost use Rattle.account.specs.Account.{most_walks, station_line, pair_line, walk_line, more_line, Accounted};
+ghost use Rattle.plan.specs.Fault.{answer_number};
+ghost use Rattle.account.specs.Account.{station_line, pair_line, walk_line, more_line, Accounted};
 ghost use Rattle.account.specs.Work.{
   figures_in,
   lowered_at,
@@ -27,8 +27,7 @@ ghost use Rattle.account.specs.Work.{
 };
 ghost use Rattle.account.specs.Whole.{station_text, with_station, LayersWritable, LoadedFor, AccountWithin};
 
-use loads::LoadsAnswer;
-use pair::PairAnswer;
+use plan::{CallFault, Fault};
 use ways::Pair;
 
 // The figures of a pair of the station: its ends, hops, through count, count and share.
@@ -112,11 +111,9 @@ fn put_walk(out: &mut [u8], at: usize, layered: &[u8], n: usize, way: &[u16], ho
         out.new }
 {
     let mut end = text::put_bytes(out, at, b"  ");
-    let mut k = 0;
-    while k < hops {
-        let q = ways::wide(way[k]);
+    for k in 0..hops {
+        let q = usize::from(way[k]);
         end = put_leg(out, end, layered, n, q, k + 1 == hops);
-        k += 1;
     }
     end
 }
@@ -128,9 +125,9 @@ fn go_on(way: &mut [u16], work: &[u64], layered: &[u8], q: Pair, i: usize)
 {
     if i == 0 {
         ways::first_path(way, work, layered, q);
-        return;
+    } else {
+        ways::next_path(way, work, layered, q);
     }
-    ways::next_path(way, work, layered, q);
 }
 
 // Writes the lines of the first walks of a pair of the layered plan, as many as most says.
@@ -149,23 +146,11 @@ fn put_walks(
         out.new }
 {
     let mut end = at;
-    let mut i = 0;
-    while i < most {
+    for i in 0..most {
         go_on(way, work, layered, q, i);
         end = put_walk(out, end, layered, n, way, q.hops);
-        i += 1;
     }
     end
-}
-
-// The smaller of two numbers.
-fn fewer(k: usize, x: u64) -> usize
-    ensures { result ≡ min k x }
-{
-    if (k as u64) < x {
-        return k;
-    }
-    x as usize
 }
 
 // Writes the text of a pair: its line, at most k walks of the layered plan, and how many more there are.
@@ -187,7 +172,7 @@ fn put_pair(
     let stations = 2 * n;
     let destination = n + f.destination;
     ways::complete(work, layered, stations, t, g, 255, destination);
-    let most = fewer(k, f.through);
+    let most = (k as u64).min(f.through);
     let q = Pair {
         stations,
         slots: t,
@@ -198,8 +183,8 @@ fn put_pair(
         hops: f.hops as usize,
     };
     let a = put_pair_line(out, at, f);
-    let b = put_walks(out, a, layered, n, q, most, way, work);
-    put_more(out, b, f.through - most as u64)
+    let b = put_walks(out, a, layered, n, q, most as usize, way, work);
+    put_more(out, b, f.through - most)
 }
 
 // Writes the text of the pair from s to z where it is a pair of station v.
@@ -225,22 +210,20 @@ fn put_between(
     if s == z {
         return at;
     }
-    let PairAnswer::Counted(hops, count) = pair::pair(input, n, t, g, 255, s, z, through, work)
-    else {
+    let Ok(told) = pair::pair(input, n, t, g, 255, s, z, through, work) else {
         return at;
     };
     let x = through[v];
     if x == 0 {
         return at;
     }
-    let share = shares::share(x, count);
     let f = Figures {
         source: s,
         destination: z,
-        hops,
+        hops: told.hops,
         through: x,
-        count,
-        share,
+        count: told.count,
+        share: shares::share(x, told.count),
     };
     put_pair(out, at, layered, n, t, g, k, f, way, work)
 }
@@ -265,12 +248,10 @@ fn put_source(
     ensures { Put at (source_text input.now n t g v k s) out.old result out.new }
 {
     let mut end = at;
-    let mut z = 0;
-    while z < n {
+    for z in 0..n {
         end = put_between(
             out, end, input, layered, n, t, g, v, k, s, z, through, way, work,
         );
-        z += 1;
     }
     end
 }
@@ -294,12 +275,10 @@ fn put_pairs(
     ensures { Put at (pairs_text input.now n t g v k) out.old result out.new }
 {
     let mut end = at;
-    let mut s = 0;
-    while s < n {
+    for s in 0..n {
         end = put_source(
             out, end, input, layered, n, t, g, v, k, s, through, way, work,
         );
-        s += 1;
     }
     end
 }
@@ -362,29 +341,17 @@ fn account_loaded(
     put_pairs_of(out, at, input, layers, n, t, g, v, k, pairs, way, work)
 }
 
-// The number of a refusal of loads, 0 for none, where a station is named: 6, a wrong station, comes before 9.
-fn with_station(number: u64, wrong: bool) -> u64
-    ensures { result ≡ with_station number wrong }
+// What loads answers, where a station is named: 6, a wrong station, comes before 9.
+#[tactic(auto, unfolding(crate::specs::Whole::with_station))]
+fn with_station(answer: Result<(), Fault>, wrong: bool) -> Result<(), Fault>
+    ensures { answer_number result ≡ with_station (answer_number answer) wrong }
 {
-    if wrong {
-        if number == 0 {
-            return 6;
+    match answer {
+        Ok(()) | Err(Fault::Call(CallFault::TooMany)) if wrong => {
+            Err(Fault::Call(CallFault::Station))
         }
-        if number == 9 {
-            return 6;
-        }
+        _ => answer,
     }
-    number
-}
-
-// The number of a refusal of the account, 0 for none, from what loads answers.
-fn number_of(answer: LoadsAnswer, wrong: bool) -> u64
-    ensures { result ≡ with_station (loads_number answer) wrong }
-{
-    let LoadsAnswer::Refused(fault) = answer else {
-        return with_station(0, wrong);
-    };
-    with_station(plan::fault_number(fault) as u64, wrong)
 }
 
 // The text of an input within the program's limits, with at most k walks a pair.
@@ -406,25 +373,14 @@ fn account_within(
     ensures { Accounted input.now (turning g) v k out.old result out.new }
 {
     let answer = loads::loads(input, n, t, g, 255, pairs, sums, work);
-    let number = number_of(answer, n <= v);
-    if number == 0 {
-        return account_loaded(input, n, t, g, v, k, out, pairs, sums, layers, way, work);
+    match with_station(answer, n <= v) {
+        Ok(()) => account_loaded(input, n, t, g, v, k, out, pairs, sums, layers, way, work),
+        Err(fault) => report::put_refusal(out, 0, plan::fault_number(fault) as u64),
     }
-    report::put_refusal(out, 0, number)
-}
-
-// The number of walks that are printed under a pair: a number above the most counts as the most.
-fn walks_of(walks: usize) -> usize
-    ensures { result ≡ min walks most_walks }
-{
-    if 8 < walks {
-        return 8;
-    }
-    walks
 }
 
 // The whole text of the account of a station for an input and units with turnaround g, at the beginning of the output buffer; its
-// length.
+// length. A number of walks above 8 counts as 8.
 pub fn account(
     input: &[u8],
     g: usize,
@@ -447,7 +403,7 @@ pub fn account(
     if report::over_limits(top, t) {
         return report::put_refusal(out, 0, 1);
     }
-    let k = walks_of(walks);
+    let k = walks.min(8);
     account_within(
         input,
         top + 1,

@@ -47,7 +47,7 @@ account_within-requires c =
             loads_size = search rules;
             work_size_law = search rules;
           };
-      few_walks = omega (arith, c.walks_of-k.ensures);
+      few_walks = omega (arith, c.min-k.ensures);
       out_size = search rules;
       layers_size = search rules;
       way_size = search rules;
@@ -56,4 +56,4 @@ account_within-requires c =
 
 pub returns : goal.returns
 returns c =
-    account_walks _ _ _ _ _ _ _ _ c.walks_of-k.ensures c.account_within.ensures
+    account_walks _ _ _ _ _ _ _ _ c.min-k.ensures c.account_within.ensures

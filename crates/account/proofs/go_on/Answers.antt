@@ -11,6 +11,6 @@ pub next_path-requires : goal.next_path-requires
 next_path-requires c =
     move_next _ _ _ c.args.way.now _ c.requires (omega arith)
 
-pub returns : goal.returns
-returns c =
+pub returns-else-i-eq0 : goal.returns-else-i-eq0
+returns-else-i-eq0 c =
     moved_next _ _ _ _ _ c.requires (omega arith) _ _ c.next_path.ensures

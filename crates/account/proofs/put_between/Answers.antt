@@ -12,26 +12,26 @@ returns-in_default c =
 
 pub returns-then-x-eq0 : goal.returns-then-x-eq0
 returns-then-x-eq0 c =
-    between_none _ _ _ _ _ _ _ _ _ _ _ _ _ _ c.requires c.if-s-z.false _ _ _ c.pair.ensures _ _ c.in-Counted.is c.if-x-eq0.true
+    between_none _ _ _ _ _ _ _ _ _ _ _ _ _ _ c.requires c.if-s-z.false _ _ _ c.pair.ensures _ c.in-Ok.is c.if-x-eq0.true
 
-pub share-share-requires : goal.share-share-requires
-share-share-requires c =
-    between_share _ _ _ _ _ _ _ _ _ _ _ _ _ _ c.requires c.if-s-z.false _ _ _ c.pair.ensures _ _ c.in-Counted.is c.if-x-eq0.false
+pub share-requires : goal.share-requires
+share-requires c =
+    between_share _ _ _ _ _ _ _ _ _ _ _ _ _ _ c.requires c.if-s-z.false _ _ _ c.pair.ensures _ c.in-Ok.is c.if-x-eq0.false
 
 pub put_pair-requires : goal.put_pair-requires
 put_pair-requires c =
     let answer = c.pair in
-    let told = c.in-Counted.is in
+    let told = c.in-Ok.is in
     let some = c.if-x-eq0.false in
-    between_writable _ _ _ _ _ _ _ _ _ _ _ _ _ c.args.out.now c.requires c.if-s-z.false _ _ _ answer.ensures _ _ told some _
-    (between_figures _ _ _ _ _ _ _ _ _ _ _ _ _ c.args.out.now c.requires c.if-s-z.false _ _ _ answer.ensures _ _ told some _
-    c.share-share.ensures) answer.auto.work
+    between_writable _ _ _ _ _ _ _ _ _ _ _ _ _ c.args.out.now c.requires c.if-s-z.false _ _ _ answer.ensures _ told some _
+    (between_figures _ _ _ _ _ _ _ _ _ _ _ _ _ c.args.out.now c.requires c.if-s-z.false _ _ _ answer.ensures _ told some _
+    c.share.ensures) answer.auto.work
 
 pub returns : goal.returns
 returns c =
     let answer = c.pair in
-    let told = c.in-Counted.is in
+    let told = c.in-Ok.is in
     let some = c.if-x-eq0.false in
-    between_written _ _ _ _ _ _ _ _ _ _ _ _ _ _ c.requires c.if-s-z.false _ _ _ answer.ensures _ _ told some _
-    (between_figures _ _ _ _ _ _ _ _ _ _ _ _ _ _ c.requires c.if-s-z.false _ _ _ answer.ensures _ _ told some _
-    c.share-share.ensures) _ _ c.put_pair.ensures
+    between_written _ _ _ _ _ _ _ _ _ _ _ _ _ _ c.requires c.if-s-z.false _ _ _ answer.ensures _ told some _
+    (between_figures _ _ _ _ _ _ _ _ _ _ _ _ _ _ c.requires c.if-s-z.false _ _ _ answer.ensures _ told some _
+    c.share.ensures) _ _ c.put_pair.ensures

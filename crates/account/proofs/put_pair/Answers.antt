@@ -9,18 +9,18 @@ put_pair_line-a-requires c =
 
 pub put_walks-b-requires : goal.put_walks-b-requires
 put_walks-b-requires c =
-    rw c.fewer-most.ensures
+    rw c.min-most.ensures
     (pair_walks_writable _ _ _ _ _ _ _ _ _ c.args.out.now c.requires _ _ c.put_pair_line-a.ensures _
     c.complete.ensures)
 
 pub put_more-requires : goal.put_more-requires
 put_more-requires c =
-    rw c.fewer-most.ensures
+    rw c.min-most.ensures
     (pair_more_room _ _ _ _ _ _ _ _ _ c.args.out.now c.requires _ _ c.put_pair_line-a.ensures _ _
-    (rw c.fewer-most.ensures at c.put_walks-b.ensures))
+    (rw c.min-most.ensures at c.put_walks-b.ensures))
 
 pub returns : goal.returns
 returns c =
-    let most = c.fewer-most.ensures in
+    let most = c.min-most.ensures in
     pair_written _ _ _ _ _ _ _ _ _ c.args.out.now c.requires _ _ c.put_pair_line-a.ensures _ _
     (rw most at c.put_walks-b.ensures) _ _ (rw most at c.put_more.ensures)

@@ -1,5 +1,4 @@
--- `account::put_pairs` meets its contract. The loop's invariant: the texts of the pairs from source s on are left. The measure is the number
--- of sources left.
+-- `account::put_pairs` meets its contract. The loop's invariant: the texts of the pairs from source s on are left.
 -- Assumes nothing.
 use native.Mathlib.Omega.{arith}
 use Rattle.text.proofs.GoingLaws.{going_begin}
@@ -15,9 +14,6 @@ pub put_source-end-requires : goal.put_source-end-requires
 put_source-end-requires c =
     let loop = c.loop-s in
     source_next _ _ _ _ _ _ _ _ _ _ _ c.args.out.now _ _ _ _ _ loop.invariant.1 _ c.requires (omega arith) loop.invariant.0
-
-pub loop-s-smaller : goal.loop-s-smaller
-loop-s-smaller c = omega arith
 
 pub loop-s-preserved : goal.loop-s-preserved
 loop-s-preserved c =

@@ -1,5 +1,4 @@
--- `account::put_source` meets its contract. The loop's invariant: the texts of the pairs from destination z on are left. The measure is the
--- number of destinations left.
+-- `account::put_source` meets its contract. The loop's invariant: the texts of the pairs from destination z on are left.
 -- Assumes nothing.
 use native.Mathlib.Omega.{arith}
 use Rattle.text.proofs.GoingLaws.{going_begin}
@@ -14,9 +13,6 @@ pub put_between-end-requires : goal.put_between-end-requires
 put_between-end-requires c =
     let loop = c.loop-z in
     between_next _ _ _ _ _ _ _ _ _ _ _ c.args.out.now _ _ _ _ _ loop.invariant.1 _ _ c.requires (omega arith) loop.invariant.0
-
-pub loop-z-smaller : goal.loop-z-smaller
-loop-z-smaller c = omega arith
 
 pub loop-z-preserved : goal.loop-z-preserved
 loop-z-preserved c =

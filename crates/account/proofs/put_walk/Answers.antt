@@ -1,4 +1,4 @@
--- `account::put_walk` meets its contract. The loop's invariant: the legs from k on are left. The measure is their number.
+-- `account::put_walk` meets its contract. The loop's invariant: the legs from k on are left.
 -- Assumes nothing.
 use native.Mathlib.Omega.{arith}
 use mathlib.Core.Path.{◌∙◌}
@@ -17,16 +17,13 @@ loop-k-init c =
 
 pub put_leg-end-requires : goal.put_leg-end-requires
 put_leg-end-requires c =
-    rw c.wide-q.ensures.0
+    rw c.from-q.ensures
     (piece_room _ _ _ _ _ _ _ _ c.loop-k.invariant (omega arith), c.requires.position _ (omega arith))
-
-pub loop-k-smaller : goal.loop-k-smaller
-loop-k-smaller c = omega arith
 
 pub loop-k-preserved : goal.loop-k-preserved
 loop-k-preserved c =
     piece_next _ _ _ _ _ _ _ _ c.loop-k.invariant (omega arith) _ _
-    (rw c.wide-q.ensures.0 at c.put_leg-end.ensures)
+    (rw c.from-q.ensures at c.put_leg-end.ensures)
 
 pub shape_of-out : goal.shape_of-out
 shape_of-out c = c.loop-k.invariant.same ∙ c.put_bytes-end.auto.out

@@ -1,6 +1,5 @@
--- `account::put_walk` meets its contract. The loop's invariant: the legs from k on are left. The measure is their number.
+-- `account::put_walk` meets its contract. The loop's invariant: the legs from k on are left.
 -- Assumes nothing.
-use Prim.Native.Nat.{◌-◌}
 use Rattle.text.specs.Pieces.{pieces}
 use Rattle.text.proofs.GoingLaws.{Going}
 use Rattle.account.specs.Work.{leg_at}
@@ -9,6 +8,3 @@ use Rattle.account.proofs.put_walk.Given as goal
 abbrev pub invariant-loop-k : goal.invariant-loop-k
 invariant-loop-k l =
     Going l.initial.end (pieces (leg_at l.layered l.n l.hops l.way) 0 l.hops) l.initial.out l.end (pieces (leg_at l.layered l.n l.hops l.way) l.k l.hops) l.out
-
-abbrev pub decreases-loop-k : goal.decreases-loop-k
-decreases-loop-k l = l.hops - l.k

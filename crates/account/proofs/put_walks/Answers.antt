@@ -1,5 +1,5 @@
 -- `account::put_walks` meets its contract. The loop's invariant: the lines of the walks from i on are left, and the way buffer begins with
--- the walk before. The measure is their number.
+-- the walk before.
 -- Assumes nothing.
 use native.Mathlib.Omega.{arith}
 use Rattle.text.proofs.GoingLaws.{going_begin}
@@ -19,9 +19,6 @@ pub put_walk-end-requires : goal.put_walk-end-requires
 put_walk-end-requires c =
     let loop = c.loop-i in
     listed_writable _ _ _ _ _ _ _ _ c.requires _ _ loop.invariant.1 (omega arith) _ c.go_on.ensures _ _ loop.invariant.0
-
-pub loop-i-smaller : goal.loop-i-smaller
-loop-i-smaller c = omega arith
 
 pub loop-i-preserved : goal.loop-i-preserved
 loop-i-preserved c =

@@ -1,7 +1,6 @@
 -- `account::put_walks` meets its contract. The loop's invariant: the lines of the walks from i on are left, and the way buffer begins with
--- the walk before. The measure is their number.
+-- the walk before.
 -- Assumes nothing.
-use Prim.Native.Nat.{◌-◌}
 use mathlib.Core.List.{[]}
 use lib.ListN.{get_or}
 use Rattle.text.specs.Pieces.{pieces}
@@ -17,6 +16,3 @@ invariant-loop-i l =
     Going l.at (walk_lines l.layered l.n (list_in l.layered l.q) l.most) l.initial.out l.end
     (pieces (λ k. walk_line (lowered_at l.layered l.n) (get_or (list_in l.layered l.q) k [])) l.i l.most) l.out ×
     Listed l.layered l.q l.i l.initial.way l.way
-
-abbrev pub decreases-loop-i : goal.decreases-loop-i
-decreases-loop-i l = l.most - l.i
