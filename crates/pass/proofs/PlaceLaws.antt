@@ -1,22 +1,19 @@
 -- Places of the work area: rows lie within it and apart from each other. What the functions over it leave, from what
 -- the functions that they call leave. Assumes nothing.
-use Rattle.std.proofs.Common.{◌≡◌, ℕ, suc, ◌+◌, ◌-◌, ◌*◌, ◌/◌, ◌%◌, ◌<◌, ◌≤◌, min, Bool, true, false, cond, not, ◌&&◌, eqb, ltb, ◌≢◌, ◌⊎◌, List, length, get_or, set, sym, refl, ap, ◌∙◌, subst, inl, inr, le_refl, mul-le-mul_right, mod-lt, suc-mul, mul-le-mul, div-add-mod', arith, length-set, ltb-false, ltb-true, le-ltb, lt-ltb, eq-eqb, ne_eqb}
+use Rattle.std.proofs.Common.{◌≡◌, ℕ, suc, ◌+◌, ◌-◌, ◌*◌, ◌/◌, ◌%◌, ◌<◌, ◌≤◌, min, Bool, true, false, cond, not, ◌&&◌, eqb, ltb, ◌≢◌, ◌⊎◌, List, length, get_or, set, sym, refl, ap, ◌∙◌, inl, inr, le_refl, mul-le-mul_right, mod-lt, suc-mul, mul-le-mul, div-add-mod', arith, length-set, ltb-false, ltb-true, le-ltb, lt-ltb, eq-eqb, ne_eqb}
 use native.Mathlib.Nat.{mul-add-mod_self_right}
 use native.Mathlib.Decide.{dec_le}
 use mathlib.Core.Logic.{by_cases}
-use Rattle.temporal.specs.Bytes.{contact_at}
-use Rattle.plan.specs.declared.Contact.{Contact}
-use Rattle.plan.specs.Record.{contact_of}
 use Rattle.memory.specs.Fill.{filled}
 use Rattle.memory.proofs.FillLaws.{filled_length}
 use Rattle.pass.specs.Row.{part_size, row_at, part_at}
 use Rattle.pass.specs.Entry.{merged_area, absorbed, Absorbable}
 use Rattle.pass.specs.Column.{Lanes}
-use Rattle.pass.specs.Sweep.{sent_area, folded_area, cleared_column, masked, settled_one, too_wide, Sweep, sweep_of, halts_at, taken_in}
+use Rattle.pass.specs.Sweep.{sent_area, cleared_column, masked, settled_one, too_wide, Sweep, sweep_of, halts_at, taken_in}
 use Rattle.pass.specs.Sweep.{widens_at, taken_next}
 use Rattle.lists.proofs.ListLaws.{not_both}
 use Rattle.pass.specs.Sweep.{settled_next, settled_by, hearer_at, station_at, HearersFit, Chosen, SlotSettled}
-use Rattle.pass.specs.Sweep.{emptied, emptied_from, begun_area, PartFits, Area, FoldableArea}
+use Rattle.pass.specs.Sweep.{emptied, emptied_from, begun_area, PartFits, Area}
 
 -- ---- parts and rows
 
@@ -173,26 +170,6 @@ module _ (known : Bool) (n block base : ℕ) (w : List ℕ) (v x : ℕ) where
   pub sent_none : 65535 ≤ get_or w v 0 → sent_area known n block base w v x ≡ w
   unfolding sent_area
   sent_none none = rw (le-ltb (get_or w v 0) 65535 none)
-
--- the stations of the record that was read lie within the plan
-pub record EndsWithin (n : ℕ) (r : Contact) : Type 0 where
-  pub sender : r.sender < n
-  pub hearer : r.hearer < n
-
--- the record that was read lies within the plan
-pub read_within : (bs : List ℕ) (n block base j : ℕ) (w : List ℕ) (r : Contact) → FoldableArea bs n block base j w
-    → contact_of r ≡ contact_at bs j → EndsWithin n r
-read_within bs n block base j w r f e =
-    record {
-      sender = subst (λ c. c.sender < n) (sym e) f.sender_station;
-      hearer = subst (λ c. c.hearer < n) (sym e) f.hearer_station;
-    }
-
--- a send over the record that was read folds it in
-pub folded_by : (known : Bool) (bs : List ℕ) (n block base j : ℕ) (w out : List ℕ) (r : Contact) → contact_of r ≡ contact_at bs j
-    → out ≡ sent_area known n block base w r.sender r.hearer → out ≡ folded_area known n block base w (contact_at bs j)
-unfolding folded_area
-folded_by known bs n block base j w out r e sent = sent ∙ ap (folded_area known n block base w) e
 
 -- ---- a mask
 
@@ -374,12 +351,6 @@ pub record Emptying (n size k : ℕ) (old : List ℕ) (i : ℕ) (now : List ℕ)
   pub within : i ≤ k
   pub same : length now ≡ length old
   pub rest : emptied_from n size now (i * size) (k - i) ≡ emptied_from n size old 0 k
-
--- two fills empty a part
-pub emptied_by : (n : ℕ) (w : List ℕ) (at : ℕ) (one out : List ℕ) → one ≡ filled w at n 65535 → out ≡ filled one (at + n) n 0
-    → out ≡ emptied n w at
-unfolding emptied
-emptied_by n w at one out first second = second ∙ ap (λ l. filled l (at + n) n 0) first
 
 -- to empty a part keeps the length
 pub emptied_length : (n : ℕ) (w : List ℕ) (at : ℕ) → length (emptied n w at) ≡ length w

@@ -1,9 +1,9 @@
 -- Lanes by the split of the columns: what the functions that read and clear them leave, and when a count does not fit. Assumes nothing.
-use Rattle.std.proofs.Common.{◌≡◌, ℕ, ◌+◌, ◌-◌, ◌*◌, ◌/◌, ◌%◌, ◌^◌, ◌<◌, ◌≤◌, Bool, true, false, eqb, ltb, leb, ◌≢◌, List, get_or, set, sym, refl, ap, ◌∙◌, le_of_lt, mod-lt, div-lt_iff_lt-mul, mul-le-mul, pos_of_ne-zero, arith, pow_pos, pow_mono, ltb-false, ltb-true, eq-eqb, ne_eqb, le-leb}
+use Rattle.std.proofs.Common.{◌≡◌, ℕ, ◌+◌, ◌-◌, ◌*◌, ◌/◌, ◌%◌, ◌^◌, ◌<◌, ◌≤◌, Bool, true, false, eqb, ltb, leb, ◌≢◌, List, sym, refl, ap, ◌∙◌, le_of_lt, mod-lt, div-lt_iff_lt-mul, mul-le-mul, pos_of_ne-zero, arith, pow_pos, pow_mono, ltb-false, ltb-true, eq-eqb, ne_eqb, le-leb}
 use borrow.Author.Tests.{lt-leb}
 use lib.Pow.{pow-lt}
 use Rattle.entries.specs.Entry.{merged_count}
-use Rattle.lanes.specs.Lane.{without_lane, ones, lanes_of, width_of}
+use Rattle.lanes.specs.Lane.{ones, lanes_of, width_of}
 use Rattle.lanes.proofs.LaneLaws.{lanes_fill, lane_asked}
 use Rattle.pass.specs.declared.Columns.{Columns}
 use Rattle.pass.specs.Row.{row_at}
@@ -37,11 +37,6 @@ pub column_asked : (split j b l : ℕ) → split ≤ 3 → b ≡ 64 / 2 ^ split 
 unfolding lanes_of width_of
 column_asked split j b l few eb el =
     rw (eb, el) (lane_asked (64 / 2 ^ split) (2 ^ split) (j % 2 ^ split) (lanes_fill split few) (mod-lt j (pow_pos split)))
-
-pub cleared_by : (split j row at e b l r : ℕ) (w : List ℕ) → e ≡ j / 2 ^ split → b ≡ 64 / 2 ^ split → l ≡ j % 2 ^ split → at ≡ row + e
-    → r ≡ without_lane b (get_or w at 0) l → set w at r ≡ cleared_column (lanes_by split) w row j
-unfolding cleared_column
-cleared_by split j row at e b l r w ee eb el ea er = rw (er, ea, ee, eb, el)
 
 -- an entry of a row lies within it
 pub column_entry : (split j block : ℕ) → j < block * 2 ^ split → j / 2 ^ split < block

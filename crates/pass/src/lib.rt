@@ -86,6 +86,7 @@ fn add_row(work: &mut [u64], to: usize, from: usize, size: usize)
 }
 
 // Takes a row beside l hops into a row beside h hops.
+#[tactic(auto, using(crate::proofs::RowLaws::merged_fewer, crate::proofs::RowLaws::merged_equal, crate::proofs::RowLaws::merged_more))]
 fn merge_row(work: &mut [u64], to: usize, from: usize, size: usize, h: u64, l: u64)
     requires { RowsFit work.old to from size }
     ensures { work.new ≡ combined (merged_row h l) work.old to from size }
@@ -98,6 +99,7 @@ fn merge_row(work: &mut [u64], to: usize, from: usize, size: usize, h: u64, l: u
 }
 
 // Takes d walks of l hops into the entry at a place.
+#[tactic(auto, unfolding(crate::specs::Entry::merged_area, entries::specs::Entry::merged_count))]
 fn merge(work: &mut [u64], n: usize, at: usize, l: u64, d: u64)
     requires { at + n < length work.old }
     ensures { work.new ≡ merged_area n work.old at l d }
@@ -113,6 +115,7 @@ fn merge(work: &mut [u64], n: usize, at: usize, l: u64, d: u64)
 }
 
 // Takes d walks of l hops, with their row, into the entry at a place and its row.
+#[tactic(auto, unfolding(crate::specs::Entry::absorbed))]
 pub fn absorb(
     work: &mut [u64],
     n: usize,
@@ -160,6 +163,7 @@ fn send(work: &mut [u64], known: bool, n: usize, block: usize, base: usize, v: u
 }
 
 // Folds the record at j in, of the plan without the record at position out.
+#[tactic(auto, unfolding(crate::specs::Sweep::folded_area))]
 fn fold_record(
     work: &mut [u64],
     plan: &[u8],
@@ -207,6 +211,7 @@ pub fn split_of(columns: Columns) -> usize
 }
 
 // Writes 0 to column j of the row that begins at a place.
+#[tactic(auto, unfolding(crate::specs::Sweep::cleared_column))]
 pub fn clear_column(work: &mut [u64], row: usize, j: usize, split: usize)
     requires { (split ≤ 3) × (j < 2 ^ 63) × (row + j / 2 ^ split < length work.old) }
     ensures { work.new ≡ cleared_column (lanes_by split) work.old row j }
@@ -244,6 +249,7 @@ fn mask(
 }
 
 // The count beside the fewer of h and l hops; both counts where they are equal. 0 stands for one over 2^64 - 1.
+#[tactic(auto, unfolding(entries::specs::Entry::merged_count))]
 fn merged_count(h: u64, c: u64, l: u64, d: u64) -> u64
     ensures { result ≡ merged_count h c l d }
 {
@@ -269,6 +275,7 @@ pub fn too_wide(split: usize, h: u64, c: u64, l: u64, d: u64) -> bool
 }
 
 // The same for the settled entry of station v.
+#[tactic(auto, using(crate::proofs::WidthLaws::wide_split))]
 pub fn wide_at(work: &[u64], n: usize, v: usize, l: u64, d: u64, columns: Columns) -> bool
     requires { (v + n < length work.now) × (split_of columns ≤ 3) }
     ensures { result ≡ too_wide (lanes_by (split_of columns)) (slice_index work.now v) (slice_index work.now (v + n)) l d }
@@ -347,6 +354,7 @@ fn settle_waiting(
 }
 
 // The same where something waits for v; else nothing is changed.
+#[tactic(auto, using(crate::proofs::PlaceLaws::settled_none))]
 fn settle_one(
     work: &mut [u64],
     known: bool,
@@ -411,6 +419,7 @@ fn settle_slot(
 }
 
 // Empties the part that begins at a place.
+#[tactic(auto, unfolding(crate::specs::Sweep::emptied))]
 pub fn empty_part(work: &mut [u64], n: usize, at: usize)
     requires { at + 2 * n ≤ length work.old }
     ensures { work.new ≡ emptied n work.old at }
@@ -442,6 +451,7 @@ pub fn begin(work: &mut [u64], n: usize, block: usize, q: usize, source: usize, 
 }
 
 // The same with 1 in every column of the source's row.
+#[tactic(auto, using(crate::proofs::WidthLaws::begun_split))]
 pub fn begin_columns(
     work: &mut [u64],
     n: usize,
