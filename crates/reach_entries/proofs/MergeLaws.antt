@@ -1,36 +1,10 @@
 -- What merging an entry leaves, from comparisons of numbers. Assumes nothing.
-use Prim.Native.Nat.{ℕ, suc, ◌+◌, ◌-◌, ◌*◌, ◌<◌, ◌≤◌, min}
+use Prim.Native.Nat.{ℕ, suc, ◌+◌, ◌-◌, ◌*◌, ◌<◌, ◌≤◌}
 use native.Mathlib.Omega.{arith}
 use mathlib.Core.Path.{◌≡◌, refl, sym, ap, ◌∙◌}
-use mathlib.Core.List.{List}
 use borrow.Author.Tests.{lt-ltb, le-ltb}
-use lib.ListN.{length, get_or, set, length-set}
-use lib.Seq.{set-get_or}
-use Rattle.entries.specs.Entry.{add_counts}
-use Rattle.entries.proofs.CountLaws.{count_fewer, count_equal, count_more}
-use Rattle.reach_entries.specs.Table.{Table, table_of, merged_table, sent_table, settled_table}
-
-module _ (h c : List ℕ) (at l d : ℕ) where
-  -- fewer hops take the place of the entry
-  pub merge_fewer : l < get_or h at 0 → merged_table (table_of h c) at l d ≡ table_of (set h at l) (set c at d)
-  unfolding merged_table
-  merge_fewer less =
-      let fewer : min (get_or h at 0) l ≡ l = omega arith in
-      rw (fewer, count_fewer (get_or h at 0) (get_or c at 0) l d less)
-
-  -- as many hops add the count
-  pub merge_equal : l ≡ get_or h at 0 → merged_table (table_of h c) at l d ≡ table_of h (set c at (add_counts (get_or c at 0) d))
-  unfolding merged_table
-  merge_equal same =
-      let kept : min (get_or h at 0) l ≡ get_or h at 0 = omega arith in
-      rw (kept, set-get_or h at 0, count_equal (get_or h at 0) (get_or c at 0) l d same)
-
-  -- more hops leave the entry
-  pub merge_more : get_or h at 0 < l → merged_table (table_of h c) at l d ≡ table_of h c
-  unfolding merged_table
-  merge_more more =
-      let kept : min (get_or h at 0) l ≡ get_or h at 0 = omega arith in
-      rw (kept, set-get_or h at 0, count_more (get_or h at 0) (get_or c at 0) l d more, set-get_or c at 0)
+use lib.ListN.{length, get_or, length-set}
+use Rattle.reach_entries.specs.Table.{Table, merged_table, sent_table, settled_table}
 
 module _ (x y : Table) (v at : ℕ) where
   -- a station with walks sends them on

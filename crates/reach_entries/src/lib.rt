@@ -19,6 +19,7 @@ ghost use Rattle.reach_entries.specs.Table.{
 ghost use Rattle.reach_entries.specs.Pass.{tables_of, begun_tables, emptied_tables, tables_overflow};
 
 // Takes c walks of h hops into the entry at a place.
+#[tactic(auto, unfolding(crate::specs::Table::merged_table, entries::specs::Entry::merged_count))]
 fn merge(hops: &mut [u16], counts: &mut [u64], at: usize, h: u16, c: u64)
     requires { (at < length hops.old) × (at < length counts.old) }
     ensures { table_of hops.new counts.new ≡
@@ -34,6 +35,7 @@ fn merge(hops: &mut [u16], counts: &mut [u64], at: usize, h: u16, c: u64)
 }
 
 // Sends what a station has on over one hop more, to the entry at a place.
+#[tactic(auto, unfolding(crate::specs::Table::sent_table))]
 fn send(
     hops: &mut [u16],
     counts: &mut [u64],
@@ -163,6 +165,7 @@ pub fn begin(
 }
 
 // Clears the named parts of the four tables.
+#[tactic(auto, unfolding(crate::specs::Pass::emptied_tables))]
 pub fn clear(
     hops: &mut [u16],
     counts: &mut [u64],
@@ -184,6 +187,7 @@ pub fn clear(
 }
 
 // Whether an appearance or a station has a count over 2^64 - 1.
+#[tactic(auto, unfolding(crate::specs::Pass::tables_overflow))]
 pub fn overflowed(
     hops: &[u16],
     counts: &[u64],
