@@ -31,29 +31,6 @@ pub overflow_add-top : goal.overflow_add-top
 overflow_add-top c =
     omega (arith, limit_stations _ _ (sym c.over_limits.ensures ∙ c.if-over_limits.false))
 
-pub account_within-requires : goal.account_within-requires
-account_within-requires c =
-    record {
-      within =
-          record {
-            right_input =
-                sym c.wrong_input.ensures ∙ c.if-wrong_input.false;
-            stations = c.top_of-top.ensures;
-            slots = c.slots_of-t.ensures;
-            limits =
-                sym c.over_limits.ensures ∙ c.if-over_limits.false;
-            out_size = search rules;
-            pairs_size = search rules;
-            loads_size = search rules;
-            work_size_law = search rules;
-          };
-      few_walks = omega (arith, c.min-k.ensures);
-      out_size = search rules;
-      layers_size = search rules;
-      way_size = search rules;
-      work_size_law = search rules;
-    }
-
 pub returns : goal.returns
 returns c =
     account_walks _ _ _ _ _ _ _ _ c.min-k.ensures c.account_within.ensures

@@ -4,9 +4,6 @@ use native.Mathlib.Omega.{arith}
 use Rattle.account.proofs.ListedLaws.{move_next, moved_next}
 use Rattle.account.proofs.go_on.Goals as goal
 
-pub returns-then-i-eq0 : goal.returns-then-i-eq0
-returns-then-i-eq0 c = rw c.if-i-eq0.true c.first_path.ensures
-
 pub next_path-requires : goal.next_path-requires
 next_path-requires c =
     move_next _ _ _ c.args.way.now _ c.requires (omega arith)

@@ -23,17 +23,5 @@ loop-s-preserved c =
       lengths_next loop.invariant.1 told.auto.through told.auto.way told.auto.work,
     )
 
-pub shape_of-out : goal.shape_of-out
-shape_of-out c = c.loop-s.invariant.0.same
-
-pub shape_of-through : goal.shape_of-through
-shape_of-through c = c.loop-s.invariant.1.through_same
-
-pub shape_of-way : goal.shape_of-way
-shape_of-way c = c.loop-s.invariant.1.way_same
-
-pub shape_of-work : goal.shape_of-work
-shape_of-work c = c.loop-s.invariant.1.work_same
-
 pub returns : goal.returns
 returns c = pairs_written _ _ _ _ _ _ _ _ _ _ (piece_all _ _ _ _ _ _ _ _ c.loop-s.invariant.0 (omega arith))

@@ -1,13 +1,9 @@
 -- `account::put_source` meets its contract. The loop's invariant: the texts of the pairs from destination z on are left.
 -- Assumes nothing.
 use native.Mathlib.Omega.{arith}
-use Rattle.text.proofs.GoingLaws.{going_begin}
 use Rattle.text.proofs.PieceLaws.{piece_next, piece_all}
-use Rattle.account.proofs.SourceLaws.{lengths_begin, lengths_next, between_next}
+use Rattle.account.proofs.SourceLaws.{lengths_next, between_next}
 use Rattle.account.proofs.put_source.Goals as goal
-
-pub loop-z-init : goal.loop-z-init
-loop-z-init c = (going_begin _ _ _ c.requires.room, lengths_begin _ _ _)
 
 pub put_between-end-requires : goal.put_between-end-requires
 put_between-end-requires c =
@@ -21,18 +17,6 @@ loop-z-preserved c =
       piece_next _ _ _ _ _ _ _ _ loop.invariant.0 (omega arith) _ _ told.ensures,
       lengths_next loop.invariant.1 told.auto.through told.auto.way told.auto.work,
     )
-
-pub shape_of-out : goal.shape_of-out
-shape_of-out c = c.loop-z.invariant.0.same
-
-pub shape_of-through : goal.shape_of-through
-shape_of-through c = c.loop-z.invariant.1.through_same
-
-pub shape_of-way : goal.shape_of-way
-shape_of-way c = c.loop-z.invariant.1.way_same
-
-pub shape_of-work : goal.shape_of-work
-shape_of-work c = c.loop-z.invariant.1.work_same
 
 pub returns : goal.returns
 returns c = piece_all _ _ _ _ _ _ _ _ c.loop-z.invariant.0 (omega arith)

@@ -1,7 +1,6 @@
 -- `account::put_walk` meets its contract. The loop's invariant: the legs from k on are left.
 -- Assumes nothing.
 use native.Mathlib.Omega.{arith}
-use mathlib.Core.Path.{◌∙◌}
 use Rattle.text.proofs.GoingLaws.{going_begin}
 use Rattle.text.proofs.PieceLaws.{piece_room, piece_next, piece_all}
 use Rattle.account.proofs.WalkLaws.{walk_begin_room, walk_legs_room, walk_written}
@@ -24,9 +23,6 @@ pub loop-k-preserved : goal.loop-k-preserved
 loop-k-preserved c =
     piece_next _ _ _ _ _ _ _ _ c.loop-k.invariant (omega arith) _ _
     (rw c.from-q.ensures at c.put_leg-end.ensures)
-
-pub shape_of-out : goal.shape_of-out
-shape_of-out c = c.loop-k.invariant.same ∙ c.put_bytes-end.auto.out
 
 pub returns : goal.returns
 returns c =

@@ -2,18 +2,9 @@
 -- the walk before.
 -- Assumes nothing.
 use native.Mathlib.Omega.{arith}
-use Rattle.text.proofs.GoingLaws.{going_begin}
 use Rattle.text.proofs.PieceLaws.{piece_next, piece_all}
-use Rattle.account.proofs.ListedLaws.{listed_begin, listed_movable, listed_next, listed_line, listed_writable}
+use Rattle.account.proofs.ListedLaws.{listed_next, listed_line, listed_writable}
 use Rattle.account.proofs.put_walks.Goals as goal
-
-pub loop-i-init : goal.loop-i-init
-loop-i-init c =
-    (going_begin _ _ _ c.requires.room, listed_begin _ _ _ _ _ _ _ _ c.requires)
-
-pub go_on-requires : goal.go_on-requires
-go_on-requires c =
-    listed_movable _ _ _ _ _ _ _ _ c.requires _ _ c.loop-i.invariant.1 (omega arith)
 
 pub put_walk-end-requires : goal.put_walk-end-requires
 put_walk-end-requires c =
@@ -28,12 +19,6 @@ loop-i-preserved c =
       piece_next _ _ _ _ _ _ _ _ loop.invariant.0 (omega arith) _ _ (rw line at c.put_walk-end.ensures),
       listed_next _ _ _ _ _ _ _ _ c.requires _ _ loop.invariant.1 (omega arith) _ moved.ensures moved.auto.way,
     )
-
-pub shape_of-out : goal.shape_of-out
-shape_of-out c = c.loop-i.invariant.0.same
-
-pub shape_of-way : goal.shape_of-way
-shape_of-way c = c.loop-i.invariant.1.same
 
 pub returns : goal.returns
 returns c = piece_all _ _ _ _ _ _ _ _ c.loop-i.invariant.0 (omega arith)
