@@ -1,13 +1,8 @@
 -- `stale::begin_window` meets its contract.
 -- Assumes nothing.
 use Rattle.std.proofs.Common.{arith}
-use Rattle.stale.proofs.RingPlaces.{first_parts}
 use Rattle.stale.proofs.WindowSteps.{begun_by, heads_fit}
 use Rattle.stale.proofs.begin_window.Goals as goal
-
-pub begin_columns-requires : goal.begin_columns-requires
-begin_columns-requires c =
-    (first_parts c.requires.0, c.requires.1, c.requires.2)
 
 pub fill_part-requires : goal.fill_part-requires
 fill_part-requires c =

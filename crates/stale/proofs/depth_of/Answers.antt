@@ -15,12 +15,6 @@ slot_end-entered-requires c = at_inside _ _ _ c.loop-u.invariant.enters
 pub slot_end-left-requires : goal.slot_end-left-requires
 slot_end-left-requires c = at_inside _ _ _ c.loop-u.invariant.leaves
 
-pub load_of-more-requires : goal.load_of-more-requires
-load_of-more-requires c = c.slot_end-entered.ensures.from
-
-pub load_of-less-requires : goal.load_of-less-requires
-load_of-less-requires c = c.slot_end-left.ensures.from
-
 pub overflow_add-load : goal.overflow_add-load
 overflow_add-load c =
     omega (

@@ -4,9 +4,6 @@ use Rattle.std.proofs.Common.{arith}
 use Rattle.stale.proofs.WindowSteps.{number_mark_place, follow_early, follow_on}
 use Rattle.stale.proofs.follow.Goals as goal
 
-pub overflow_sub-k : goal.overflow_sub-k
-overflow_sub-k c = omega (arith, c.requires.3)
-
 pub offset_bounds-work-at : goal.offset_bounds-work-at
 offset_bounds-work-at c =
     omega (arith, number_mark_place c.requires.0 _ _ c.number_mark-at.ensures, c.well_formed.0.0)

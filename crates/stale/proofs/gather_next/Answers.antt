@@ -5,15 +5,6 @@ use Rattle.stale.proofs.WindowSteps.{next_same, next_stop, next_other}
 use Rattle.stale.proofs.gather_next.Goals as goal
 use Rattle.stale.proofs.gather_next.Goals.{else-v-last-via-else-v-last, else-v-last-via-then-v-last+else-gather_window}
 
-pub gather_window-requires : goal.gather_window-requires
-gather_window-requires c = (
-  c.requires.0,
-  omega (arith, ap (λ d. d.sender) c.kept_contact-v.ensures, c.requires.3),
-  c.requires.1,
-  c.requires.4,
-  c.requires.5,
-)
-
 pub returns-then-gather_window : goal.returns-then-gather_window
 returns-then-gather_window c =
     next_stop _ _ _ _ _ _ _ _ _ _ _ _ (ap (λ d. d.sender) c.kept_contact-v.ensures) _ _ (omega arith)

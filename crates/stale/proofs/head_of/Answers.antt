@@ -1,7 +1,7 @@
 -- `stale::head_of` meets its contract.
 -- Assumes nothing.
 use Rattle.std.proofs.Common.{arith}
-use Rattle.stale.proofs.WindowSteps.{head_place, head_by}
+use Rattle.stale.proofs.WindowSteps.{head_place}
 use Rattle.stale.proofs.head_of.Goals as goal
 
 pub offset_bounds-work-at : goal.offset_bounds-work-at
@@ -11,6 +11,3 @@ offset_bounds-work-at c =
 pub bounds-work-at : goal.bounds-work-at
 bounds-work-at c =
     omega (arith, head_place c.requires.0 _ _ c.requires.1 c.mark_at-at.ensures)
-
-pub returns : goal.returns
-returns c = head_by _ _ _ c.args.work.now _ _ c.mark_at-at.ensures

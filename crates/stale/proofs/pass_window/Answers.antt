@@ -1,17 +1,12 @@
 -- `stale::pass_window` meets its contract. The loop's invariant: before slot u, at position j, the work area holds the walks from the
 -- source by the slot before, and those that are kept (Windowing).
 -- Assumes nothing.
-use Rattle.std.proofs.Common.{refl, ◌∙◌, arith}
+use Rattle.std.proofs.Common.{refl, arith}
 use Rattle.walks.proofs.Accepted.{accepted}
 use Rattle.pass.proofs.WidthLaws.{filled_by}
-use Rattle.stale.proofs.RingPlaces.{heard_fits}
-use Rattle.stale.proofs.WindowPass.{ready_area, ready_begun, windowing_begun, windowing_area, windowing_position}
+use Rattle.stale.proofs.WindowPass.{ready_begun, windowing_begun, windowing_area, windowing_position}
 use Rattle.stale.proofs.WindowPass.{windowing_records, windowing_next, passed_over, passed_end, passed_entry}
 use Rattle.stale.proofs.pass_window.Goals as goal
-
-pub begin_window-requires : goal.begin_window-requires
-begin_window-requires c =
-    (ready_area _ _ _ _ _ _ _ _ c.requires.0, c.requires.0.source, c.requires.1)
 
 pub loop-u-init : goal.loop-u-init
 loop-u-init c =
@@ -32,10 +27,6 @@ window_slot-requires c =
       c.requires.0.source,
     )
 
-pub shape_of-work-then-window_slot : goal.shape_of-work-then-window_slot
-shape_of-work-then-window_slot c =
-    c.window_slot.auto.work ∙ c.loop-u.invariant.state.same ∙ c.begin_window.auto.work
-
 pub returns-then-window_slot : goal.returns-then-window_slot
 returns-then-window_slot c =
     let ready = ready_begun _ _ _ _ _ _ _ _ _ _ c.requires.0 c.begin_window.ensures in
@@ -52,15 +43,6 @@ loop-u-preserved c =
     let ready = ready_begun _ _ _ _ _ _ _ _ _ _ c.requires.0 c.begin_window.ensures in
     windowing_next _ _ _ _ _ _ _ _ _ _ ready _ _ _ c.loop-u.invariant _
     c.kept_slot_end-end.ensures _ _ (omega arith) c.window_slot.ensures c.if-window_slot.false
-
-pub end_pass-requires : goal.end_pass-requires
-end_pass-requires c =
-    let ready = ready_begun _ _ _ _ _ _ _ _ _ _ c.requires.0 c.begin_window.ensures in
-    omega (arith, heard_fits (windowing_area _ _ _ _ _ _ _ _ _ _ ready _ _ _ c.loop-u.invariant))
-
-pub shape_of-work : goal.shape_of-work
-shape_of-work c =
-    c.loop-u.invariant.state.same ∙ c.begin_window.auto.work
 
 pub returns : goal.returns
 returns c =

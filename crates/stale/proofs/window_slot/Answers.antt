@@ -1,6 +1,5 @@
 -- `stale::window_slot` meets its contract: the windows stop, or the three steps of a slot.
 -- Assumes nothing.
-use Rattle.std.proofs.Common.{◌∙◌}
 use Rattle.stale.proofs.RingPlaces.{area_same, heard_windows}
 use Rattle.stale.proofs.WindowSteps.{slot_stop, slot_by}
 use Rattle.stale.proofs.window_slot.Goals as goal
@@ -13,14 +12,6 @@ pub send_records-requires : goal.send_records-requires
 send_records-requires c = (
   rw (c.part_size-size.ensures, c.ring_at-base.ensures) (heard_windows (area_same c.requires.0 c.gather_records.auto.work)),
   c.requires.2,
-)
-
-pub keep_records-requires : goal.keep_records-requires
-keep_records-requires c = (
-  area_same c.requires.0 (c.send_records.auto.work ∙ c.gather_records.auto.work),
-  c.requires.2,
-  c.requires.3,
-  c.requires.4,
 )
 
 pub returns : goal.returns
