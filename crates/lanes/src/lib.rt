@@ -21,6 +21,7 @@ pub fn without_lane(x: u64, w: usize, l: usize) -> u64
 }
 
 // 1 in each lane of an entry of 1, 2, 4 or 8 lanes.
+#[tactic(auto, unfolding(crate::specs::Lane::packed, crate::specs::Lane::ones, crate::specs::Lane::lanes_of, crate::specs::Lane::width_of))]
 pub fn ones_of(s: usize) -> u64
     requires { s ≤ 3 }
     ensures { result ≡ ones (width_of s) (lanes_of s) }

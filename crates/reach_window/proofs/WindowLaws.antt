@@ -7,7 +7,7 @@ use mathlib.Core.Path.{◌≡◌, refl, sym, ap, ap₂, subst, ◌∙◌}
 use mathlib.Core.Bool.{◌&&◌}
 use mathlib.Core.Logic.{◌≢◌, by_cases}
 use mathlib.Core.List.{List, ◌++◌}
-use lib.ListN.{length, get_or, set, drop, replicate, length-set, length-drop, length-append, length-replicate}
+use lib.ListN.{length, get_or, drop, replicate, length-set, length-drop, length-append, length-replicate}
 use lib.ListN.{get_or-replicate, get_or-append}
 use lib.Seq.{get_or-set_same, drop-set-lt, drop_at}
 use Rattle.temporal.specs.Plan.{Contact, Terms, may_follow, window_first, window_end}
@@ -209,18 +209,6 @@ pub settled_emptied :
     now ≡ settled_slots n width x (emptied_stations n (table_of h c)) 0 width
 settled_emptied n width x h c h' c' now e f g = e ∙ ap (λ y. settled_slots n width x y 0 width) (emptied_by n h c h' c' f g)
 
--- two stores and two gatherings make the window
-pub window_by :
-    (width g h : ℕ) (x : Table) (v u from end : ℕ) (y empty start-there out : Table) → empty ≡ emptied_entry y v →
-    start-there ≡ gathered width x v empty 0 (1 - 0) → from ≡ window_first h u → end ≡ window_end g u →
-    out ≡ gathered width x v start-there from (end - from) → out ≡ window_table width g h x v u y
-unfolding window_table
-window_by width g h x v u from end y empty start-there out b e f f' o =
-    let one : 1 - 0 ≡ 1 = omega arith in
-    o ∙ ap₂ (λ a b. gathered width x v start-there a (b - a)) f f' ∙
-    ap (λ z. gathered width x v z (window_first h u) (window_end g u - window_first h u))
-    (e ∙ ap₂ (λ z k. gathered width x v z 0 k) b one)
-
 -- the place of a slot before an end
 pub slot_place : {v t n width end : ℕ} → v < n → t < end → end ≤ width → v * width + t < n * width
 slot_place {v} {t} {n} {width} h k e = place_below v t n width (n * width) h (omega arith) (omega arith)
@@ -252,11 +240,6 @@ window_folded_by bs width g h j x r y out same e f =
     let there : y ≡ window_table width g h x.appearances (contact_at bs j).sender (contact_at bs j).slot x.stations =
     e ∙ ap (λ (c : Contact). window_table width g h x.appearances c.sender c.slot x.stations) same in
     ap₂ (λ a b. record { appearances = a; stations = b }) (f ∙ ap (λ z. folded_table width x.appearances z (contact_at bs j)) there) there
-
--- two stores empty an entry
-pub emptied_stored : (h c : List ℕ) (v : ℕ) → table_of (set h v 65535) (set c v 0) ≡ emptied_entry (table_of h c) v
-unfolding emptied_entry
-emptied_stored h c v = refl
 
 -- ---- the state of the tables, record by record
 

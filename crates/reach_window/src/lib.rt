@@ -32,6 +32,7 @@ fn gather(
 }
 
 // Leaves no walks in the entry of station v.
+#[tactic(auto, unfolding(crate::specs::Window::emptied_entry))]
 fn empty_entry(station_hops: &mut [u16], station_counts: &mut [u64], v: usize)
     requires { (v < length station_hops.old) × (v < length station_counts.old) }
     ensures { table_of station_hops.new station_counts.new ≡
@@ -42,6 +43,7 @@ fn empty_entry(station_hops: &mut [u16], station_counts: &mut [u64], v: usize)
 }
 
 // Gathers in the entry of station v what it may send on in slot u.
+#[tactic(auto, unfolding(crate::specs::Window::window_table))]
 fn gather_window(
     station_hops: &mut [u16],
     station_counts: &mut [u64],

@@ -20,6 +20,7 @@ fn wrong_set(set: &[u8], n: usize) -> bool
 }
 
 // How many shortest walks to the destination have a member inside, from what the pass left.
+#[tactic(auto, unfolding(crate::specs::Work::touched_entry))]
 fn touched_at(work: &[u64], n: usize, z: usize) -> u64
     requires { Readable n z work.now }
     ensures { result ≡ touched_entry work.now n z }
