@@ -1,7 +1,7 @@
 -- `widths::splits_from` meets its contract. The loop's invariant: the splits from number i on.
 -- Assumes nothing.
 use Rattle.std.proofs.Common.{arith}
-use Rattle.widths.proofs.NarrowLaws.{splits_none, splits_more, splits_whole, splits_room, split_is_small}
+use Rattle.widths.proofs.NarrowLaws.{splits_none, splits_more, splits_room, split_is_small}
 use Rattle.widths.proofs.splits_from.Goals as goal
 
 pub loop-i-init : goal.loop-i-init
@@ -20,6 +20,3 @@ overflow_add-splits c =
 pub loop-i-preserved : goal.loop-i-preserved
 loop-i-preserved c =
     (omega arith, rw c.split_for.ensures (splits_more _ _ _ _ _ (omega arith) c.loop-i.invariant.0 c.loop-i.invariant.1))
-
-pub returns : goal.returns
-returns c = splits_whole _ _ _ _ _ (omega arith) c.loop-i.invariant.1

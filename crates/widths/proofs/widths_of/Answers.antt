@@ -5,7 +5,7 @@ use Rattle.std.proofs.Common.{sym, refl, ◌∙◌, arith}
 use Rattle.walks.proofs.Accepted.{accepted}
 use Rattle.plan.proofs.SlotLaws.{in_slot_inv}
 use Rattle.widths.proofs.RunLaws.{ready_parts, ready_rows, ready_begin, running_begun, running_trail, running_foldable, running_fold}
-use Rattle.widths.proofs.RunLaws.{running_end, running_on, running_part, running_hearers, running_settle, running_bounds, running_found}
+use Rattle.widths.proofs.RunLaws.{running_end, running_on, running_part, running_hearers, running_settle, running_found}
 use Rattle.widths.proofs.widths_of.Goals as goal
 
 pub overflow_add-bounds : goal.overflow_add-bounds
@@ -86,18 +86,6 @@ loop-u-preserved c =
       running_on run (sym c.kept_in_slot.ensures ∙ c.if-kept_in_slot.false) _ c.part_row-base-in-loop-u.ensures (omega arith)
           c.loop-u-test.true,
     )
-
-pub overflow_mul-bounds-2 : goal.overflow_mul-bounds-2
-overflow_mul-bounds-2 c =
-    let (is, run) = c.loop-u.invariant in
-    let last = running_bounds run in
-    rw is (omega (arith, last, run.same, c.begin_keys.auto.work, c.well_formed.0.0))
-
-pub splits_from-requires : goal.splits_from-requires
-splits_from-requires c = let (is, run) = c.loop-u.invariant in (rw is (running_bounds run), run.ready.few)
-
-pub shape_of-work : goal.shape_of-work
-shape_of-work c = c.loop-u.invariant.1.same ∙ c.begin_keys.auto.work
 
 pub returns : goal.returns
 returns c =
