@@ -1,7 +1,5 @@
 -- How many records are of a slot, and the depth that is found from the sums over the slots. Assumes nothing.
-use Rattle.std.proofs.Common.{◌≡◌, ℕ, zero, suc, ◌+◌, ◌-◌, ◌*◌, ◌<◌, ◌≤◌, min, cond, eqb, ◌≢◌, ◌⊎◌, List, length, sym, refl, ap, ◌∙◌, subst, inl, inr, ⊎_elim, mul_comm, mul-le-mul, mul-le-mul_left, add-one, arith, eq-eqb, ne_eqb}
-use Rattle.std.specs.Int.{div_ceil}
-use Rattle.std.proofs.lemmas.Grind.{div_ceil_times}
+use Rattle.std.proofs.Common.{◌≡◌, ℕ, zero, suc, ◌+◌, ◌-◌, ◌*◌, ◌<◌, ◌≤◌, min, cond, eqb, ◌≢◌, ◌⊎◌, List, length, sym, refl, ap, ◌∙◌, subst, inl, inr, ⊎_elim, mul-le-mul, mul-le-mul_left, add-one, arith, eq-eqb, ne_eqb}
 use native.Mathlib.Decide.{dec_le, ℕ_discrete}
 use mathlib.Core.Logic.{by_cases}
 use Rattle.temporal.specs.Lists.{below, from, select}
@@ -153,10 +151,6 @@ module _ (bs : List ℕ) (n x j e : ℕ) (a : AtSlot bs x j) (s : SlotRecords bs
         omega (arith, ap (slot_before bs x) low, ap (slot_before bs x) mid, ap (slot_before bs x) high)
 
 -- ---- the depth
-
-pub deeper_more : (n load depth : ℕ) → 0 < n → div_ceil load n ≤ depth → load ≤ n * depth
-deeper_more n load depth some more =
-    omega (arith, div_ceil_times load n some, mul_comm n (div_ceil load n), mul-le-mul_left n more)
 
 -- as many parts as a reading is kept slots are enough
 pub deep_all : (bs : List ℕ) (n h : ℕ) → 0 < h → Deep bs n h h

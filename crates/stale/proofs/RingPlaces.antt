@@ -1,6 +1,6 @@
 -- Places of the work area where readings go stale: its parts, the marks of the cells and the heads lie within it and apart from each
 -- other, and so do the cells of two numbers. Assumes nothing.
-use Rattle.std.proofs.Common.{◌≡◌, ℕ, suc, ◌+◌, ◌*◌, ◌/◌, ◌%◌, ◌<◌, ◌≤◌, ◌≢◌, ◌⊎◌, List, length, sym, ap, ◌∙◌, inl, inr, ⊎_elim, le_refl, mul-le-mul_right, mod-lt, suc-mul, mul_comm, div-lt_iff_lt-mul, mul-le-mul, mul-pos, div-add-mod', arith}
+use Rattle.std.proofs.Common.{◌≡◌, ℕ, suc, ◌+◌, ◌*◌, ◌/◌, ◌%◌, ◌<◌, ◌≤◌, ◌≢◌, ◌⊎◌, List, length, sym, ap, ◌∙◌, inl, inr, ⊎_elim, mul-le-mul_right, mod-lt, suc-mul, mul_comm, div-lt_iff_lt-mul, mul-pos, div-add-mod', arith}
 use native.Mathlib.Decide.{dec_le, ℕ_discrete}
 use lib.Arith.{digits_lt, digits_div, digits_mod}
 use mathlib.Core.Logic.{by_cases}
@@ -89,27 +89,11 @@ module _ (n d : ℕ) (some : 0 < n) where
 -- ---- places as code computes them
 
 module _ (n block d i size : ℕ) (is : size ≡ part_size n block) (within : i ≤ d) (small : window_size n d block < 18446744073709551616) where
-  pub ring_small : 0 < n → (2 + i < 18446744073709551616) × ((2 + i) * size < 18446744073709551616)
-  ring_small some =
-      let one : 1 ≤ part_size n block = omega arith in
-      let few = mul-le-mul (le_refl (2 + i)) one in
-      let most = mul-le-mul_right {m = 2 + i} {n = 3 + d} (part_size n block) (omega arith) in
-      (omega arith, rw is (omega arith))
-
   pub ring_is : (2 + i) * size ≡ ring_at n block i
   unfolding ring_at
   ring_is = rw is
 
   module _ (v : ℕ) (inside : v < n) where
-    pub mark_small : (3 + d < 18446744073709551616) × ((3 + d) * size < 18446744073709551616) × (i * n < 18446744073709551616)
-        × ((3 + d) * size + i * n < 18446744073709551616) × ((3 + d) * size + i * n + v < 18446744073709551616)
-    mark_small =
-        let one : 1 ≤ part_size n block = omega arith in
-        let few = mul-le-mul (le_refl (3 + d)) one in
-        let low : i < d + 1 = omega arith in
-        let last = digits_lt low inside in
-        (omega arith, rw is (omega arith), omega arith, rw is (omega arith), rw is (omega arith))
-
     pub mark_is : (3 + d) * size + i * n + v ≡ mark_at n block d i v
     unfolding mark_at
     mark_is = rw is

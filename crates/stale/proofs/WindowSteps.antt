@@ -6,9 +6,6 @@ use mathlib.Core.Bool.{and-false}
 use Rattle.temporal.specs.Plan.{Terms, units, window_first, window_end}
 use Rattle.temporal.specs.Bytes.{contact_at}
 use Rattle.memory.specs.Fill.{filled}
-use Rattle.temporal.specs.Plan as temporal
-use Rattle.plan.specs.declared.Contact.{Contact}
-use Rattle.plan.specs.Record.{contact_of}
 use Rattle.entries.proofs.CountLaws.{overflows_some, overflows_none}
 use Rattle.pass.specs.Row.{part_size, row_at}
 use Rattle.lanes.specs.Lane.{ones, lanes_of, width_of}
@@ -117,10 +114,6 @@ module _ (lay : Lanes) (n block : ℕ) (col : ℕ → ℕ) (w : List ℕ) (base 
 
 -- ---- numbers and heads
 
--- a head that code found
-pub head_by : (n block d : ℕ) (w : List ℕ) (v at : ℕ) → at ≡ mark_at n block d d v → get_or w at 0 ≡ head_of n block d w v
-head_by n block d w v at is = rw is
-
 pub head_place : {n block d : ℕ} {w : List ℕ} → WindowArea n block d w → (v at : ℕ) → v < n → at ≡ mark_at n block d d v → at < length w
 head_place {d = d} a v at hv is = rw is (mark_fits a d v (omega arith) hv)
 
@@ -178,9 +171,6 @@ pub record GatheringCell (n block d base v oldest first end head : ℕ) (old : L
   pub rest : gathered_cell n block d now base v oldest first end at left ≡ gathered_cell n block d old base v oldest first end head head
 
 module _ (n block d base v oldest first end head : ℕ) (old : List ℕ) where
-  pub gathering_none : GatheringCell n block d base v oldest first end head old head old
-  gathering_none = record { left = head; enough = omega arith; same = refl; rest = refl }
-
   pub gathering_more : (at at' : ℕ) (now now' : List ℕ) → oldest < at → GatheringCell n block d base v oldest first end head old at now
       → length now' ≡ length now → Followed n block d base v first end at now now' at'
       → GatheringCell n block d base v oldest first end head old at' now'
@@ -261,9 +251,6 @@ pub record GatheringRecords (bs : List ℕ) (lay : Lanes) (n block d : ℕ) (ter
   pub rest : windows_of bs lay n block d terms s col now u last i (end - i) ≡ windows_of bs lay n block d terms s col old u n j (end - j)
 
 module _ (bs : List ℕ) (lay : Lanes) (n block d : ℕ) (terms : Terms) (s : ℕ) (col : ℕ → ℕ) (u j end : ℕ) (old : List ℕ) where
-  pub windows_none : GatheringRecords bs lay n block d terms s col u j end old n j old
-  windows_none = record { from = omega arith; same = refl; rest = refl }
-
   module _ (last i : ℕ) (r : Option ℕ) (now now' : List ℕ) (less : i < end)
       (g : GatheringRecords bs lay n block d terms s col u j end old last i now)
       (e : GatheredNext (contact_at bs i).sender r now'
@@ -308,9 +295,6 @@ pub record SendingRecords (bs : List ℕ) (n block from to j end : ℕ) (old : L
   pub rest : sent_records bs n block from to now i (end - i) ≡ sent_records bs n block from to old j (end - j)
 
 module _ (bs : List ℕ) (n block from to j end : ℕ) (old : List ℕ) where
-  pub sending_none : SendingRecords bs n block from to j end old j old
-  sending_none = record { position = omega arith; same = refl; rest = refl }
-
   pub sending_more : (i : ℕ) (now now' : List ℕ) → i < end → SendingRecords bs n block from to j end old i now
       → length now' ≡ length now
       → now' ≡ taken_cell n block now to (contact_at bs i).hearer from (contact_at bs i).sender 1
@@ -331,18 +315,6 @@ module _ (bs : List ℕ) (n block from to j end : ℕ) (old : List ℕ) where
   sending_all i now past g =
       let none : end - i ≡ 0 = omega arith in
       sym (ap (sent_records bs n block from to now i) none) ∙ g.rest
-
--- a send over the record that was read
-pub sent_by : (bs : List ℕ) (n block from to j : ℕ) (w out : List ℕ) (r : Contact) → contact_of r ≡ contact_at bs j
-    → out ≡ taken_cell n block w to r.hearer from r.sender 1
-    → out ≡ taken_cell n block w to (contact_at bs j).hearer from (contact_at bs j).sender 1
-sent_by bs n block from to j w out r e sent =
-    sent ∙ ap (λ (c : temporal.Contact). taken_cell n block w to c.hearer from c.sender 1) e
-
-pub two_same : {n block to from : ℕ} {w w' : List ℕ} → TwoParts n block to from w → length w' ≡ length w → TwoParts n block to from w'
-two_same a e =
-    let f = a.to_fits in let g = a.from_fits in
-    record { some = a.some; to_fits = omega arith; from_fits = omega arith }
 
 -- ---- keeping
 
@@ -416,11 +388,6 @@ module _ (lay : Lanes) (n block d s u : ℕ) (w : List ℕ) (v size : ℕ) (is :
         le-ltb (get_or w (part_size n block + v) 0) 65535 (rw is at none),
       )
 
--- the hearer of the record that was read
-pub kept_by : (bs : List ℕ) (lay : Lanes) (n block d s u j : ℕ) (w : List ℕ) (r : Contact) (x : Sweep) → contact_of r ≡ contact_at bs j
-    → x ≡ kept_next lay n block d s u w r.hearer → x ≡ kept_next lay n block d s u w (contact_at bs j).hearer
-kept_by bs lay n block d s u j w r x e kept = kept ∙ ap (λ (c : temporal.Contact). kept_next lay n block d s u w c.hearer) e
-
 -- the hearers of the records before i are done
 pub record Keeping (bs : List ℕ) (lay : Lanes) (n block d s u j end : ℕ) (old : List ℕ) (i : ℕ) (now : List ℕ) : Type 0 where
   pub position : j ≤ i
@@ -428,9 +395,6 @@ pub record Keeping (bs : List ℕ) (lay : Lanes) (n block d s u j end : ℕ) (ol
   pub rest : kept_records bs lay n block d s u now i (end - i) ≡ kept_records bs lay n block d s u old j (end - j)
 
 module _ (bs : List ℕ) (lay : Lanes) (n block d s u j end : ℕ) (old : List ℕ) where
-  pub keeping_none : Keeping bs lay n block d s u j end old j old
-  keeping_none = record { position = omega arith; same = refl; rest = refl }
-
   module _ (i : ℕ) (now now' : List ℕ) (r : Bool) (less : i < end) (x : Keeping bs lay n block d s u j end old i now)
       (e : sweep_of r now' ≡ kept_next lay n block d s u now (contact_at bs i).hearer) where
     one_more : goes_on (sweep_of r now') (λ y. kept_records bs lay n block d s u y (i + 1) (end - (i + 1)))

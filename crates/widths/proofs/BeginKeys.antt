@@ -8,7 +8,7 @@ use Rattle.pass.specs.Row.{part_size, part_at}
 use Rattle.pass.specs.Sweep.{begun_area, Area}
 use Rattle.pass.proofs.PlaceLaws.{row_before}
 use Rattle.pass.proofs.BeginLaws.{begun_source, begun_count, waits_hops, waits_counts, none_hops, none_counts}
-use Rattle.widths.specs.Key.{key_of, started_keys, begun_keys, SourcesFit}
+use Rattle.widths.specs.Key.{key_of, started_keys, begun_keys}
 use Rattle.widths.proofs.CellLaws.{cell, outside, row_fits}
 use Rattle.widths.proofs.PackLaws.{Held, limit_of, Packs, row_below}
 use Rattle.widths.proofs.SettleKeys.{none_key}
@@ -64,12 +64,6 @@ pub record Starting (many first : ℕ) (old : List ℕ) (c : ℕ) (now : List �
   pub rest : started_keys many now (first + c) c (many - c) ≡ started_keys many old first 0 many
 
 module _ (many first : ℕ) (old : List ℕ) where
-  pub starting_none : Starting many first old 0 old
-  starting_none =
-      let a : first + 0 ≡ first = omega arith in
-      let b : many - 0 ≡ many = omega arith in
-      record { within = omega arith; same = refl; rest = rw (a, b) }
-
   module _ (c : ℕ) (now : List ℕ) where
     pub starting_more : c < many → Starting many first old c now → Starting many first old (c + 1) (set now ((first + c) * many + c) 1)
     unfolding started_keys
@@ -87,13 +81,6 @@ module _ (many first : ℕ) (old : List ℕ) where
     starting_all h x =
         let b : many - c ≡ 0 = omega arith in
         sym (ap (started_keys many now (first + c) c) b) ∙ x.rest
-
-    -- the place of a source's own key lies within the list
-    pub starting_place : SourcesFit first many old → c < many → Starting many first old c now → (first + c) * many + c < length now
-    starting_place fit h x =
-        let a = row_fits many (first + c) (first + many) old (omega arith) fit.fits in
-        let same = x.same in
-        omega arith
 
 -- ---- the columns
 

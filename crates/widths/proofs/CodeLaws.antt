@@ -1,5 +1,5 @@
 -- What the functions over rows of keys need and leave, from what the functions that they call leave. Assumes nothing.
-use Rattle.std.proofs.Common.{◌≡◌, ℕ, suc, ◌+◌, ◌-◌, ◌*◌, ◌<◌, ◌≤◌, min, Bool, ltb, List, length, sym, refl, ap, ◌∙◌, subst, mul-le-mul_right, arith}
+use Rattle.std.proofs.Common.{◌≡◌, ℕ, suc, ◌+◌, ◌-◌, ◌*◌, ◌<◌, ◌≤◌, min, Bool, ltb, List, length, sym, ap, ◌∙◌, arith}
 use Rattle.temporal.specs.Bytes.{contact_at}
 use Rattle.plan.specs.declared.Contact.{Contact}
 use Rattle.plan.specs.Record.{contact_of}
@@ -8,30 +8,9 @@ use Rattle.pass.specs.Row.{combined}
 use Rattle.pass.specs.Sweep.{station_at, HearersFit}
 use Rattle.pass.proofs.PlaceLaws.{slot_chosen}
 use Rattle.widths.specs.Key.{merged_key, sent_key, widened, settled_keys, settled_keys_by, folded_keys, started_keys, begun_keys}
-use Rattle.widths.specs.Key.{KeysFit, FoldableKeys, SourcesFit, BeginFits, SlotKeys}
-use Rattle.widths.proofs.CellLaws.{row_fits}
+use Rattle.widths.specs.Key.{SlotKeys}
 
 -- ---- a record is folded in
-
--- the rows of the record that was read
-pub record FoldRows (many base : ℕ) (w : List ℕ) (r : Contact) : Type 0 where
-  pub small : base + r.hearer ≤ 65536
-  pub hearer : (base + r.hearer) * many + many ≤ length w
-  pub sender : r.sender * many + many ≤ length w
-
-pub fold_rows : (bs : List ℕ) (n many base bounds j : ℕ) (w : List ℕ) (r : Contact) → FoldableKeys bs n many base bounds j w
-    → contact_of r ≡ contact_at bs j → FoldRows many base w r
-fold_rows bs n many base bounds j w r f e =
-    let sender : r.sender < n = subst (λ c. c.sender < n) (sym e) f.sender_station in
-    let hearer : r.hearer < n = subst (λ c. c.hearer < n) (sym e) f.hearer_station in
-    let before = f.part.before in
-    let behind = f.part.behind in
-    let small = f.part.small in
-    record {
-      small = omega arith;
-      hearer = row_fits many (base + r.hearer) (bounds + 1) w (omega arith) f.part.fits;
-      sender = row_fits many r.sender (bounds + 1) w (omega arith) f.part.fits;
-    }
 
 pub folded_keys_by : (bs : List ℕ) (many base j : ℕ) (w out : List ℕ) (r : Contact) → contact_of r ≡ contact_at bs j
     → out ≡ combined sent_key w ((base + r.hearer) * many) (r.sender * many) many → out ≡ folded_keys many base w (contact_at bs j)
@@ -39,25 +18,6 @@ unfolding folded_keys
 folded_keys_by bs many base j w out r e sent = sent ∙ ap (folded_keys many base w) e
 
 -- ---- a station is settled
-
--- its rows, and that of bounds
-pub record StationRows (many base bounds v : ℕ) (w : List ℕ) : Type 0 where
-  pub small : base + v ≤ 65536
-  pub own : v * many + many ≤ length w
-  pub waits : (base + v) * many + many ≤ length w
-  pub bound : bounds * many + many ≤ length w
-
-pub station_rows : (n many base bounds v : ℕ) (w : List ℕ) → KeysFit n many base bounds w → v < n → StationRows many base bounds v w
-station_rows n many base bounds v w f h =
-    let before = f.before in
-    let behind = f.behind in
-    let small = f.small in
-    record {
-      small = omega arith;
-      own = row_fits many v (bounds + 1) w (omega arith) f.fits;
-      waits = row_fits many (base + v) (bounds + 1) w (omega arith) f.fits;
-      bound = row_fits many bounds (bounds + 1) w (omega arith) f.fits;
-    }
 
 pub settled_by_law : (many base bounds v : ℕ) (w one two out : List ℕ) → one ≡ combined merged_key w (v * many) ((base + v) * many) many
     → two ≡ combined widened one (bounds * many) (v * many) many → out ≡ filled two ((base + v) * many) many 4611615649683210240
@@ -74,9 +34,6 @@ pub record SettlingKeys (f : ℕ → ℕ) (many base bounds : ℕ) (old : List �
   pub rest : settled_keys_by f many base bounds now i (e - i) ≡ settled_keys_by f many base bounds old 0 e
 
 module _ (f : ℕ → ℕ) (many base bounds : ℕ) (old : List ℕ) (e : ℕ) where
-  pub settling_none : SettlingKeys f many base bounds old e 0 old
-  settling_none = let all : e - 0 ≡ e = omega arith in record { within = omega arith; same = refl; rest = rw all }
-
   module _ (i : ℕ) (now : List ℕ) (x : SettlingKeys f many base bounds old e i now) where
     pub settling_more : (now' : List ℕ) (v : ℕ) → i < e → v ≡ f i → now' ≡ settled_keys many base bounds now v → length now' ≡ length now
         → SettlingKeys f many base bounds old e (i + 1) now'
@@ -106,21 +63,6 @@ slot_keys bs n j e fits up many base bounds old new all count is most out =
     }
 
 -- ---- the beginning
-
-pub begin_rows : (many bounds first : ℕ) (w : List ℕ) → BeginFits many bounds first w
-    → (bounds * many + many ≤ length w) × SourcesFit first many w
-begin_rows many bounds first w f =
-    let last = row_fits many bounds (bounds + 1) w (omega arith) f.fits in
-    let before = f.before in (
-      last,
-      record { rows = f.rows; fits = rows_within before },
-    )
-  where
-    rows_within : first + many ≤ bounds → (first + many) * many ≤ length w
-    rows_within h = let a = mul-le-mul_right {m = first + many} {n = bounds} many h in let l = row_fits many bounds (bounds + 1) w (omega arith) f.fits in omega arith
-
-pub sources_kept : (first many : ℕ) (w w' : List ℕ) → SourcesFit first many w → length w' ≡ length w → SourcesFit first many w'
-sources_kept first many w w' f e = let fits = f.fits in record { rows = f.rows; fits = omega arith }
 
 pub begun_keys_by : (many bounds first : ℕ) (w one two out : List ℕ) → one ≡ filled w 0 (bounds * many) 4611615649683210240
     → two ≡ filled one (bounds * many) many 0 → out ≡ started_keys many two first 0 many → out ≡ begun_keys many bounds w first

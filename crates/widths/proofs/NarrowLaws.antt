@@ -79,13 +79,6 @@ splits_more w at many i r some within is =
     let next : at + (i - 1) + 1 ≡ at + i = omega arith in
     rw more (rw next (ap (λ x. split_for (get_or w (at + (i - 1)) 0) + 4 * x) is))
 
--- at last all
-pub splits_whole : (w : List ℕ) (at many i r : ℕ) → i ≡ 0 → r ≡ splits_from w (at + i) (many - i) → r ≡ splits_from w at many
-splits_whole w at many i r none is =
-    let first : at + i ≡ at = omega arith in
-    let whole : many - i ≡ many = omega arith in
-    is ∙ ap (λ a. splits_from w a (many - i)) first ∙ ap (splits_from w at) whole
-
 -- the splits of bounds that are small only where a source has no count over 2^64 - 1
 pub narrow_splits : (bs : List ℕ) (n t : ℕ) (terms : Terms) (k s : ℕ) (w : List ℕ) (at : ℕ)
     → ((c : ℕ) → c < k → get_or w (at + c) 0 < 1125899906842624 → is_too_many (plan_of bs n t terms) (s + c) ≡ false)

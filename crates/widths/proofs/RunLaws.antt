@@ -26,7 +26,7 @@ use Rattle.pass.proofs.PassLaws.{Passing, ready_area, passing_begun, passing_are
 use Rattle.widths.specs.Key.{splits_from, sent_key, settled_keys_by, folded_keys, begun_keys, KeysFit, FoldableKeys, BeginFits, SlotKeys}
 use Rattle.widths.specs.Found.{widths_size, WidthsReady, WidthsFound}
 use Rattle.widths.proofs.NarrowLaws.{narrow_splits}
-use Rattle.widths.proofs.CellLaws.{cell, row_fits, combined_apart, by_length, by_beyond, by_grows}
+use Rattle.widths.proofs.CellLaws.{cell, combined_apart, by_length, by_beyond, by_grows}
 use Rattle.widths.proofs.PackLaws.{Packs, packs_sent, row_below, settled_held}
 use Rattle.widths.proofs.SettleKeys.{follows}
 use Rattle.widths.proofs.BeginKeys.{begun_keys_length, begun_keys_beyond, begun_packs}
@@ -332,10 +332,6 @@ module _ {bs : List ℕ} {n t : ℕ} {terms : Terms} {first many q : ℕ} {old :
 
       stations : station_too_many (plan_of bs n t terms) (first + c) ≡ false
       stations = few_stations bs n t terms ok (first + c) (ends.stations (omega arith))
-
-  -- the row of bounds lies within the list
-  pub running_bounds : (1 + q) * n * many + many ≤ length keys
-  running_bounds = row_fits many ((1 + q) * n) ((1 + q) * n + 1) keys (omega arith) fits
 
   -- the pass ends with the splits of the bounds
   pub running_found : t + q ≤ u → (w : List ℕ) → WidthsReady bs n t terms first many w → old ≡ begun_keys many ((1 + q) * n) w first
