@@ -18,14 +18,14 @@ use Rattle.lists.proofs.BufferLaws.{later_drop}
 use Rattle.walks.proofs.LackingLaws.{lacking_plan}
 use Rattle.lists.proofs.ListLaws.{sum_ext, mem_below}
 use Rattle.walks.proofs.StruckLaws.{uses_differs}
-use Rattle.pass.specs.Row.{combined, second, RowsFit}
+use Rattle.pass.specs.Row.{combined, second}
 use Rattle.pass.proofs.RowLaws.{combined_length, combined_other, combined_at}
 use Rattle.pass.proofs.PassLaws.{drop_same}
-use Rattle.forward.specs.Passed.{pass_size, PassReady, Passed}
+use Rattle.forward.specs.Passed.{pass_size, Passed}
 use Rattle.tallies.specs.Progress.{ends}
 use Rattle.tallies.proofs.BlockLaws.{later_same}
 use Rattle.std.specs.Prelude.{Some, None}
-use Rattle.struck.specs.Work.{differs_at, differing_at, differing, Comparable, users_from, CompareReady, ComparedAs, Compared}
+use Rattle.struck.specs.Work.{differs_at, differing_at, differing, users_from, CompareReady, ComparedAs, Compared}
 
 -- ---- how many stations differ
 
@@ -77,9 +77,6 @@ module _ (n at : ℕ) (w : List ℕ) where
 -- ---- comparing
 
 module _ (bs : List ℕ) (i n t : ℕ) (terms : Terms) (d at s : ℕ) (old : List ℕ) (ready : CompareReady bs i n t terms d at s old) where
-  pub compare_rows : RowsFit old at 0 (2 * n)
-  compare_rows = let r = ready.room in let a = r.apart in let f = r.fits in record { to_fits = f; from_fits = omega arith }
-
   module _ (mid : List ℕ) (copied : mid ≡ combined second old at 0 (2 * n)) where
     mid_length : length mid ≡ length old
     mid_length = ap length copied ∙ combined_length second old at 0 (2 * n)
@@ -97,18 +94,6 @@ module _ (bs : List ℕ) (i n t : ℕ) (terms : Terms) (d at s : ℕ) (old : Lis
         drop_same (at + 2 * n) mid old mid_length
         (λ k h. ap (λ l. get_or l k 0) copied ∙ combined_other second old at 0 (2 * n) k (inr h))
 
-    -- the pass can be made
-    pub compare_pass : PassReady bs n t terms d s 0 0 mid
-    compare_pass =
-        record {
-          accepted = ready.accepted;
-          units = ready.units;
-          deep = ready.deep;
-          source = ready.source;
-          stations = omega arith;
-          fits = let a = ready.area in let f = ready.room.fits in let l = mid_length in omega arith;
-        }
-
     module _ (new : List ℕ) where
       passed_beyond : (r : Bool) → Passed bs n t terms d s 0 0 mid new r → drop (at + 2 * n) new ≡ drop (at + 2 * n) old
       passed_beyond r x =
@@ -120,14 +105,6 @@ module _ (bs : List ℕ) (i n t : ℕ) (terms : Terms) (d at s : ℕ) (old : Lis
           record { answer = sym x.too_many; beyond = passed_beyond true x; same_length = x.same_length ∙ mid_length }
 
       module _ (x : Passed bs n t terms d s 0 0 mid new false) where
-        pub compared_room : Comparable n at new
-        compared_room =
-            let r = ready.room in
-            let f = r.fits in
-            let l = mid_length in
-            let m = x.same_length in
-            record { apart = r.apart; fits = omega arith }
-
         kept_still : (j : ℕ) → j < 2 * n → get_or new (at + j) 0 ≡ get_or old j 0
         kept_still j h = stays ∙ kept_there j h
           where

@@ -27,7 +27,7 @@ use Rattle.walks.proofs.StruckLaws.{uses_differs}
 use Rattle.counting.proofs.SumLaws.{sum_below_suc}
 use Rattle.memory.specs.Fill.{filled}
 use Rattle.memory.proofs.FillLaws.{filled_length, filled_at, filled_beyond}
-use Rattle.pass.specs.Row.{combined, second, RowsFit}
+use Rattle.pass.specs.Row.{combined, second}
 use Rattle.pass.proofs.RowLaws.{combined_length, combined_other, combined_at}
 use Rattle.pass.proofs.PassLaws.{drop_same}
 use Rattle.pass.specs.PassedColumns.{waiting}
@@ -41,7 +41,7 @@ use Rattle.tallies.specs.Sources.{SourceReady, SourceDone}
 use Rattle.tallies.proofs.BlockLaws.{later_same, entry_later}
 use Rattle.tallies.proofs.TermLaws.{partly_none, load_partly}
 use Rattle.std.specs.Prelude.{Option, Some, None}
-use Rattle.struck.specs.Work.{differs_at, differing_at, differing, Comparable, users_from, ParkReady, ParkDone, with_at, without_at, kept_at}
+use Rattle.struck.specs.Work.{differs_at, differing_at, differing, users_from, ParkReady, ParkDone, with_at, without_at, kept_at}
 use Rattle.struck.specs.Work.{BothSummed, RoomReady, BothReady, BothAs, BothStruck, RoomAs, RoomStruck, RoomAsked, RoomFor}
 use Rattle.struck.proofs.StrikeLaws.{or_second, or_neither, users_few, users_all}
 
@@ -79,9 +79,6 @@ module _ (w x : List ℕ) (to from k : ℕ) (e : x ≡ combined second w to from
 
 module _ (bs : List ℕ) (n t : ℕ) (terms : Terms) (d base block park s : ℕ) (old : List ℕ)
     (ready : ParkReady bs n t terms d base block park s old) where
-  pub park_rows : RowsFit old base park (2 * n)
-  park_rows = let a = ready.behind in let f = ready.fits in record { to_fits = omega arith; from_fits = f }
-
   module _ (mid : List ℕ) (taken : mid ≡ combined second old base park (2 * n)) where
     mid_length : length mid ≡ length old
     mid_length = copied_length old mid base park (2 * n) taken
@@ -121,14 +118,6 @@ module _ (bs : List ℕ) (n t : ℕ) (terms : Terms) (d base block park s : ℕ)
           }
 
       module _ (x : SourceDone bs n t terms base s mid w false) where
-        pub park_back : RowsFit w park base (2 * n)
-        park_back =
-            let a = ready.behind in
-            let f = ready.fits in
-            let l = mid_length in
-            let m = x.kept.same_length in
-            record { to_fits = omega arith; from_fits = omega arith }
-
         pub park_done : (new : List ℕ) → new ≡ combined second w park base (2 * n) → ParkDone bs n t terms base park s old new false
         park_done new back =
             let behind = ready.behind in
@@ -201,12 +190,6 @@ module _ (bs : List ℕ) (i n t : ℕ) (terms : Terms) (d base block s : ℕ) (o
       x : ParkDone bs n t terms base (with_at n base) s old first false
       x = done_with false y
 
-      pub both_rows : RowsFit first (kept_at n base) 0 (2 * n)
-      both_rows =
-          let f = ready.room.fits in
-          let l = x.same_length in
-          record { to_fits = omega arith; from_fits = omega arith }
-
       module _ (mid : List ℕ) (kept : mid ≡ combined second first (kept_at n base) 0 (2 * n)) where
         mid_size : length mid ≡ length old
         mid_size = copied_length first mid (kept_at n base) 0 (2 * n) kept ∙ x.same_length
@@ -257,13 +240,6 @@ module _ (bs : List ℕ) (i n t : ℕ) (terms : Terms) (d base block s : ℕ) (o
               }
 
           module _ (z : ParkDone (lacking_record bs i) n t terms base (without_at n base) s mid new false) where
-            pub both_room : Comparable n (kept_at n base) new
-            both_room =
-                let f = ready.room.fits in
-                let l = mid_size in
-                let m = z.same_length in
-                record { apart = let p = ready.room.part in omega arith; fits = omega arith }
-
             kept_there : (j : ℕ) → j < 2 * n → get_or new (kept_at n base + j) 0 ≡ get_or first j 0
             kept_there j h =
                 let f = ready.room.fits in
@@ -549,10 +525,7 @@ columns_more n t terms d block k some =
         ap (◌*◌ m) one ∙ mul-add m (2 * n + n * block) (k * n)
 
 module _ (n t : ℕ) (terms : Terms) (d base block : ℕ) (asked : RoomAsked n t terms d base block) where
-  pub room_same : pass_size n t terms d block + 6 * n ≤ base → RoomFor n t terms d base block
-  room_same h = record { fits = λ some. h }
-
-  pub room_less : 3 < block → RoomFor n t terms d base (block - 3)
+  pub room_less : 3 < block → RoomFor n t terms d base block (Some (block - 3))
   room_less h =
       let turns = asked.turns in
       let slots = asked.slots in
@@ -560,11 +533,4 @@ module _ (n t : ℕ) (terms : Terms) (d base block : ℕ) (asked : RoomAsked n t
       let back : block - 3 + 3 ≡ block = omega arith in
       let less = rw back at more in
       let fits = asked.fits in
-      record { fits = λ some. omega arith }
-
-  pub room_none : RoomFor n t terms d base 0
-  room_none = record { fits = λ some. absurd (omega arith) }
-
-  -- the size is a number of the machine
-  pub room_size : base < 18446744073709551616 → pass_size n t terms d block < 18446744073709551616
-  room_size h = let fits = asked.fits in omega arith
+      record { fits = omega arith; some = λ block_some. omega arith }

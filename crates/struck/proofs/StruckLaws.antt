@@ -5,7 +5,6 @@ use native.Mathlib.Nat.{mul-le-mul_left, mul-le-mul_right}
 use mathlib.Core.Path.{◌≡◌, refl, sym, ap, ap₂, ◌∙◌}
 use mathlib.Core.Bool.{Bool, true, false, ◌||◌}
 use mathlib.Core.List.{List, [], map}
-use mathlib.Core.Logic.{◌≢◌}
 use lib.IntN.{ℤ, pos, ◌-ℤ◌}
 use lib.ListN.{length, get_or, drop, replicate}
 use Rattle.temporal.specs.Lists.{below}
@@ -20,17 +19,17 @@ use Rattle.walks.proofs.Accepted.{accepted}
 use Rattle.lists.proofs.BufferLaws.{fill_beyond}
 use Rattle.changes.specs.Changes.{Writable, Subtractable, with_loads, with_differences, with_zeros}
 use Rattle.changes.proofs.WrittenLaws.{over_over, written_subtractable, written_differences}
-use Rattle.tallies.specs.Tally.{tally_base, Tallyable, Tallied}
+use Rattle.tallies.specs.Tally.{tally_base, Tallied}
 use Rattle.tallies.proofs.Sizes.{base_fits}
 use Rattle.std.specs.Prelude.{Some, None, Result, Err}
 use Rattle.struck.specs.Answer.{struck_buffers}
-use Rattle.struck.specs.Work.{AllAsked, AllAs, AllStruck, StruckReady, ClearReady, too_many_struck, with_at, without_at}
+use Rattle.struck.specs.Work.{AllAs, AllStruck, StruckReady, ClearReady, too_many_struck, with_at, without_at}
 use Rattle.struck.specs.Work.{RoomAs, RoomStruck, RoomAsked, RoomFor, RoomyReady}
-use Rattle.struck.proofs.StrikeLaws.{strike_depth, strike_lent}
+use Rattle.struck.proofs.StrikeLaws.{strike_lent}
 use Rattle.stale.specs.Depth.{DepthOf}
-use Rattle.forward.specs.Passed.{most_columns, Lent, DepthReady}
+use Rattle.forward.specs.Passed.{most_columns, Lent}
 use Rattle.forward.proofs.SizeLaws.{first_part}
-use Rattle.tallies.proofs.Sizes.{block_fits}
+use Rattle.tallies.proofs.Sizes.{block_some, block_fits}
 use Rattle.tallies.specs.Tally.{block_of}
 use Rattle.lists.proofs.BufferLaws.{later_drop}
 use Rattle.temporal.specs.Cause.{first, terms_causes}
@@ -68,11 +67,6 @@ cleared_both n t changes changes' work work' a b = cc (a, b)
 -- ---- the work
 
 module _ (bs : List ℕ) (i n t : ℕ) (terms : Terms) (changes : List ℤ) (area : List ℕ) (ready : StruckReady bs n t terms changes area) where
-  pub tally_ready : Tallyable bs n t terms n area
-  tally_ready =
-      let a = ready.asked in
-      record { accepted = a.accepted; sources = omega arith; units = a.units; fits = a.fits }
-
   pub clear_ready : (other : List ℤ) (mid : List ℕ) → length other ≡ length changes → length mid ≡ length area → ClearReady n t other mid
   clear_ready other mid e f =
       let a = accepted bs n t ready.asked.accepted in
@@ -119,12 +113,6 @@ module _ (bs : List ℕ) (i n t : ℕ) (terms : Terms) (changes : List ℤ) (are
       pub struck_writable : Writable mid place n changes
       struck_writable =
           record { loads_room = loads_fit mid x.same_length; changes_room = ready.changes_room; small = small_with }
-
-      pub struck_asks : AllAsked bs n t terms mid
-      struck_asks =
-          let same = x.same_length in
-          let fits = ready.asked.fits in
-          record { accepted = ready.asked.accepted; units = ready.asked.units; fits = omega arith }
 
       -- nothing of them is left in cleared changes
       zeros_over : with_zeros n (with_loads mid place n changes) ≡ with_zeros n changes
@@ -275,9 +263,6 @@ module _ (bs : List ℕ) (i n t : ℕ) (terms : Terms) (d base block : ℕ) (cha
 -- ---- which of the two it is
 
 module _ (bs : List ℕ) (i n t g h : ℕ) (changes : List ℤ) (area : List ℕ) (ready : StruckReady bs n t (units g h) changes area) where
-  pub work_depth : DepthReady bs n t h area
-  work_depth = strike_depth bs n t g h area ready.asked
-
   module _ (mid : List ℕ) (d : ℕ) (found : DepthOf bs n h area mid d) where
     pub work_lent : Lent t (units g h) d (4 * (t + 1) - 2)
     work_lent = strike_lent bs n t g h area ready.asked mid d found
@@ -303,16 +288,6 @@ module _ (bs : List ℕ) (i n t g h : ℕ) (changes : List ℤ) (area : List ℕ
           let is = there in
           omega arith
 
-      -- the list that finding the depth leaves will do as well
-      pub work_narrow : StruckReady bs n t (units g h) changes mid
-      work_narrow =
-          let same = found.same_length in
-          let fits = ready.asked.fits in
-          record {
-            asked = record { accepted = ready.asked.accepted; units = ready.asked.units; fits = omega arith };
-            changes_room = ready.changes_room;
-          }
-
       pub work_same :
           struck_off (plan_of bs n t (units g h)) i (struck_buffers changes mid) ≡ struck_off (plan_of bs n t (units g h)) i (struck_buffers changes area)
       unfolding struck_off cleared plan_of
@@ -322,12 +297,14 @@ module _ (bs : List ℕ) (i n t g h : ℕ) (changes : List ℤ) (area : List ℕ
           let e = fill_beyond (work_size n t) 0 mid area beyond in
           rw e refl
 
-      pub work_roomy : (block : ℕ) → RoomFor n t (units g h) d base block → block ≢ 0 →
+      pub work_roomy : (block : ℕ) → RoomFor n t (units g h) d base most (Some block) →
           RoomyReady bs n t (units g h) d (base - 6 * n) block changes mid
-      unfolding tally_base
-      work_roomy block room some =
+      unfolding tally_base block_of
+      work_roomy block room =
           let a = accepted bs n t ready.asked.accepted in
-          let fits = room.fits (omega arith) in
+          let columns_some = block_some n t (units g h) d ready.asked.units a.some_slot a.slots found.most a.some_station in
+          let some = room.some (omega arith) in
+          let fits = room.fits in
           let part = first_part n t (units g h) d block in
           let same = found.same_length in
           let area_fits = ready.asked.fits in

@@ -1,6 +1,6 @@
 -- What the inner functions of the operation on a contact that is struck out ask and leave. Definitions only.
 -- Assumes nothing.
-use Rattle.std.specs.Prelude.{ℕ, ◌+◌, ◌*◌, ◌<◌, ◌≤◌, ◌≡◌, Bool, true, false, not, cond, ◌&&◌, ◌||◌, Option, Some, None, List, map, ◌⊎◌, eqb, ℤ, pos, length, get_or, drop, replicate}
+use Rattle.std.specs.Prelude.{ℕ, ◌+◌, ◌*◌, ◌<◌, ◌≤◌, ◌≡◌, Bool, true, false, not, cond, ◌&&◌, ◌||◌, Option, Some, None, MatchOption, List, map, ◌⊎◌, eqb, ℤ, pos, length, get_or, drop, replicate}
 use Rattle.temporal.specs.Lists.{from, below, sum}
 use Rattle.temporal.specs.Plan.{Plan, Terms, Allowed}
 use Rattle.temporal.specs.Bytes.{plan_of}
@@ -197,9 +197,10 @@ pub record RoomAsked (n t : ℕ) (terms : Terms) (d base block : ℕ) : Type 0 w
   pub slots : 0 < t
   pub fits : pass_size n t terms d block ≤ base
 
--- such a block, or 0 where none is found
-pub record RoomFor (n t : ℕ) (terms : Terms) (d base r : ℕ) : Type 0 where
-  pub fits : 0 < r → pass_size n t terms d r + 6 * n ≤ base
+-- such a block, where one is found; some columns, where the block that is asked with has some
+pub record RoomFor (n t : ℕ) (terms : Terms) (d base block : ℕ) (r : Option ℕ) : Type 0 where
+  pub fits : MatchOption r (Unit {0}) (λ b. pass_size n t terms d b + 6 * n ≤ base)
+  pub some : MatchOption r (Unit {0}) (λ b. 0 < block → 0 < b)
 
 -- ---- the operation once 1 to 8, 12, 14 and 17 are excluded
 

@@ -341,7 +341,7 @@ fn struck_narrow(
 }
 
 // A block of columns with which both plans' tallies and a source's hops and counts fit, from one that fits before the tallies of one plan: the
-// same, or 3 fewer where that adds few passes; else 0.
+// same, or 3 fewer where that adds few passes; else none.
 fn room_block(
     n: usize,
     t: usize,
@@ -350,19 +350,19 @@ fn room_block(
     depth: usize,
     base: usize,
     block: usize,
-) -> usize
+) -> Option<usize>
     requires { (n ≤ 256) × ((h ≤ 255) × ((depth ≤ 255) × RoomAsked n t (units g h) depth base block)) }
-    ensures { RoomFor n t (units g h) depth base result }
+    ensures { RoomFor n t (units g h) depth base block result }
 {
     let size = forward::pass_size(n, t, g, h, depth, block);
     let more = 6 * n;
     if more <= base && size <= base - more {
-        return block;
+        return Some(block);
     }
     if 20 < block && block < n {
-        return block - 3;
+        return Some(block - 3);
     }
-    0
+    None
 }
 
 // The operation where they fit.
@@ -412,10 +412,9 @@ fn struck_work(
     let depth = forward::depth(work, plan, n, t, h);
     let most = forward::most_columns(n, t, g, h, depth, 4 * (t + 1) - 2);
     let base = tallies::base_of(n, t);
-    let block = room_block(n, t, g, h, depth, base, most);
-    if block == 0 {
+    let Some(block) = room_block(n, t, g, h, depth, base, most) else {
         return struck_narrow(changes, work, plan, n, t, g, h, position);
-    }
+    };
     struck_roomy(
         changes,
         work,

@@ -76,10 +76,6 @@ entry_small {n} {rows = rows} {z = z} {e = e} a small =
     let inside = digits_lt a.destination a.entry in
     omega (arith, room.area, room.fits, inside, mul_assoc 2 n rows.entries)
 
--- one step on, fewer are left
-pub fewer_left : (e j : ℕ) → j < e → e - (j + 1) < e - j
-fewer_left e j h = omega arith
-
 pub fewer_passes : (known : Bool) (n low some split : ℕ) → (known ≡ true → 0 < some) → some ≤ n - low
     → 4 * (n - (low + some)) + split + cond true 0 1 < 4 * (n - low) + split + cond known 0 1
 fewer_passes true n low some split h g = let some_left = h refl in omega arith
