@@ -4,80 +4,59 @@
 
 ghost use Rattle.std.specs.Prelude.{◌<◌, ◌≤◌, length};
 
+use plan::Fault;
+use std::fmt::Display;
 use std::io::Read;
 
 // The most cases of one input: a proved loop has to end.
 pub const MOST: usize = 1000000;
 
-fn wide(x: u8) -> usize
-    ensures { result < 256 }
-{
-    x as usize
+// The N bytes from k on; zeros where they do not lie within the buffer.
+fn bytes_at<const N: usize>(buf: &[u8], k: usize) -> [u8; N] {
+    let mut bytes = [0; N];
+    if k <= buf.len() && N <= buf.len() - k {
+        bytes.copy_from_slice(&buf[k..k + N]);
+    }
+    bytes
 }
 
 // The 16-bit number whose first byte stands at k, high byte first; 0 where it does not lie within the buffer.
 pub fn word(buf: &[u8], k: usize) -> usize
     ensures { result < 65536 }
 {
-    let n = buf.len();
-    if n < 2 {
-        return 0;
-    }
-    if n - 2 < k {
-        return 0;
-    }
-    wide(buf[k]) * 256 + wide(buf[k + 1])
+    usize::from(u16::from_be_bytes(bytes_at(buf, k)))
 }
 
 // The 32-bit number whose first byte stands at k, high byte first; 0 where it does not lie within the buffer.
 fn long(buf: &[u8], k: usize) -> usize {
-    let n = buf.len();
-    if n < 4 {
-        return 0;
-    }
-    if n - 4 < k {
-        return 0;
-    }
-    word(buf, k) * 65536 + word(buf, k + 2)
+    u32::from_be_bytes(bytes_at(buf, k)) as usize
 }
 
 // The 64-bit number whose first byte stands at k, high byte first; 0 where it does not lie within the buffer.
 pub fn whole(buf: &[u8], k: usize) -> usize {
-    let n = buf.len();
-    if n < 8 {
-        return 0;
-    }
-    if n - 8 < k {
-        return 0;
-    }
-    let high = word(buf, k) * 65536 + word(buf, k + 2);
-    let low = word(buf, k + 4) * 65536 + word(buf, k + 6);
-    high * 4294967296 + low
-}
-
-// The smaller of two numbers.
-pub fn least(a: usize, b: usize) -> usize
-    ensures { (result ≤ a) × (result ≤ b) }
-{
-    if a < b { a } else { b }
+    usize::from_be_bytes(bytes_at(buf, k))
 }
 
 // The entries to lend that the 32-bit number at k of a head names, but no more than a table has.
 pub fn lent(head: &[u8], k: usize, most: usize) -> usize
     ensures { result ≤ most }
 {
-    least(long(head, k), most)
+    long(head, k).min(most)
 }
 
-// Reads k bytes to the beginning of a buffer. False where the buffer is shorter, or the input ends before.
-pub fn read_part(rt: &impl Input, buf: &mut [u8], k: usize) -> bool {
-    if buf.len() < k {
-        return false;
+// Fills a table with the 16-bit numbers of a buffer, and with zeros where it has no more.
+pub fn fill_words(table: &mut [u16], buf: &[u8]) {
+    for (i, entry) in table.iter_mut().enumerate() {
+        *entry = word(buf, i * 2) as u16;
     }
-    rt.reader().read_exact(&mut buf[..k]).is_ok()
 }
 
-// Reads a whole head, then a label and a plan, whose 16-bit lengths stand at places of the head. False where the input has
+// Reads k bytes to the beginning of a buffer. None where the buffer is shorter, or the input ends before.
+pub fn read_part(rt: &impl Input, buf: &mut [u8], k: usize) -> Option<()> {
+    rt.reader().read_exact(buf.get_mut(..k)?).ok()
+}
+
+// Reads a whole head, then a label and a plan, whose 16-bit lengths stand at places of the head. None where the input has
 // no further case.
 pub fn read_case(
     rt: &impl Input,
@@ -86,91 +65,86 @@ pub fn read_case(
     plan: &mut [u8],
     label_at: usize,
     plan_at: usize,
-) -> bool {
-    if !read_part(rt, head, head.len()) {
-        return false;
-    }
-    if !read_part(rt, label, word(head, label_at)) {
-        return false;
-    }
+) -> Option<()> {
+    read_part(rt, head, head.len())?;
+    read_part(rt, label, word(head, label_at))?;
     read_part(rt, plan, word(head, plan_at))
+}
+
+// Writes bytes.
+pub fn write(rt: &impl Print, bytes: &[u8]) {
+    let _ = rt.write_all(bytes);
 }
 
 // Writes the first k bytes of a buffer, all where it has fewer.
 pub fn write_part(rt: &impl Print, buf: &[u8], k: usize) {
-    if k <= buf.len() {
-        let _ = rt.write_all(&buf[..k]);
-    } else {
-        let _ = rt.write_all(buf);
-    }
+    write(rt, &buf[..k.min(buf.len())]);
 }
 
 // Writes a space and a number in decimal.
-pub fn write_number(rt: &impl Print, x: u64) {
-    let _ = print!(rt; " {x}");
-}
-
-// Writes a space and a number in decimal, with a minus sign where it is below 0.
-pub fn write_signed(rt: &impl Print, x: i64) {
+pub fn write_number<T: Copy + Display>(rt: &impl Print, x: T) {
     let _ = print!(rt; " {x}");
 }
 
 // Writes the end of a line.
 pub fn end_line(rt: &impl Print) {
-    let _ = rt.write_all(b"\n");
+    write(rt, b"\n");
 }
 
-// Fills a table with a mark.
-pub fn mark64(table: &mut [u64], x: u64) {
-    let mut i = 0;
-    while i < table.len() {
-        table[i] = x;
-        i += 1;
+// Writes the number of an operation's answer, 0 where it accepts the call, and gives what it answers.
+pub fn write_answer<T>(rt: &impl Print, answer: Result<T, Fault>) -> Option<T> {
+    match answer {
+        Ok(value) => {
+            write_number(rt, 0);
+            Some(value)
+        }
+        Err(fault) => {
+            write_number(rt, plan::fault_number(fault));
+            None
+        }
     }
 }
 
 // Where the run of one value that starts at an entry ends.
-fn run_end64(table: &[u64], from: usize) -> usize
+fn run_end<T: Copy + PartialEq>(table: &[T], from: usize) -> usize
     requires { from < length table.now }
     ensures { (from < result) × (result ≤ length table.now) }
 {
-    let x = table[from];
-    let mut end = from + 1;
-    while end < table.len() {
-        if table[end] != x {
+    for end in from + 1..table.len() {
+        if table[end] != table[from] {
             return end;
         }
-        end += 1;
     }
-    end
-}
-
-// Writes the entries of a run from one to another, " i:" or " i .. j:".
-pub fn write_entries(rt: &impl Print, from: usize, last: usize) {
-    write_number(rt, from as u64);
-    if from < last {
-        write_part(rt, b" ..", 3);
-        write_number(rt, last as u64);
-    }
-    write_part(rt, b":", 1);
+    table.len()
 }
 
 // Writes the run of x from one entry to another, " i: x" or " i .. j: x", unless x is the value left out.
-pub fn write_run(rt: &impl Print, from: usize, last: usize, x: u64, out: u64) {
+fn write_run<T: Copy + PartialEq + Display>(
+    rt: &impl Print,
+    from: usize,
+    last: usize,
+    x: T,
+    out: T,
+) {
     if x == out {
         return;
     }
-    write_entries(rt, from, last);
+    write_number(rt, from);
+    if from < last {
+        write(rt, b" ..");
+        write_number(rt, last);
+    }
+    write(rt, b":");
     write_number(rt, x);
 }
 
-// Writes " |" and the runs of a table, but those of 0.
-pub fn write64(rt: &impl Print, table: &[u64]) {
-    write_part(rt, b" |", 2);
+// Writes " |" and the runs of a table, but those of the value left out.
+pub fn write_runs<T: Copy + PartialEq + Display>(rt: &impl Print, table: &[T], out: T) {
+    write(rt, b" |");
     let mut from = 0;
     while from < table.len() {
-        let end = run_end64(table, from);
-        write_run(rt, from, end - 1, table[from], 0);
+        let end = run_end(table, from);
+        write_run(rt, from, end - 1, table[from], out);
         from = end;
     }
 }

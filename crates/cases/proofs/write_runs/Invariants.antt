@@ -1,8 +1,8 @@
--- `cases::write64` is safe and ends: each run ends behind its first entry, so the number of entries left falls.
+-- `cases::write_runs` is safe and ends: each run ends behind its first entry, so the number of entries left falls.
 -- Assumes nothing.
 use Prim.Native.Nat.{◌≤◌, ◌-◌}
 use lib.ListN.{length}
-use Rattle.cases.proofs.write64.Given as goal
+use Rattle.cases.proofs.write_runs.Given as goal
 
 abbrev pub invariant-loop-from : goal.invariant-loop-from
 invariant-loop-from g l = l.from ≤ length l.table
