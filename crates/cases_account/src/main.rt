@@ -32,20 +32,18 @@ fn write_account(
     cases::write_part(rt, out, size);
 }
 
-// One case; false where the input has no further one.
+// One case; none where the input has no further one.
 fn run_case(
     rt: &(impl Input + Print),
     head: &mut [u8],
     label: &mut [u8],
     input: &mut [u8],
     out: &mut [u8; 2598088],
-) -> bool {
-    if !cases::read_case(rt, head, label, input, 0, 2) {
-        return false;
-    }
+) -> Option<()> {
+    cases::read_case(rt, head, label, input, 0, 2)?;
     cases::write_part(rt, label, cases::word(head, 0));
-    cases::write_part(rt, b":\n", 2);
-    let size = cases::least(cases::word(head, 2), input.len());
+    cases::write(rt, b":\n");
+    let size = cases::word(head, 2).min(input.len());
     write_account(
         rt,
         &input[..size],
@@ -54,7 +52,7 @@ fn run_case(
         cases::word(head, 8),
         out,
     );
-    true
+    Some(())
 }
 
 fn main(rt: HostRuntime) {
@@ -62,8 +60,9 @@ fn main(rt: HostRuntime) {
     let mut label = [0u8; 64];
     let mut input = [0u8; 6200];
     let mut out = [0u8; 2598088];
-    let mut left = cases::MOST;
-    while 0 < left && run_case(&rt, &mut head, &mut label, &mut input, &mut out) {
-        left -= 1;
+    for _ in 0..cases::MOST {
+        if run_case(&rt, &mut head, &mut label, &mut input, &mut out).is_none() {
+            break;
+        }
     }
 }

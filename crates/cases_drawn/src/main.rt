@@ -10,57 +10,7 @@
 // are left out.
 #![tactic(auto)]
 
-ghost use Rattle.std.specs.Prelude.{◌<◌, ◌≤◌, length};
-
-use loads::LoadsAnswer;
-
-// Fills the records with a mark.
-fn mark_records(records: &mut [u8], x: u8) {
-    let mut i = 0;
-    while i < records.len() {
-        records[i] = x;
-        i += 1;
-    }
-}
-
-// Where the run of one byte that starts at a place ends.
-fn run_end_records(records: &[u8], from: usize) -> usize
-    requires { from < length records.now }
-    ensures { (from < result) × (result ≤ length records.now) }
-{
-    let x = records[from];
-    let mut end = from + 1;
-    while end < records.len() {
-        if records[end] != x {
-            return end;
-        }
-        end += 1;
-    }
-    end
-}
-
-fn wide(x: u8) -> u64 {
-    x as u64
-}
-
-// Writes " |" and the runs of the records, but those of 0.
-fn write_records(rt: &impl Print, records: &[u8]) {
-    cases::write_part(rt, b" |", 2);
-    let mut from = 0;
-    while from < records.len() {
-        let end = run_end_records(records, from);
-        cases::write_run(rt, from, end - 1, wide(records[from]), 0);
-        from = end;
-    }
-}
-
-// Writes the number of the answer.
-fn write_answer(rt: &impl Print, answer: LoadsAnswer) {
-    match answer {
-        LoadsAnswer::Loaded => cases::write_number(rt, 0),
-        LoadsAnswer::Refused(fault) => cases::write_number(rt, plan::fault_number(fault) as u64),
-    }
-}
+use plan::Fault;
 
 // Calls the operation with the numbers of the head on the lent parts.
 fn call(
@@ -70,7 +20,7 @@ fn call(
     sums: &mut [u64],
     records: &mut [u8],
     work: &mut [u64],
-) -> LoadsAnswer {
+) -> Result<(), Fault> {
     let n = cases::word(head, 0);
     let t = cases::word(head, 2);
     let g = cases::word(head, 4);
@@ -89,15 +39,15 @@ fn run_drawn(
     work: &mut [u64],
 ) {
     let mark = cases::word(head, 12);
-    cases::mark64(pairs, mark as u64);
-    cases::mark64(sums, mark as u64);
-    mark_records(records, (mark % 256) as u8);
-    cases::mark64(work, mark as u64);
-    write_answer(rt, call(head, plan, pairs, sums, records, work));
-    cases::write64(rt, pairs);
-    cases::write64(rt, sums);
-    write_records(rt, records);
-    cases::write64(rt, work);
+    pairs.fill(mark as u64);
+    sums.fill(mark as u64);
+    records.fill((mark % 256) as u8);
+    work.fill(mark as u64);
+    cases::write_answer(rt, call(head, plan, pairs, sums, records, work));
+    cases::write_runs(rt, pairs, 0);
+    cases::write_runs(rt, sums, 0);
+    cases::write_runs(rt, records, 0);
+    cases::write_runs(rt, work, 0);
 }
 
 // Lends what the head names, and runs the case.
@@ -110,7 +60,7 @@ fn run_named(
     records: &mut [u8],
     work: &mut [u64],
 ) {
-    let size = cases::least(cases::word(head, 8), plan.len());
+    let size = cases::word(head, 8).min(plan.len());
     let a = cases::lent(head, 14, pairs.len());
     let b = cases::lent(head, 18, sums.len());
     let c = cases::lent(head, 22, records.len());
@@ -126,7 +76,7 @@ fn run_named(
     );
 }
 
-// One case; false where the input has no further one.
+// One case; none where the input has no further one.
 fn run_case(
     rt: &(impl Input + Print),
     head: &mut [u8],
@@ -136,15 +86,13 @@ fn run_case(
     sums: &mut [u64],
     records: &mut [u8],
     work: &mut [u64],
-) -> bool {
-    if !cases::read_case(rt, head, label, plan, 10, 8) {
-        return false;
-    }
+) -> Option<()> {
+    cases::read_case(rt, head, label, plan, 10, 8)?;
     cases::write_part(rt, label, cases::word(head, 10));
-    cases::write_part(rt, b":", 1);
+    cases::write(rt, b":");
     run_named(rt, head, plan, pairs, sums, records, work);
     cases::end_line(rt);
-    true
+    Some(())
 }
 
 fn main(rt: HostRuntime) {
@@ -155,9 +103,8 @@ fn main(rt: HostRuntime) {
     let mut sums = [0u64; 320];
     let mut records = [0u8; 4700];
     let mut work = [0u64; 262200];
-    let mut left = cases::MOST;
-    while 0 < left
-        && run_case(
+    for _ in 0..cases::MOST {
+        if run_case(
             &rt,
             &mut head,
             &mut label,
@@ -167,7 +114,9 @@ fn main(rt: HostRuntime) {
             &mut records,
             &mut work,
         )
-    {
-        left -= 1;
+        .is_none()
+        {
+            break;
+        }
     }
 }

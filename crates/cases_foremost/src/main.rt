@@ -9,44 +9,27 @@
 // or " i .. j: x"; entries of 0 are left out.
 #![tactic(auto)]
 
-use foremost::ForemostAnswer;
-
-// Writes the number of the answer, the slot, the hops and the count; zeros beside a refusal.
-fn write_answer(rt: &impl Print, answer: ForemostAnswer) {
-    match answer {
-        ForemostAnswer::Counted(slot, hops, count) => {
-            cases::write_number(rt, 0);
-            cases::write_number(rt, slot);
-            cases::write_number(rt, hops);
-            cases::write_number(rt, count);
-        }
-        ForemostAnswer::Refused(fault) => {
-            cases::write_number(rt, plan::fault_number(fault) as u64);
-            cases::write_number(rt, 0);
-            cases::write_number(rt, 0);
-            cases::write_number(rt, 0);
-        }
-    }
-}
-
 // Calls the operation on the lent parts, and writes its answer.
 fn run_foremost(rt: &impl Print, head: &[u8], plan: &[u8], through: &mut [u64], work: &mut [u64]) {
     let mark = cases::word(head, 14) as u64;
-    cases::mark64(through, mark);
-    cases::mark64(work, mark);
+    through.fill(mark);
+    work.fill(mark);
     let n = cases::word(head, 0);
     let t = cases::word(head, 2);
     let g = cases::word(head, 4);
     let s = cases::word(head, 6);
     let z = cases::word(head, 8);
-    write_answer(rt, foremost::foremost(plan, n, t, g, s, z, through, work));
-    cases::write64(rt, through);
-    cases::write64(rt, work);
+    let answer = cases::write_answer(rt, foremost::foremost(plan, n, t, g, s, z, through, work));
+    cases::write_number(rt, answer.map_or(0, |found| found.arrival));
+    cases::write_number(rt, answer.map_or(0, |found| found.hops));
+    cases::write_number(rt, answer.map_or(0, |found| found.count));
+    cases::write_runs(rt, through, 0);
+    cases::write_runs(rt, work, 0);
 }
 
 // Lends what the head names, and runs the case.
 fn run_named(rt: &impl Print, head: &[u8], plan: &[u8], through: &mut [u64], work: &mut [u64]) {
-    let size = cases::least(cases::word(head, 10), plan.len());
+    let size = cases::word(head, 10).min(plan.len());
     let table = cases::lent(head, 16, through.len());
     let area = cases::lent(head, 20, work.len());
     run_foremost(
@@ -58,7 +41,7 @@ fn run_named(rt: &impl Print, head: &[u8], plan: &[u8], through: &mut [u64], wor
     );
 }
 
-// One case; false where the input has no further one.
+// One case; none where the input has no further one.
 fn run_case(
     rt: &(impl Input + Print),
     head: &mut [u8],
@@ -66,15 +49,13 @@ fn run_case(
     plan: &mut [u8],
     through: &mut [u64],
     work: &mut [u64],
-) -> bool {
-    if !cases::read_case(rt, head, label, plan, 12, 10) {
-        return false;
-    }
+) -> Option<()> {
+    cases::read_case(rt, head, label, plan, 12, 10)?;
     cases::write_part(rt, label, cases::word(head, 12));
-    cases::write_part(rt, b":", 1);
+    cases::write(rt, b":");
     run_named(rt, head, plan, through, work);
     cases::end_line(rt);
-    true
+    Some(())
 }
 
 fn main(rt: HostRuntime) {
@@ -83,9 +64,8 @@ fn main(rt: HostRuntime) {
     let mut plan = [0u8; 49200];
     let mut through = [0u64; 320];
     let mut work = [0u64; 262200];
-    let mut left = cases::MOST;
-    while 0 < left
-        && run_case(
+    for _ in 0..cases::MOST {
+        if run_case(
             &rt,
             &mut head,
             &mut label,
@@ -93,7 +73,9 @@ fn main(rt: HostRuntime) {
             &mut through,
             &mut work,
         )
-    {
-        left -= 1;
+        .is_none()
+        {
+            break;
+        }
     }
 }

@@ -10,32 +10,31 @@ fn write_text(rt: &impl Print, input: &[u8], g: usize) {
     let mut sums = [0u64; 32];
     let mut work = [0u64; 8192];
     let size = report::report(input, g, &mut out, &mut pairs, &mut sums, &mut work);
-    cases::write_part(rt, &out[..size], size);
+    cases::write_part(rt, &out, size);
 }
 
-// One case; false where the input has no further one.
+// One case; none where the input has no further one.
 fn run_case(
     rt: &(impl Input + Print),
     head: &mut [u8],
     label: &mut [u8],
     input: &mut [u8],
-) -> bool {
-    if !cases::read_case(rt, head, label, input, 0, 2) {
-        return false;
-    }
+) -> Option<()> {
+    cases::read_case(rt, head, label, input, 0, 2)?;
     cases::write_part(rt, label, cases::word(head, 0));
-    cases::write_part(rt, b":\n", 2);
-    let size = cases::least(cases::word(head, 2), input.len());
+    cases::write(rt, b":\n");
+    let size = cases::word(head, 2).min(input.len());
     write_text(rt, &input[..size], cases::word(head, 4));
-    true
+    Some(())
 }
 
 fn main(rt: HostRuntime) {
     let mut head = [0u8; 6];
     let mut label = [0u8; 64];
     let mut input = [0u8; 6200];
-    let mut left = cases::MOST;
-    while 0 < left && run_case(&rt, &mut head, &mut label, &mut input) {
-        left -= 1;
+    for _ in 0..cases::MOST {
+        if run_case(&rt, &mut head, &mut label, &mut input).is_none() {
+            break;
+        }
     }
 }

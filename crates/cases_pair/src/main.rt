@@ -10,50 +10,9 @@
 // refuses; each then the work area. A run of one value is written " i: x" or " i .. j: x"; entries of 0 are left out.
 #![tactic(auto)]
 
-use loads::{BusiestAnswer, LoadsAnswer};
-use pair::PairAnswer;
-
-// Writes the number of pair's answer, the hops and the count; zeros beside a refusal.
-fn write_pair(rt: &impl Print, answer: PairAnswer) {
-    match answer {
-        PairAnswer::Counted(hops, count) => {
-            cases::write_number(rt, 0);
-            cases::write_number(rt, hops);
-            cases::write_number(rt, count);
-        }
-        PairAnswer::Refused(fault) => {
-            cases::write_number(rt, plan::fault_number(fault) as u64);
-            cases::write_number(rt, 0);
-            cases::write_number(rt, 0);
-        }
-    }
-}
-
-// Writes the number of loads' answer.
-fn write_loads(rt: &impl Print, answer: LoadsAnswer) {
-    match answer {
-        LoadsAnswer::Loaded => cases::write_number(rt, 0),
-        LoadsAnswer::Refused(fault) => cases::write_number(rt, plan::fault_number(fault) as u64),
-    }
-}
-
-// Writes the number of busiest's answer and the station; zero beside a refusal.
-fn write_busiest(rt: &impl Print, answer: BusiestAnswer) {
-    match answer {
-        BusiestAnswer::Station(v) => {
-            cases::write_number(rt, 0);
-            cases::write_number(rt, v as u64);
-        }
-        BusiestAnswer::Refused(fault) => {
-            cases::write_number(rt, plan::fault_number(fault) as u64);
-            cases::write_number(rt, 0);
-        }
-    }
-}
-
 // Fills a table or the work area with the mark.
 fn mark(head: &[u8], table: &mut [u64]) {
-    cases::mark64(table, cases::word(head, 18) as u64);
+    table.fill(cases::word(head, 18) as u64);
 }
 
 // Calls pair on the lent parts, and writes its answer.
@@ -66,9 +25,11 @@ fn run_pair(rt: &impl Print, head: &[u8], plan: &[u8], through: &mut [u64], work
     let h = cases::word(head, 8);
     let s = cases::word(head, 10);
     let z = cases::word(head, 12);
-    write_pair(rt, pair::pair(plan, n, t, g, h, s, z, through, work));
-    cases::write64(rt, through);
-    cases::write64(rt, work);
+    let answer = cases::write_answer(rt, pair::pair(plan, n, t, g, h, s, z, through, work));
+    cases::write_number(rt, answer.map_or(0, |pair| pair.hops));
+    cases::write_number(rt, answer.map_or(0, |pair| pair.count));
+    cases::write_runs(rt, through, 0);
+    cases::write_runs(rt, work, 0);
 }
 
 // Calls loads on the lent parts, and writes its answer.
@@ -87,10 +48,10 @@ fn run_loads(
     let t = cases::word(head, 4);
     let g = cases::word(head, 6);
     let h = cases::word(head, 8);
-    write_loads(rt, loads::loads(plan, n, t, g, h, pairs, loads, work));
-    cases::write64(rt, pairs);
-    cases::write64(rt, loads);
-    cases::write64(rt, work);
+    cases::write_answer(rt, loads::loads(plan, n, t, g, h, pairs, loads, work));
+    cases::write_runs(rt, pairs, 0);
+    cases::write_runs(rt, loads, 0);
+    cases::write_runs(rt, work, 0);
 }
 
 // Calls busiest on the lent part, and writes its answer.
@@ -100,8 +61,9 @@ fn run_busiest(rt: &impl Print, head: &[u8], plan: &[u8], work: &mut [u64]) {
     let t = cases::word(head, 4);
     let g = cases::word(head, 6);
     let h = cases::word(head, 8);
-    write_busiest(rt, loads::busiest(plan, n, t, g, h, work));
-    cases::write64(rt, work);
+    let answer = cases::write_answer(rt, loads::busiest(plan, n, t, g, h, work));
+    cases::write_number(rt, answer.unwrap_or(0));
+    cases::write_runs(rt, work, 0);
 }
 
 // Lends what the head names, and runs the case.
@@ -133,7 +95,7 @@ fn run_named(
     }
 }
 
-// One case; false where the input has no further one.
+// One case; none where the input has no further one.
 fn run_case(
     rt: &(impl Input + Print),
     head: &mut [u8],
@@ -142,16 +104,14 @@ fn run_case(
     first: &mut [u64],
     second: &mut [u64],
     work: &mut [u64],
-) -> bool {
-    if !cases::read_case(rt, head, label, plan, 16, 14) {
-        return false;
-    }
+) -> Option<()> {
+    cases::read_case(rt, head, label, plan, 16, 14)?;
     cases::write_part(rt, label, cases::word(head, 16));
-    cases::write_part(rt, b":", 1);
-    let size = cases::least(cases::word(head, 14), plan.len());
+    cases::write(rt, b":");
+    let size = cases::word(head, 14).min(plan.len());
     run_named(rt, head, &plan[..size], first, second, work);
     cases::end_line(rt);
-    true
+    Some(())
 }
 
 fn main(rt: HostRuntime) {
@@ -161,9 +121,8 @@ fn main(rt: HostRuntime) {
     let mut first = [0u64; 320];
     let mut second = [0u64; 320];
     let mut work = [0u64; 262200];
-    let mut left = cases::MOST;
-    while 0 < left
-        && run_case(
+    for _ in 0..cases::MOST {
+        if run_case(
             &rt,
             &mut head,
             &mut label,
@@ -172,7 +131,9 @@ fn main(rt: HostRuntime) {
             &mut second,
             &mut work,
         )
-    {
-        left -= 1;
+        .is_none()
+        {
+            break;
+        }
     }
 }

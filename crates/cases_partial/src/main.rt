@@ -8,15 +8,7 @@
 // the work area after the call, each behind " |". A run of one value is written " i: x" or " i .. j: x"; entries of 0 are left out.
 #![tactic(auto)]
 
-use loads::LoadsAnswer;
-
-// Writes the number of the answer.
-fn write_answer(rt: &impl Print, answer: LoadsAnswer) {
-    match answer {
-        LoadsAnswer::Loaded => cases::write_number(rt, 0),
-        LoadsAnswer::Refused(fault) => cases::write_number(rt, plan::fault_number(fault) as u64),
-    }
-}
+use plan::Fault;
 
 // Calls the operation with the numbers of the head on the lent parts.
 fn call(
@@ -25,7 +17,7 @@ fn call(
     pairs: &mut [u64],
     sums: &mut [u64],
     work: &mut [u64],
-) -> LoadsAnswer {
+) -> Result<(), Fault> {
     let n = cases::word(head, 0);
     let t = cases::word(head, 2);
     let g = cases::word(head, 4);
@@ -44,13 +36,13 @@ fn run_partial(
     work: &mut [u64],
 ) {
     let mark = cases::word(head, 20) as u64;
-    cases::mark64(pairs, mark);
-    cases::mark64(sums, mark);
-    cases::mark64(work, mark);
-    write_answer(rt, call(head, plan, pairs, sums, work));
-    cases::write64(rt, pairs);
-    cases::write64(rt, sums);
-    cases::write64(rt, work);
+    pairs.fill(mark);
+    sums.fill(mark);
+    work.fill(mark);
+    cases::write_answer(rt, call(head, plan, pairs, sums, work));
+    cases::write_runs(rt, pairs, 0);
+    cases::write_runs(rt, sums, 0);
+    cases::write_runs(rt, work, 0);
 }
 
 // Lends what the head names, and runs the case.
@@ -62,7 +54,7 @@ fn run_named(
     sums: &mut [u64],
     work: &mut [u64],
 ) {
-    let size = cases::least(cases::word(head, 16), plan.len());
+    let size = cases::word(head, 16).min(plan.len());
     let a = cases::lent(head, 22, pairs.len());
     let b = cases::lent(head, 26, sums.len());
     let c = cases::lent(head, 30, work.len());
@@ -76,7 +68,7 @@ fn run_named(
     );
 }
 
-// One case; false where the input has no further one.
+// One case; none where the input has no further one.
 fn run_case(
     rt: &(impl Input + Print),
     head: &mut [u8],
@@ -85,15 +77,13 @@ fn run_case(
     pairs: &mut [u64],
     sums: &mut [u64],
     work: &mut [u64],
-) -> bool {
-    if !cases::read_case(rt, head, label, plan, 18, 16) {
-        return false;
-    }
+) -> Option<()> {
+    cases::read_case(rt, head, label, plan, 18, 16)?;
     cases::write_part(rt, label, cases::word(head, 18));
-    cases::write_part(rt, b":", 1);
+    cases::write(rt, b":");
     run_named(rt, head, plan, pairs, sums, work);
     cases::end_line(rt);
-    true
+    Some(())
 }
 
 fn main(rt: HostRuntime) {
@@ -103,12 +93,13 @@ fn main(rt: HostRuntime) {
     let mut pairs = [0u64; 320];
     let mut sums = [0u64; 320];
     let mut work = [0u64; 262200];
-    let mut left = cases::MOST;
-    while 0 < left
-        && run_case(
+    for _ in 0..cases::MOST {
+        if run_case(
             &rt, &mut head, &mut label, &mut plan, &mut pairs, &mut sums, &mut work,
         )
-    {
-        left -= 1;
+        .is_none()
+        {
+            break;
+        }
     }
 }

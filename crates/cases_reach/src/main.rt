@@ -11,64 +11,15 @@
 // 3i + 1; behind the number stand the length of the part and, behind " |", its entries.
 #![tactic(auto)]
 
-ghost use Rattle.std.specs.Prelude.{◌<◌, ◌≤◌, length};
+use plan::Fault;
 
-use reach::ReachAnswer;
-
-// Fills a table with a mark.
-fn mark16(table: &mut [u16], x: u16) {
-    let mut i = 0;
-    while i < table.len() {
-        table[i] = x;
-        i += 1;
-    }
-}
+// The hops of an entry without a walk.
+const NO_WALK: u16 = 65535;
 
 // Fills a table with distinct numbers: entry i is 3i + 1.
 fn number_entries(table: &mut [u64]) {
-    let mut i = 0;
-    while i < table.len() {
-        table[i] = (i * 3 + 1) as u64;
-        i += 1;
-    }
-}
-
-// Where the run of one value that starts at an entry ends.
-fn run_end16(table: &[u16], from: usize) -> usize
-    requires { from < length table.now }
-    ensures { (from < result) × (result ≤ length table.now) }
-{
-    let x = table[from];
-    let mut end = from + 1;
-    while end < table.len() {
-        if table[end] != x {
-            return end;
-        }
-        end += 1;
-    }
-    end
-}
-
-fn wide(x: u16) -> u64 {
-    x as u64
-}
-
-// Writes " |" and the runs of a table of hops, but those of 65535.
-fn write16(rt: &impl Print, table: &[u16]) {
-    cases::write_part(rt, b" |", 2);
-    let mut from = 0;
-    while from < table.len() {
-        let end = run_end16(table, from);
-        cases::write_run(rt, from, end - 1, wide(table[from]), 65535);
-        from = end;
-    }
-}
-
-// The number of reach's answer, 0 where the call is accepted.
-fn reach_number(answer: ReachAnswer) -> usize {
-    match answer {
-        ReachAnswer::Reached => 0,
-        ReachAnswer::Refused(fault) => plan::fault_number(fault),
+    for (i, entry) in table.iter_mut().enumerate() {
+        *entry = (i * 3 + 1) as u64;
     }
 }
 
@@ -81,10 +32,10 @@ fn mark_tables(
     station_counts: &mut [u64],
 ) {
     let mark = cases::word(head, 16);
-    mark16(hops, mark as u16);
-    cases::mark64(counts, mark as u64);
-    mark16(station_hops, mark as u16);
-    cases::mark64(station_counts, mark as u64);
+    hops.fill(mark as u16);
+    counts.fill(mark as u64);
+    station_hops.fill(mark as u16);
+    station_counts.fill(mark as u64);
 }
 
 // Calls reach with the numbers of the head on the lent parts.
@@ -95,7 +46,7 @@ fn call_reach(
     counts: &mut [u64],
     station_hops: &mut [u16],
     station_counts: &mut [u64],
-) -> ReachAnswer {
+) -> Result<(), Fault> {
     let n = cases::word(head, 2);
     let t = cases::word(head, 4);
     let g = cases::word(head, 6);
@@ -127,11 +78,11 @@ fn run_reach(
 ) {
     mark_tables(head, hops, counts, station_hops, station_counts);
     let answer = call_reach(head, plan, hops, counts, station_hops, station_counts);
-    cases::write_number(rt, reach_number(answer) as u64);
-    write16(rt, hops);
-    cases::write64(rt, counts);
-    write16(rt, station_hops);
-    cases::write64(rt, station_counts);
+    cases::write_answer(rt, answer);
+    cases::write_runs(rt, hops, NO_WALK);
+    cases::write_runs(rt, counts, 0);
+    cases::write_runs(rt, station_hops, NO_WALK);
+    cases::write_runs(rt, station_counts, 0);
 }
 
 // Calls row and its sister on the lent part, and writes the answers.
@@ -140,10 +91,10 @@ fn run_row(rt: &impl Print, head: &[u8], table: &mut [u64]) {
     let n = cases::word(head, 2);
     let t = cases::word(head, 4);
     let station = cases::word(head, 10);
-    cases::write_number(rt, rows::row_number(table, n, t, station) as u64);
+    cases::write_number(rt, rows::row_number(table, n, t, station));
     let part = rows::row(table, n, t, station);
-    cases::write_number(rt, part.len() as u64);
-    cases::write64(rt, part);
+    cases::write_number(rt, part.len());
+    cases::write_runs(rt, part, 0);
 }
 
 // Lends what the head names, and runs the case.
@@ -175,7 +126,7 @@ fn run_named(
     }
 }
 
-// One case; false where the input has no further one.
+// One case; none where the input has no further one.
 fn run_case(
     rt: &(impl Input + Print),
     head: &mut [u8],
@@ -185,13 +136,11 @@ fn run_case(
     counts: &mut [u64],
     station_hops: &mut [u16],
     station_counts: &mut [u64],
-) -> bool {
-    if !cases::read_case(rt, head, label, plan, 14, 12) {
-        return false;
-    }
+) -> Option<()> {
+    cases::read_case(rt, head, label, plan, 14, 12)?;
     cases::write_part(rt, label, cases::word(head, 14));
-    cases::write_part(rt, b":", 1);
-    let size = cases::least(cases::word(head, 12), plan.len());
+    cases::write(rt, b":");
+    let size = cases::word(head, 12).min(plan.len());
     run_named(
         rt,
         head,
@@ -202,7 +151,7 @@ fn run_case(
         station_counts,
     );
     cases::end_line(rt);
-    true
+    Some(())
 }
 
 fn main(rt: HostRuntime) {
@@ -213,9 +162,8 @@ fn main(rt: HostRuntime) {
     let mut counts = [0u64; 65600];
     let mut station_hops = [0u16; 320];
     let mut station_counts = [0u64; 320];
-    let mut left = cases::MOST;
-    while 0 < left
-        && run_case(
+    for _ in 0..cases::MOST {
+        if run_case(
             &rt,
             &mut head,
             &mut label,
@@ -225,7 +173,9 @@ fn main(rt: HostRuntime) {
             &mut station_hops,
             &mut station_counts,
         )
-    {
-        left -= 1;
+        .is_none()
+        {
+            break;
+        }
     }
 }

@@ -11,9 +11,9 @@ use drawing::Reading;
 // Writes what is read.
 fn write_reading(rt: &impl Print, reading: Option<Reading>) {
     match reading {
-        None => cases::write_part(rt, b" foreign", 8),
+        None => cases::write(rt, b" foreign"),
         Some(reading) => {
-            cases::write_number(rt, reading.station as u64);
+            cases::write_number(rt, reading.station);
             cases::write_number(rt, reading.load);
             cases::write_number(rt, reading.pairs);
         }
@@ -22,33 +22,32 @@ fn write_reading(rt: &impl Print, reading: Option<Reading>) {
 
 // Reads the bytes that the head names.
 fn run_named(rt: &impl Print, head: &[u8], bytes: &[u8]) {
-    let size = cases::least(cases::word(head, 0), bytes.len());
+    let size = cases::word(head, 0).min(bytes.len());
     write_reading(rt, drawing::read_record(&bytes[..size]));
 }
 
-// One case; false where the input has no further one.
+// One case; none where the input has no further one.
 fn run_case(
     rt: &(impl Input + Print),
     head: &mut [u8],
     label: &mut [u8],
     bytes: &mut [u8],
-) -> bool {
-    if !cases::read_case(rt, head, label, bytes, 2, 0) {
-        return false;
-    }
+) -> Option<()> {
+    cases::read_case(rt, head, label, bytes, 2, 0)?;
     cases::write_part(rt, label, cases::word(head, 2));
-    cases::write_part(rt, b":", 1);
+    cases::write(rt, b":");
     run_named(rt, head, bytes);
     cases::end_line(rt);
-    true
+    Some(())
 }
 
 fn main(rt: HostRuntime) {
     let mut head = [0u8; 4];
     let mut label = [0u8; 80];
     let mut bytes = [0u8; 64];
-    let mut left = cases::MOST;
-    while 0 < left && run_case(&rt, &mut head, &mut label, &mut bytes) {
-        left -= 1;
+    for _ in 0..cases::MOST {
+        if run_case(&rt, &mut head, &mut label, &mut bytes).is_none() {
+            break;
+        }
     }
 }

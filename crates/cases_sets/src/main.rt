@@ -8,44 +8,29 @@
 // " |", the work area after the call. A run of one value is written " i: x" or " i .. j: x"; entries of 0 are left out.
 #![tactic(auto)]
 
-use sets::SetAnswer;
-
-// Writes the number of the answer and the count; zero beside a refusal.
-fn write_answer(rt: &impl Print, answer: SetAnswer) {
-    match answer {
-        SetAnswer::Counted(count) => {
-            cases::write_number(rt, 0);
-            cases::write_number(rt, count);
-        }
-        SetAnswer::Refused(fault) => {
-            cases::write_number(rt, plan::fault_number(fault) as u64);
-            cases::write_number(rt, 0);
-        }
-    }
-}
-
 // Calls the operation on the lent parts, and writes its answer.
 fn run_set(rt: &impl Print, head: &[u8], plan: &[u8], set: &[u8], work: &mut [u64]) {
-    cases::mark64(work, cases::word(head, 16) as u64);
+    work.fill(cases::word(head, 16) as u64);
     let n = cases::word(head, 0);
     let t = cases::word(head, 2);
     let g = cases::word(head, 4);
     let h = cases::word(head, 6);
     let s = cases::word(head, 8);
     let z = cases::word(head, 10);
-    write_answer(rt, sets::through_set(plan, n, t, g, h, s, z, set, work));
-    cases::write64(rt, work);
+    let answer = cases::write_answer(rt, sets::through_set(plan, n, t, g, h, s, z, set, work));
+    cases::write_number(rt, answer.unwrap_or(0));
+    cases::write_runs(rt, work, 0);
 }
 
 // Lends what the head names, and runs the case.
 fn run_named(rt: &impl Print, head: &[u8], plan: &[u8], set: &[u8], work: &mut [u64]) {
-    let size = cases::least(cases::word(head, 12), plan.len());
-    let members = cases::least(cases::word(head, 18), set.len());
+    let size = cases::word(head, 12).min(plan.len());
+    let members = cases::word(head, 18).min(set.len());
     let area = cases::lent(head, 20, work.len());
     run_set(rt, head, &plan[..size], &set[..members], &mut work[..area]);
 }
 
-// One case; false where the input has no further one.
+// One case; none where the input has no further one.
 fn run_case(
     rt: &(impl Input + Print),
     head: &mut [u8],
@@ -53,18 +38,14 @@ fn run_case(
     plan: &mut [u8],
     set: &mut [u8],
     work: &mut [u64],
-) -> bool {
-    if !cases::read_case(rt, head, label, plan, 14, 12) {
-        return false;
-    }
-    if !cases::read_part(rt, set, cases::word(head, 18)) {
-        return false;
-    }
+) -> Option<()> {
+    cases::read_case(rt, head, label, plan, 14, 12)?;
+    cases::read_part(rt, set, cases::word(head, 18))?;
     cases::write_part(rt, label, cases::word(head, 14));
-    cases::write_part(rt, b":", 1);
+    cases::write(rt, b":");
     run_named(rt, head, plan, set, work);
     cases::end_line(rt);
-    true
+    Some(())
 }
 
 fn main(rt: HostRuntime) {
@@ -73,8 +54,9 @@ fn main(rt: HostRuntime) {
     let mut plan = [0u8; 49200];
     let mut set = [0u8; 320];
     let mut work = [0u64; 262200];
-    let mut left = cases::MOST;
-    while 0 < left && run_case(&rt, &mut head, &mut label, &mut plan, &mut set, &mut work) {
-        left -= 1;
+    for _ in 0..cases::MOST {
+        if run_case(&rt, &mut head, &mut label, &mut plan, &mut set, &mut work).is_none() {
+            break;
+        }
     }
 }

@@ -9,70 +9,10 @@
 // of 0 are left out, and a change below 0 has a minus sign.
 #![tactic(auto)]
 
-ghost use Rattle.std.specs.Prelude.{◌<◌, ◌≤◌, length};
-
-use struck::StruckAnswer;
-
-// Fills the table of changes with a mark.
-fn mark_changes(table: &mut [i64], x: i64) {
-    let mut i = 0;
-    while i < table.len() {
-        table[i] = x;
-        i += 1;
-    }
-}
-
-// Where the run of one change that starts at an entry ends.
-fn run_end_changes(table: &[i64], from: usize) -> usize
-    requires { from < length table.now }
-    ensures { (from < result) × (result ≤ length table.now) }
-{
-    let x = table[from];
-    let mut end = from + 1;
-    while end < table.len() {
-        if table[end] != x {
-            return end;
-        }
-        end += 1;
-    }
-    end
-}
-
-// Writes the run of a change from one entry to another, unless it is 0.
-fn write_change(rt: &impl Print, from: usize, last: usize, x: i64) {
-    if x != 0 {
-        cases::write_entries(rt, from, last);
-        cases::write_signed(rt, x);
-    }
-}
-
-// Writes " |" and the runs of the table of changes, but those of 0.
-fn write_changes(rt: &impl Print, table: &[i64]) {
-    cases::write_part(rt, b" |", 2);
-    let mut from = 0;
-    while from < table.len() {
-        let end = run_end_changes(table, from);
-        write_change(rt, from, end - 1, table[from]);
-        from = end;
-    }
-}
-
-// Writes the number of the answer and the number of pairs; zero beside a refusal.
-fn write_answer(rt: &impl Print, answer: StruckAnswer) {
-    match answer {
-        StruckAnswer::Pairs(count) => {
-            cases::write_number(rt, 0);
-            cases::write_number(rt, count);
-        }
-        StruckAnswer::Refused(fault) => {
-            cases::write_number(rt, plan::fault_number(fault) as u64);
-            cases::write_number(rt, 0);
-        }
-    }
-}
+use plan::Fault;
 
 // Calls the operation with the numbers of the head on the lent parts.
-fn call(head: &[u8], plan: &[u8], changes: &mut [i64], work: &mut [u64]) -> StruckAnswer {
+fn call(head: &[u8], plan: &[u8], changes: &mut [i64], work: &mut [u64]) -> Result<u64, Fault> {
     let n = cases::word(head, 0);
     let t = cases::word(head, 2);
     let g = cases::word(head, 4);
@@ -84,22 +24,23 @@ fn call(head: &[u8], plan: &[u8], changes: &mut [i64], work: &mut [u64]) -> Stru
 // Makes the call on the lent parts, which hold the mark before it, and writes its answer.
 fn run_struck(rt: &impl Print, head: &[u8], plan: &[u8], changes: &mut [i64], work: &mut [u64]) {
     let mark = cases::word(head, 20);
-    mark_changes(changes, mark as i64);
-    cases::mark64(work, mark as u64);
-    write_answer(rt, call(head, plan, changes, work));
-    write_changes(rt, changes);
-    cases::write64(rt, work);
+    changes.fill(mark as i64);
+    work.fill(mark as u64);
+    let answer = cases::write_answer(rt, call(head, plan, changes, work));
+    cases::write_number(rt, answer.unwrap_or(0));
+    cases::write_runs(rt, changes, 0);
+    cases::write_runs(rt, work, 0);
 }
 
 // Lends what the head names, and runs the case.
 fn run_named(rt: &impl Print, head: &[u8], plan: &[u8], changes: &mut [i64], work: &mut [u64]) {
-    let size = cases::least(cases::word(head, 16), plan.len());
+    let size = cases::word(head, 16).min(plan.len());
     let a = cases::lent(head, 22, changes.len());
     let b = cases::lent(head, 26, work.len());
     run_struck(rt, head, &plan[..size], &mut changes[..a], &mut work[..b]);
 }
 
-// One case; false where the input has no further one.
+// One case; none where the input has no further one.
 fn run_case(
     rt: &(impl Input + Print),
     head: &mut [u8],
@@ -107,15 +48,13 @@ fn run_case(
     plan: &mut [u8],
     changes: &mut [i64],
     work: &mut [u64],
-) -> bool {
-    if !cases::read_case(rt, head, label, plan, 18, 16) {
-        return false;
-    }
+) -> Option<()> {
+    cases::read_case(rt, head, label, plan, 18, 16)?;
     cases::write_part(rt, label, cases::word(head, 18));
-    cases::write_part(rt, b":", 1);
+    cases::write(rt, b":");
     run_named(rt, head, plan, changes, work);
     cases::end_line(rt);
-    true
+    Some(())
 }
 
 fn main(rt: HostRuntime) {
@@ -124,9 +63,8 @@ fn main(rt: HostRuntime) {
     let mut plan = [0u8; 49200];
     let mut changes = [0i64; 320];
     let mut work = [0u64; 262200];
-    let mut left = cases::MOST;
-    while 0 < left
-        && run_case(
+    for _ in 0..cases::MOST {
+        if run_case(
             &rt,
             &mut head,
             &mut label,
@@ -134,7 +72,9 @@ fn main(rt: HostRuntime) {
             &mut changes,
             &mut work,
         )
-    {
-        left -= 1;
+        .is_none()
+        {
+            break;
+        }
     }
 }

@@ -12,48 +12,34 @@
 #![tactic(auto)]
 
 use listing::WayAnswer;
-
-// Fills a way buffer from bytes.
-fn fill(way: &mut [u16], bytes: &[u8]) {
-    let mut i = 0;
-    while i < way.len() {
-        way[i] = cases::word(bytes, i * 2) as u16;
-        i += 1;
-    }
-}
-
-fn wide(x: u16) -> u64 {
-    x as u64
-}
+use plan::Fault;
 
 // Writes all entries of a way buffer.
 fn write_way(rt: &impl Print, way: &[u16]) {
-    cases::write_part(rt, b" |", 2);
-    let mut i = 0;
-    while i < way.len() {
-        cases::write_number(rt, wide(way[i]));
-        i += 1;
+    cases::write(rt, b" |");
+    for entry in way {
+        cases::write_number(rt, *entry);
     }
 }
 
 // Writes what a call answered.
-fn write_answer(rt: &impl Print, answer: WayAnswer) {
+fn write_answer(rt: &impl Print, answer: Result<WayAnswer, Fault>) {
     match answer {
-        WayAnswer::Path(hops) => {
-            cases::write_part(rt, b"path", 4);
-            cases::write_number(rt, hops as u64);
+        Ok(WayAnswer::Path(hops)) => {
+            cases::write(rt, b"path");
+            cases::write_number(rt, hops);
         }
-        WayAnswer::NoPath => cases::write_part(rt, b"none", 4),
-        WayAnswer::LastPath => cases::write_part(rt, b"last", 4),
-        WayAnswer::Refused(fault) => {
-            cases::write_part(rt, b"refused", 7);
-            cases::write_number(rt, plan::fault_number(fault) as u64);
+        Ok(WayAnswer::NoPath) => cases::write(rt, b"none"),
+        Ok(WayAnswer::LastPath) => cases::write(rt, b"last"),
+        Err(fault) => {
+            cases::write(rt, b"refused");
+            cases::write_number(rt, plan::fault_number(fault));
         }
     }
 }
 
 // Makes the call of a step on the lent parts.
-fn call(step: &[u8], plan: &[u8], way: &mut [u16], work: &mut [u64]) -> WayAnswer {
+fn call(step: &[u8], plan: &[u8], way: &mut [u16], work: &mut [u64]) -> Result<WayAnswer, Fault> {
     let n = cases::word(step, 2);
     let t = cases::word(step, 4);
     let g = cases::word(step, 6);
@@ -75,14 +61,14 @@ fn run_call(
     way: &mut [u16],
     work: &mut [u64],
 ) {
-    let from = cases::least(cases::word(step, 14), plans.len());
-    let end = from + cases::least(cases::word(step, 16), plans.len() - from);
-    let size = cases::least(cases::word(step, 18), way.len());
-    cases::mark64(work, mark);
+    let from = cases::word(step, 14).min(plans.len());
+    let end = from + cases::word(step, 16).min(plans.len() - from);
+    let size = cases::word(step, 18).min(way.len());
+    work.fill(mark);
     let answer = call(step, &plans[from..end], &mut way[..size], work);
     write_answer(rt, answer);
     write_way(rt, way);
-    cases::write64(rt, work);
+    cases::write_runs(rt, work, 0);
     cases::end_line(rt);
 }
 
@@ -121,12 +107,13 @@ fn run_steps(
     way: &mut [u16],
     work: &mut [u64],
 ) {
-    fill(way, entries);
+    cases::fill_words(way, entries);
     let mark = cases::word(head, 8) as u64;
-    let mut left = cases::word(head, 6);
-    while 0 < left && cases::read_part(rt, step, 24) {
+    for _ in 0..cases::word(head, 6) {
+        if cases::read_part(rt, step, 24).is_none() {
+            break;
+        }
         run_step(rt, step, mark, plans, way, work);
-        left -= 1;
     }
 }
 
@@ -140,8 +127,8 @@ fn run_trace(
     way: &mut [u16],
     work: &mut [u64],
 ) {
-    let size = cases::least(cases::word(head, 2), plans.len());
-    let length = cases::least(cases::word(head, 4), way.len());
+    let size = cases::word(head, 2).min(plans.len());
+    let length = cases::word(head, 4).min(way.len());
     run_steps(
         rt,
         head,
@@ -153,21 +140,19 @@ fn run_trace(
     );
 }
 
-// Reads a trace up to its steps; false where the input has no further one.
+// Reads a trace up to its steps; none where the input has no further one.
 fn read_trace(
     rt: &impl Input,
     head: &mut [u8],
     label: &mut [u8],
     plans: &mut [u8],
     entries: &mut [u8],
-) -> bool {
-    if !cases::read_case(rt, head, label, plans, 0, 2) {
-        return false;
-    }
+) -> Option<()> {
+    cases::read_case(rt, head, label, plans, 0, 2)?;
     cases::read_part(rt, entries, cases::word(head, 4) * 2)
 }
 
-// One case; false where the input has no further one.
+// One case; none where the input has no further one.
 fn run_case(
     rt: &(impl Input + Print),
     head: &mut [u8],
@@ -177,14 +162,12 @@ fn run_case(
     step: &mut [u8],
     way: &mut [u16],
     work: &mut [u64],
-) -> bool {
-    if !read_trace(rt, head, label, plans, entries) {
-        return false;
-    }
+) -> Option<()> {
+    read_trace(rt, head, label, plans, entries)?;
     cases::write_part(rt, label, cases::word(head, 0));
     cases::end_line(rt);
     run_trace(rt, head, entries, step, plans, way, work);
-    true
+    Some(())
 }
 
 fn main(rt: HostRuntime) {
@@ -195,9 +178,8 @@ fn main(rt: HostRuntime) {
     let mut step = [0u8; 24];
     let mut way = [0u16; 300];
     let mut work = [0u64; 262200];
-    let mut left = cases::MOST;
-    while 0 < left
-        && run_case(
+    for _ in 0..cases::MOST {
+        if run_case(
             &rt,
             &mut head,
             &mut label,
@@ -207,7 +189,9 @@ fn main(rt: HostRuntime) {
             &mut way,
             &mut work,
         )
-    {
-        left -= 1;
+        .is_none()
+        {
+            break;
+        }
     }
 }
