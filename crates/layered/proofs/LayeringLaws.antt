@@ -9,7 +9,6 @@ use mathlib.Core.List.{List, ◌++◌}
 use mathlib.Core.Logic.{◌≢◌, by_cases}
 use lib.ListN.{length, take, drop}
 use lib.Seq.{sets, sets-eq, take_at}
-use Rattle.temporal.specs.Plan.{Contact}
 use Rattle.temporal.specs.Outcome.{over}
 use Rattle.temporal.specs.Bytes.{contact_at, records}
 use Rattle.temporal.specs.Cause.{plan_fault}
@@ -21,13 +20,9 @@ use Rattle.layered.specs.Layered.{bytes_from, layered}
 use Rattle.layered.specs.Writing.{Layerable, SlotBounds}
 use Rattle.layered.proofs.PositionLaws.{Start, start_at}
 use Rattle.layered.proofs.RecordLaws.{length_bytes, layered_length, accepted_sorted}
-use Rattle.layered.proofs.WritingLaws.{Written, written_none, written_more, written_all}
+use Rattle.layered.proofs.WritingLaws.{Written, written_more, written_all}
 
 -- ---- slot after slot
-
--- the records of a contact's slot
-pub slot_records : (bs : List ℕ) (c k : Contact) (j e : ℕ) → c ≡ k → SlotRecords bs c.slot j e → SlotRecords bs k.slot j e
-slot_records bs c k j e same found = subst (λ (d : Contact). SlotRecords bs d.slot j e) same found
 
 -- The slots before position lo are written; the records before it are in earlier slots than the others.
 pub record Layering (bs : List ℕ) (n v : ℕ) (old : List ℕ) (lo : ℕ) (out : List ℕ) : Type 0 where
@@ -36,14 +31,6 @@ pub record Layering (bs : List ℕ) (n v : ℕ) (old : List ℕ) (lo : ℕ) (out
   pub written : Written (layered_contact bs n v) old 0 (2 * records bs) (2 * lo) out
 
 module _ (bs : List ℕ) (n v : ℕ) (old : List ℕ) (a : Layerable bs n old) where
-  pub layering_none : Layering bs n v old 0 old
-  layering_none =
-      record {
-        inside = omega arith;
-        parted = λ i k h. absurd (omega arith);
-        written = written_none (layered_contact bs n v) old 0 (2 * records bs) (omega arith);
-      }
-
   module _ (lo : ℕ) (out : List ℕ) (w : Layering bs n v old lo out) (h : lo < records bs) (hi : ℕ)
       (found : SlotRecords bs (contact_at bs lo).slot lo hi) where
     slot_of : (i : ℕ) → lo ≤ i → i < hi → (i < records bs) × ((contact_at bs i).slot ≡ (contact_at bs lo).slot)

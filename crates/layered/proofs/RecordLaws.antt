@@ -106,7 +106,3 @@ lowered_low n u h = rw (lt-ltb u n h)
 pub lowered_high : (n u : ℕ) → n ≤ u → u - n ≡ lowered n u
 unfolding lowered
 lowered_high n u h = rw (le-ltb u n h)
-
-pub lowered_whole : (n : ℕ) (c k : Contact) (sender hearer : ℕ) → c ≡ k → sender ≡ lowered n c.sender → hearer ≡ lowered n c.hearer
-    → record { slot = c.slot; sender = sender; hearer = hearer } ≡ lowered_contact n k
-lowered_whole n c k sender hearer e first last = rw (first, last, e)

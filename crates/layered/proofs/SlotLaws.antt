@@ -12,7 +12,7 @@ use Rattle.temporal.specs.Plan.{Contact}
 use Rattle.temporal.specs.Bytes.{contact_at, records}
 use Rattle.layered.specs.Layered.{heard_in, raised, slot_at, shift, layer_of, down, layered_contact}
 use Rattle.layered.specs.Layered.{record_bytes, bytes_from}
-use Rattle.layered.specs.Writing.{Small, Layerable, Placeable, SlotBounds}
+use Rattle.layered.specs.Writing.{Small, Layerable, Placeable}
 use Rattle.layered.proofs.PositionLaws.{up, placed_down, shift_inside}
 use Rattle.layered.proofs.AcceptedLaws.{station_below}
 use Rattle.layered.proofs.WritingLaws.{Written, written_all}
@@ -31,13 +31,6 @@ module _ (n v : ℕ) (layer : Bool) (c : Contact) where
   -- as code finds it
   pub raised_found : (k r : Contact) → c ≡ k → r ≡ raised n v layer c → Small n k → 2 * n ≤ 256 → Small 256 r
   raised_found k r e made s h = rw made (raised_small (rw e s) h)
-
-  pub raised_wrote : (k r : Contact) (out new : List ℕ) (at : ℕ) → c ≡ k → r ≡ raised n v layer c → new ≡ sets out at (record_bytes r)
-      → new ≡ sets out at (record_bytes (raised n v layer k))
-  raised_wrote k r out new at e made wrote = wrote ∙ ap (λ d. sets out at (record_bytes d)) (made ∙ ap (raised n v layer) e)
-
-pub small_found : (n : ℕ) (c k : Contact) → c ≡ k → Small n k → Small n c
-small_found n c k e s = rw e s
 
 -- ---- one place
 
@@ -110,9 +103,6 @@ module _ (bs : List ℕ) (n lo hi q : ℕ) (out : List ℕ) (a : Placeable bs n 
       stands true hi (le-leb (shift bs (slot_at bs q) false + shift bs (slot_at bs q) true) q (omega arith)) last
 
 -- ---- one slot
-
-pub bounds_end : (bs : List ℕ) (n lo hi : ℕ) (out : List ℕ) → Layerable bs n out → SlotBounds bs lo hi → 2 * hi ≤ 8192
-bounds_end bs n lo hi out a b = let few = a.few in let inside = b.inside in omega arith
 
 pub slot_wrote : (f : ℕ → Contact) (old : List ℕ) (lo hi q : ℕ) (out : List ℕ) → 2 * hi ≤ q → Written f old (2 * lo) (2 * hi) q out
     → out ≡ sets old (2 * lo * 6) (bytes_from f (2 * lo) (2 * (hi - lo)))

@@ -4,11 +4,8 @@
 use native.Mathlib.Omega.{arith}
 use Rattle.temporal.specs.Bytes.{records}
 use Rattle.layered.proofs.SlotLaws.{layerable_kept}
-use Rattle.layered.proofs.LayeringLaws.{layering_none, layering_bounds, layering_more, layering_all}
+use Rattle.layered.proofs.LayeringLaws.{layering_bounds, layering_more, layering_all}
 use Rattle.layered.proofs.layer.Goals as goal
-
-pub loop-lo-init : goal.loop-lo-init
-loop-lo-init c = layering_none _ _ _ _ c.requires
 
 pub write_slot-requires : goal.write_slot-requires
 unfolding records
@@ -31,9 +28,6 @@ loop-lo-preserved c =
     let pre = c.requires in
     rw c.write_slot.ensures
     (layering_more _ _ _ _ pre _ _ c.loop-lo.invariant (omega arith) _ c.slot_end_of-hi.ensures)
-
-pub shape_of-out : goal.shape_of-out
-shape_of-out c = c.loop-lo.invariant.written.same_length
 
 pub returns : goal.returns
 unfolding records
