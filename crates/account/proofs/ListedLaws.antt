@@ -56,28 +56,7 @@ pub record Listed (ls : List ℕ) (q : Pair) (i : ℕ) (old way : List ℕ) : Ty
   pub standing : (j : ℕ) → i ≡ j + 1 → index_in (list_in ls q) way ≡ some j
 
 module _ (ls : List ℕ) (n : ℕ) (q : Pair) (most at : ℕ) (way₀ work out : List ℕ) (w : WalksWritable ls n q most at way₀ work out) where
-  pub listed_begin : Listed ls q 0 way₀ way₀
-  listed_begin = record { same = refl; standing = λ j e. absurd (omega arith) }
-
   module _ (i : ℕ) (way : List ℕ) (l : Listed ls q i way₀ way) (more : i < most) where
-    -- the buffer can be moved to walk i
-    pub listed_movable : Movable ls q i way work
-    listed_movable =
-        record {
-          startable = record {
-            listable = record {
-              accepted = w.startable.listable.accepted;
-              source = w.startable.listable.source;
-              fewest = w.startable.listable.fewest;
-              path = w.startable.listable.path;
-              room = let e = l.same in let r = w.startable.listable.room in omega arith;
-            };
-            table = w.startable.table;
-          };
-          inside = let e = w.enough in omega arith;
-          standing = l.standing;
-        }
-
     inside : i < length (list_in ls q)
     inside = let e = w.enough in omega arith
 
