@@ -5,11 +5,10 @@
 use Rattle.std.proofs.Common.{false, sym, refl, ◌∙◌, arith}
 use Rattle.walks.proofs.Accepted.{accepted}
 use Rattle.plan.proofs.SlotLaws.{in_slot_inv}
-use Rattle.pass.proofs.PlaceLaws.{first_part}
 use Rattle.pass.proofs.WidthLaws.{filled_by}
-use Rattle.pass.proofs.PassLaws.{ready_area, passing_begun, passing_area, passing_trail, passing_end, passing_foldable}
+use Rattle.pass.proofs.PassLaws.{ready_area, passing_begun, passing_trail, passing_end, passing_foldable}
 use Rattle.pass.proofs.PassLaws.{passing_fold}
-use Rattle.pass.proofs.PassLaws.{passing_on, settle_part, settle_hearers, next_area, next_length, passed_over, passing_settle}
+use Rattle.pass.proofs.PassLaws.{passing_on, settle_part, settle_hearers, passed_over, passing_settle}
 use Rattle.pass.proofs.PassLaws.{passed_reached, passed_end, passed_entry}
 use Rattle.pass.proofs.pass_columns.Goals as goal
 
@@ -52,11 +51,6 @@ pub overflow_add-u : goal.overflow_add-u
 overflow_add-u c =
     omega (arith, (accepted _ _ _ c.loop-u.invariant.ready.accepted).slots, c.loop-u.invariant.parts)
 
-pub part_at-base-requires-in-loop-u : goal.part_at-base-requires-in-loop-u
-part_at-base-requires-in-loop-u c =
-    let area = ready_area _ _ _ _ _ _ _ _ c.requires.0 in
-    rw c.min-q.ensures (area.parts, omega (arith, area.fits, c.well_formed.0.0))
-
 pub settled_end-end-requires : goal.settled_end-end-requires
 settled_end-end-requires c = (
   passing_trail c.loop-u.invariant,
@@ -75,13 +69,6 @@ settle_slot-requires c = (
   c.settled_end-end.ensures.from,
 )
 
-pub shape_of-work-then-settle_slot : goal.shape_of-work-then-settle_slot
-shape_of-work-then-settle_slot c =
-    next_length c.loop-u.invariant
-    (sym c.kept_in_slot.ensures ∙ c.if-kept_in_slot.false) _ c.part_at-base-in-loop-u.ensures
-    c.if-q-u.true c.loop-u-test.true _ c.settled_end-end.ensures _ _
-    c.settle_slot.ensures ∙ c.begin_columns.auto.work
-
 pub returns-then-settle_slot : goal.returns-then-settle_slot
 returns-then-settle_slot c =
     passed_entry _ _ _ _ _ _ false _ (filled_by _ c.requires.1) _ _ _ _ _ c.min-q.ensures c.requires.0 c.begin_columns.ensures _ _
@@ -89,21 +76,6 @@ returns-then-settle_slot c =
     (sym c.kept_in_slot.ensures ∙ c.if-kept_in_slot.false) _ c.part_at-base-in-loop-u.ensures
     c.if-q-u.true c.loop-u-test.true _ c.settled_end-end.ensures _ _
     c.settle_slot.ensures c.if-settle_slot.true _ refl _ c.stop_reason.ensures)
-
-pub reached-requires : goal.reached-requires
-reached-requires c =
-    let fits = first_part (next_area c.loop-u.invariant
-    (sym c.kept_in_slot.ensures ∙ c.if-kept_in_slot.false) _ c.part_at-base-in-loop-u.ensures
-    c.if-q-u.true c.loop-u-test.true _ c.settled_end-end.ensures _ _
-    c.settle_slot.ensures) in
-    omega arith
-
-pub shape_of-work-then-reached : goal.shape_of-work-then-reached
-shape_of-work-then-reached c =
-    next_length c.loop-u.invariant
-    (sym c.kept_in_slot.ensures ∙ c.if-kept_in_slot.false) _ c.part_at-base-in-loop-u.ensures
-    c.if-q-u.true c.loop-u-test.true _ c.settled_end-end.ensures _ _
-    c.settle_slot.ensures ∙ c.begin_columns.auto.work
 
 pub returns-then-reached : goal.returns-then-reached
 returns-then-reached c =
@@ -125,13 +97,6 @@ loop-u-preserved c =
     passing_on c.loop-u.invariant
     (sym c.kept_in_slot.ensures ∙ c.if-kept_in_slot.false) _ c.part_at-base-in-loop-u.ensures
     (omega arith) c.loop-u-test.true
-
-pub end_pass-requires : goal.end_pass-requires
-end_pass-requires c = let fits = first_part (passing_area c.loop-u.invariant) in omega arith
-
-pub shape_of-work : goal.shape_of-work
-shape_of-work c =
-    c.loop-u.invariant.state.same ∙ c.begin_columns.auto.work
 
 pub returns : goal.returns
 returns c =

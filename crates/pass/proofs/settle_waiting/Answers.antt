@@ -1,7 +1,7 @@
 -- `pass::settle_waiting` meets its contract: what waits is taken in and the waiting entry cleared; where the count is over 2^64 - 1 or does
 -- not fit a lane, nothing is changed.
 -- Assumes nothing.
-use Rattle.std.proofs.Common.{sym, ◌∙◌, arith, lt-length-set}
+use Rattle.std.proofs.Common.{sym, ◌∙◌}
 use Rattle.pass.proofs.PlaceLaws.{settled_over, settled_stop, settled_go}
 use Rattle.pass.proofs.settle_waiting.Goals as goal
 use Rattle.pass.proofs.settle_waiting.Goals.{then-over-via-then-over, then-over-via-else-over+then-take_in}
@@ -15,10 +15,6 @@ returns-then-over c =
           rw w.work-is (settled_stop _ _ _ _ _ _ _ _ _ _ c.requires.3 (sym w.if-over.false ∙ c.over.ensures)
           (rw w.if-take_in.true at w.take_in.ensures))
     ]
-
-pub bounds-work-counted-2 : goal.bounds-work-counted-2
-bounds-work-counted-2 c =
-    lt-length-set c.take_in.new.work _ _ (omega (arith, c.take_in.auto.work, c.requires.0.fits, c.requires.1))
 
 pub returns : goal.returns
 returns c =

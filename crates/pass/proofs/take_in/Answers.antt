@@ -1,7 +1,7 @@
 -- `pass::take_in` meets its contract: what waits is absorbed and the own column masked, but where more hops wait or the count does not fit.
 -- Assumes nothing.
 use Rattle.std.proofs.Common.{sym, ◌∙◌, arith}
-use Rattle.pass.proofs.PlaceLaws.{row_settled, row_waiting, absorb_settled, taken_more, taken_wide, taken_within}
+use Rattle.pass.proofs.PlaceLaws.{taken_more, taken_wide, taken_within}
 use Rattle.pass.proofs.take_in.Goals as goal
 
 pub returns-then-work-v : goal.returns-then-work-v
@@ -9,22 +9,6 @@ returns-then-work-v c = taken_more _ _ _ _ _ _ _ _ (omega arith)
 
 pub returns-then-wide_at : goal.returns-then-wide_at
 returns-then-wide_at c = taken_wide _ _ _ _ _ _ _ _ (omega arith) (sym c.if-wide_at.true ∙ c.wide_at.ensures)
-
-pub row_at-row-requires : goal.row_at-row-requires
-row_at-row-requires c =
-    omega (arith, row_settled c.requires.1 c.requires.0, c.well_formed.0.0)
-
-pub overflow_add-base : goal.overflow_add-base
-overflow_add-base c =
-    omega (arith, row_waiting c.requires.1 c.requires.0, c.row_at-row.ensures, c.well_formed.0.0)
-
-pub absorb-requires : goal.absorb-requires
-absorb-requires c =
-    absorb_settled _ c.requires.1 c.requires.0 c.row_at-row.ensures
-
-pub mask-requires : goal.mask-requires
-mask-requires c =
-    (omega (arith, row_settled c.requires.1 c.requires.0, c.absorb.auto.work), c.requires.2)
 
 pub returns : goal.returns
 returns c =
