@@ -263,9 +263,6 @@ module _ {bs : List ℕ} {n t : ℕ} {terms : Terms} {s until : ℕ} {known : Bo
               subst (AreaState known lay n block q (u - q) old (between swept.test (walks_at (plan_of bs n t terms) s (may_leave s col) (u - q) j)
               (walks_taken (plan_of bs n t terms) s (may_leave s col) (u - q) j))) (sym (ap (λ z. z.work) out)) swept.state
 
-          pub next_area : Area n block q w'
-          next_area = area_kept area held.same
-
           pub next_length : length w' ≡ length old
           next_length = held.same
 

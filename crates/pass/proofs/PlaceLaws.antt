@@ -1,13 +1,13 @@
 -- Places of the work area: rows lie within it and apart from each other. What the functions over it leave, from what
 -- the functions that they call leave. Assumes nothing.
-use Rattle.std.proofs.Common.{◌≡◌, ℕ, suc, ◌+◌, ◌-◌, ◌*◌, ◌/◌, ◌%◌, ◌<◌, ◌≤◌, min, Bool, true, false, cond, not, ◌&&◌, eqb, ltb, ◌≢◌, ◌⊎◌, List, length, get_or, set, sym, refl, ap, ◌∙◌, inl, inr, le_refl, mul-le-mul_right, mod-lt, suc-mul, mul-le-mul, div-add-mod', arith, length-set, ltb-false, ltb-true, le-ltb, lt-ltb, eq-eqb, ne_eqb}
+use Rattle.std.proofs.Common.{◌≡◌, ℕ, suc, ◌+◌, ◌-◌, ◌*◌, ◌/◌, ◌%◌, ◌<◌, ◌≤◌, min, Bool, true, false, cond, not, ◌&&◌, eqb, ltb, ◌≢◌, ◌⊎◌, List, length, get_or, set, sym, refl, ap, ◌∙◌, inl, inr, mul-le-mul_right, mod-lt, suc-mul, div-add-mod', arith, length-set, ltb-false, ltb-true, le-ltb, lt-ltb, eq-eqb, ne_eqb}
 use native.Mathlib.Nat.{mul-add-mod_self_right}
 use native.Mathlib.Decide.{dec_le}
 use mathlib.Core.Logic.{by_cases}
 use Rattle.memory.specs.Fill.{filled}
 use Rattle.memory.proofs.FillLaws.{filled_length}
 use Rattle.pass.specs.Row.{part_size, row_at, part_at}
-use Rattle.pass.specs.Entry.{merged_area, absorbed, Absorbable}
+use Rattle.pass.specs.Entry.{merged_area, absorbed}
 use Rattle.pass.specs.Column.{Lanes}
 use Rattle.pass.specs.Sweep.{sent_area, cleared_column, masked, settled_one, too_wide, Sweep, sweep_of, halts_at, taken_in}
 use Rattle.pass.specs.Sweep.{widens_at, taken_next}
@@ -34,27 +34,6 @@ module _ {n block base v : ℕ} {w : List ℕ} where
   pub row_waiting : v < n → PartFits n block base w → base + row_at n block v + block ≤ length w
   row_waiting h a = let f = a.fits in let r = row_inside n block v h in omega arith
 
-  -- an entry of the part can take in what is settled for another station
-  pub absorb_sent : (u row from : ℕ) → v < n → u < n → PartFits n block base w → row ≡ row_at n block v → from ≡ row_at n block u
-      → Absorbable n block w (base + v) (base + row) from
-  absorb_sent u row from hv hu a is_row is-from =
-      let b = a.behind in
-      let f = a.fits in
-      let some = a.some in
-      let r = row_inside n block v hv in
-      let q = row_inside n block u hu in
-      record { some = a.some; before = omega arith; row_fits = omega arith; from_fits = omega arith }
-
-  -- the settled entry of a station can take in what waits for it in the part
-  pub absorb_settled : (row : ℕ) → v < n → PartFits n block base w → row ≡ row_at n block v
-      → Absorbable n block w v row (base + row)
-  absorb_settled row hv a is_row =
-      let b = a.behind in
-      let f = a.fits in
-      let some = a.some in
-      let r = row_inside n block v hv in
-      record { some = a.some; before = omega arith; row_fits = omega arith; from_fits = omega arith }
-
 -- a part fits a list of the same length too
 pub part_kept : {n block base : ℕ} {w w' : List ℕ} → PartFits n block base w → length w' ≡ length w → PartFits n block base w'
 part_kept a e = let fits = a.fits in record { some = a.some; behind = a.behind; fits = omega arith }
@@ -77,30 +56,6 @@ part_fits {n} {block} {q} {w} a u =
       behind = omega (arith, first);
       fits = omega (arith, last, suc-mul (1 + u % q) size, fits);
     }
-
--- a work area has no fewer entries than parts
-pub parts_few : {n block q : ℕ} {w : List ℕ} → Area n block q w → 1 + q ≤ length w
-parts_few {n} {block} {q} {w} a =
-    let some = a.some in
-    let fits = a.fits in
-    let one : 1 ≤ part_size n block = omega arith in
-    let few = mul-le-mul (le_refl (1 + q)) one in
-    omega arith
-
--- what is settled lies within it
-pub first_part : {n block q : ℕ} {w : List ℕ} → Area n block q w → part_size n block ≤ length w
-first_part {n} {block} {q} {w} a =
-    let fits = a.fits in
-    let one = mul-le-mul_right {m = 1} {n = 1 + q} (part_size n block) (omega arith) in
-    omega arith
-
--- where a part begins is a number below the work area's size
-pub part_small : (n block q u size : ℕ) → 0 < q → size ≡ part_size n block → (1 + q) * part_size n block < 18446744073709551616
-    → (1 + u % q) * size < 18446744073709551616
-part_small n block q u size parts is small =
-    let low = mod-lt u parts in
-    let most = mul-le-mul_right {m = 1 + u % q} {n = 1 + q} (part_size n block) (omega arith) in
-    rw is (omega arith)
 
 -- parts of slots less than q apart do not meet
 module _ (q : ℕ) where
@@ -258,10 +213,6 @@ pub record SettlingArea (f : ℕ → ℕ) (known : Bool) (lay : Lanes) (n block 
   pub rest : settled_by f known lay n block base s col now i (e - i) ≡ settled_by f known lay n block base s col old j (e - j)
 
 module _ (f : ℕ → ℕ) (known : Bool) (lay : Lanes) (n block base s : ℕ) (col : ℕ → ℕ) (old : List ℕ) (j e : ℕ) where
-  -- at first no station is settled
-  pub settling_none : SettlingArea f known lay n block base s col old j e j old
-  settling_none = record { from = omega arith; same = refl; rest = refl }
-
   module _ (i : ℕ) (now : List ℕ) (x : SettlingArea f known lay n block base s col old j e i now) where
     -- at last all are
     pub settling_all : e ≤ i → sweep_of false now ≡ settled_by f known lay n block base s col old j (e - j)
@@ -304,10 +255,6 @@ module _ (f : ℕ → ℕ) (known : Bool) (lay : Lanes) (n block base s : ℕ) (
 
 -- a slot settled for the hearers of its records, or for every station where they are more
 module _ (bs : List ℕ) (n j e : ℕ) (fits : HearersFit bs n j e) (up : j ≤ e) where
-  -- the number of the station is that of a record, where not all are settled
-  pub station_record : (all : Bool) → all ≡ ltb n (e - j) → (i : ℕ) → i < min n (e - j) → all ≡ false → (j + i) * 6 + 5 < length bs
-  station_record all is i inside none = (fits (j + i) (omega arith) (omega arith)).inside
-
   pub station_inside : (all : Bool) → all ≡ ltb n (e - j) → (i : ℕ) → i < min n (e - j) → station_at bs all j i < n
   unfolding station_at
   station_inside true is i inside = omega arith
@@ -358,22 +305,6 @@ unfolding emptied
 emptied_length n w at = filled_length (filled w at n 65535) (at + n) n 0 ∙ filled_length w at n 65535
 
 module _ (n size k : ℕ) (old : List ℕ) where
-  -- at first no part is
-  pub emptying_none : Emptying n size k old 0 old
-  emptying_none =
-      let place : 0 * size ≡ 0 = omega arith in
-      let same : k - 0 ≡ k = omega arith in
-      record { within = omega arith; same = refl; rest = rw (place, same) }
-
-  -- there is room for one more
-  pub emptying_room : (i : ℕ) (now : List ℕ) → 2 * n ≤ size → k * size ≤ length old → i < k
-      → Emptying n size k old i now → (i * size + 2 * n ≤ length now) × (i * size + size ≤ length old)
-  emptying_room i now small fits h x =
-      let a = mul-le-mul_right {m = suc i} {n = k} size h in
-      let b = suc-mul i size in
-      let same = x.same in
-      (omega arith, omega arith)
-
   -- one part more
   pub emptying_more : (i : ℕ) (now now' : List ℕ) → i < k → Emptying n size k old i now → now' ≡ emptied n now (i * size)
       → Emptying n size k old (i + 1) now'
