@@ -1,4 +1,6 @@
 -- C-22 holds of every run of takings in and out. Assumes nothing.
+use Rattle.plan.specs.Fault.{answer_number}
+use Rattle.std.specs.Prelude.{Result, Ok, Err}
 use Prim.Native.Nat.{ℕ, zero, suc, ◌+◌, ◌-◌, ◌≤◌, ◌<◌}
 use native.Mathlib.Omega.{arith}
 use mathlib.Core.Path.{◌≡◌, refl, sym, ap, subst, ◌∙◌}
@@ -34,9 +36,7 @@ use Rattle.plan.specs.declared.CallFault.TheVariants as call-fault
 use Rattle.plan.specs.declared.Fault.{Fault}
 use Rattle.plan.specs.declared.Fault.TheVariants as fault
 use Rattle.plan.proofs.Answers.{fault-number-within}
-use Rattle.band.specs.Answer.{band_number, band_outcome}
-use Rattle.band.specs.declared.BandAnswer.{BandAnswer}
-use Rattle.band.specs.declared.BandAnswer.TheVariants.{Taken, Refused}
+use Rattle.band.specs.Answer.{band_outcome}
 use Rattle.demands.specs.Band.{
   BandCall,
   BandEvent,
@@ -62,16 +62,16 @@ none_first = refl
 -- ---- numbers that some answer has
 
 abbrev Named : ℕ → Type 0
-Named k = (r : BandAnswer) × (band_number r ≡ k)
+Named k = (r : Result (Unit {0}) Fault) × (answer_number r ≡ k)
 
 no_fault : Named 0
-no_fault = (Taken, refl)
+no_fault = (Ok tt, refl)
 
 named_plan : (f : PlanFault) → Named (plan_number f)
-named_plan f = (Refused (fault.Plan f), refl)
+named_plan f = (Err (fault.Plan f), refl)
 
 named_call : (f : CallFault) → Named (call_number f)
-named_call f = (Refused (fault.Call f), refl)
+named_call f = (Err (fault.Call f), refl)
 
 -- ---- one call: 1 to 5 and 8, then its own cause, then the work
 
@@ -141,7 +141,7 @@ module _ (k : BandCall) (table : List ℕ) (m : ℕ) (large : 9 ≤ m) (holds : 
       decide (suc k) = refl
 
   -- some answer has this outcome, where one has its own number
-  some_answer : Named (suc m) → (r : BandAnswer) × (after : List ℕ) × (band_outcome r after ≡ outcome)
+  some_answer : Named (suc m) → (r : Result (Unit {0}) Fault) × (after : List ℕ) × (band_outcome r after ≡ outcome)
   some_answer mine =
       let (r, e) =
       append_has Named no_fault plan _ (plan_has Named no_fault (named_plan plan-fault.Limits) (named_plan plan-fault.Length)
@@ -151,28 +151,28 @@ module _ (k : BandCall) (table : List ℕ) (m : ℕ) (large : 9 ≤ m) (holds : 
       (r, outcome.buffers, ap (λ x. record { number = x; values = tt; buffers = outcome.buffers }) (e ∙ sym outcome_number))
 
   module _ (after : List ℕ) where
-    abbrev Met : BandAnswer → Type 0
+    abbrev Met : Result (Unit {0}) Fault → Type 0
     Met r = band_outcome r after ≡ outcome
 
-    met_number : (r : BandAnswer) → Met r → band_number r ≡ first causes
+    met_number : (r : Result (Unit {0}) Fault) → Met r → answer_number r ≡ first causes
     met_number r e = ap (λ o. o.number) e ∙ outcome_number
 
     -- an accepted call
-    met_free : Met Taken → holds ≡ false
+    met_free : Met (Ok tt) → holds ≡ false
     unfolding outcome
     met_free e =
         first_head m holds [] (first_tail 7 _ _ (first_append_right plan _ (no_first causes tt tt table after _ e)))
 
-    met_new : Met Taken → after ≡ new
+    met_new : Met (Ok tt) → after ≡ new
     unfolding outcome
     met_new e = ap (λ o. o.buffers) (no_cause causes tt tt table after _ e)
 
     -- a refused call
-    met_old : (f : Fault) → Met (Refused f) → after ≡ table
+    met_old : (f : Fault) → Met (Err f) → after ≡ table
     unfolding outcome entered
     met_old f e =
         let some = (fault-number-within f).0 in
-        let number = met_number (Refused f) e in
+        let number = met_number (Err f) e in
         ap (λ o. o.buffers) (e ∙ unless_some (first causes) _ _ (omega arith))
 
 -- ---- the plans in
@@ -209,8 +209,8 @@ module _ (c : ℕ) (ins : List (List ℕ)) (table : List ℕ) (right : Used c in
         (j, (mem_below band_slots).1 inside, lt-ltb c _ (subst (λ x. c < x) (sym (with_new j inside)) more)),
   )
 
-  module _ (r : BandAnswer) (e : band_outcome r after ≡ take_in k.bytes k.stations k.slots c table) where
-    fifteen : (band_number r ≡ 15) ↔ ((earlier k table ≡ 0) × Passes c ins k.bytes)
+  module _ (r : Result (Unit {0}) Fault) (e : band_outcome r after ≡ take_in k.bytes k.stations k.slots c table) where
+    fifteen : (answer_number r ≡ 15) ↔ ((earlier k table ≡ 0) × Passes c ins k.bytes)
     unfolding take_in earlier outcome
     fifteen =
         let number = met_number k table 14 (omega arith) (over_band k.bytes c table) _ after r e in
@@ -219,17 +219,17 @@ module _ (c : ℕ) (ins : List (List ℕ)) (table : List ℕ) (right : Used c in
           λ (none, passes). number ∙ both.1 (none, over_passes.1 passes),
         )
 
-    in_not_sixteen : band_number r ≢ 16
+    in_not_sixteen : answer_number r ≢ 16
     unfolding take_in outcome
     in_not_sixteen q =
         let number = met_number k table 14 (omega arith) (over_band k.bytes c table) _ after r e in
         no_other k table 14 (omega arith) (over_band k.bytes c table) (taken_in k.bytes table) 16
         (omega arith) (omega arith) (sym number ∙ q)
 
-  used_in : (r : BandAnswer) → band_outcome r after ≡ take_in k.bytes k.stations k.slots c table
+  used_in : (r : Result (Unit {0}) Fault) → band_outcome r after ≡ take_in k.bytes k.stations k.slots c table
       → Used c (in_after_in k.bytes r ins) after
   unfolding take_in taken_in over_band in_after_in outcome
-  used_in Taken e =
+  used_in (Ok x) e =
       let free = met_free k table 14 (omega arith) (over_band k.bytes c table) _ after e in
       let is = met_new k table 14 (omega arith) (over_band k.bytes c table) _ after e in
       let entry : (j : ℕ) → j < band_slots → get_or after j 0 ≡ get_or table j 0 + records_in k.bytes (j + 1) =
@@ -240,7 +240,7 @@ module _ (c : ℕ) (ins : List (List ℕ)) (table : List ℕ) (right : Used c in
             let few = ltb-false c _ ((any_false _ (below band_slots)).0 free j ((mem_below band_slots).1 h)) in
             rw (entry j h) few;
       }
-  used_in (Refused f) e =
+  used_in (Err f) e =
       subst (Used c ins)
       (sym (met_old k table 14 (omega arith) (over_band k.bytes c table) _ after f e)) right
 
@@ -255,25 +255,25 @@ module _ (c : ℕ) (ins : List (List ℕ)) (table : List ℕ) (right : Used c in
         (any_false _ (below band_slots)).1
         (λ j m. let all = enough j ((mem_below band_slots).0 m) in le-ltb (get_or table j 0) (records_in k.bytes (j + 1)) (omega arith))
 
-    module _ (r : BandAnswer) (e : band_outcome r after ≡ take_out k.bytes k.stations k.slots table) where
-      out_not_fifteen : band_number r ≢ 15
+    module _ (r : Result (Unit {0}) Fault) (e : band_outcome r after ≡ take_out k.bytes k.stations k.slots table) where
+      out_not_fifteen : answer_number r ≢ 15
       unfolding take_out outcome
       out_not_fifteen q =
           let number = met_number k table 15 (omega arith) (under_band k.bytes table) _ after r e in
           no_other k table 15 (omega arith) (under_band k.bytes table) (taken_out k.bytes table) 15
           (omega arith) (omega arith) (sym number ∙ q)
 
-      sixteen_never : band_number r ≢ 16
+      sixteen_never : answer_number r ≢ 16
       unfolding take_out outcome
       sixteen_never q =
           let number = met_number k table 15 (omega arith) (under_band k.bytes table) _ after r e in
           let both = own k table 15 (omega arith) (under_band k.bytes table) (taken_out k.bytes table) in
           not_both (both.0 (sym number ∙ q)).1 not_under
 
-    used_out : (r : BandAnswer) → band_outcome r after ≡ take_out k.bytes k.stations k.slots table
+    used_out : (r : Result (Unit {0}) Fault) → band_outcome r after ≡ take_out k.bytes k.stations k.slots table
         → Used c (in_after_out k.bytes r ins) after
     unfolding take_out taken_out in_after_out outcome
-    used_out Taken e =
+    used_out (Ok x) e =
         let is = met_new k table 15 (omega arith) (under_band k.bytes table) _ after e in
         let entry : (j : ℕ) → j < band_slots → get_or after j 0 ≡ get_or table j 0 - records_in k.bytes (j + 1) =
         λ j h. ap (λ l. get_or l j 0) is ∙ written (λ i. get_or table i 0 - records_in k.bytes (i + 1)) band_slots j table h in
@@ -281,7 +281,7 @@ module _ (c : ℕ) (ins : List (List ℕ)) (table : List ℕ) (right : Used c in
           entry = λ j h. let all = enough j h in entry j h ∙ omega arith;
           at_most = λ j h. let most = right.at_most j h in rw (entry j h) (omega arith);
         }
-    used_out (Refused f) e =
+    used_out (Err f) e =
         subst (Used c ins)
         (sym (met_old k table 15 (omega arith) (under_band k.bytes table) _ after f e)) right
 

@@ -1,5 +1,8 @@
 -- What pair, loads and busiest answer, from their contracts' own equations where the number is 0: pair counts the complete list,
 -- loads and partial loads leave each station's pairs and load, and busiest gives the busiest station. Assumes nothing.
+use Rattle.pair.specs.declared.PairCount.{PairCount}
+use Rattle.plan.specs.declared.Fault.{Fault}
+use Rattle.std.specs.Prelude.{Result}
 use Prim.Native.Nat.{ℕ, ◌<◌}
 use native.Mathlib.Omega.{arith}
 use mathlib.Core.Path.{◌≡◌, sym, ap, subst, ◌∙◌}
@@ -23,11 +26,10 @@ use Rattle.lists.proofs.ListLaws.{true_or_false}
 use Rattle.counting.proofs.ExactSum.{within_exact_sum}
 use Rattle.pair.specs.Answer.{pair_values}
 use Rattle.loads.specs.Answer.{busiest_station}
-use Rattle.pair.specs.declared.PairAnswer.{PairAnswer}
 use Rattle.demands.specs.PairLoads.{CountedByPair, PairDemand, LoadsDemand, BusiestDemand}
 use Rattle.demands.specs.Partial.{PartlyLoaded}
 
-module _ (q : Question) (old : PairBuffers) (r : PairAnswer) (new : PairBuffers) where
+module _ (q : Question) (old : PairBuffers) (r : Result PairCount Fault) (new : PairBuffers) where
   -- pair's work without cause 9 counts the complete list
   pair_counted :
       ◌≡◌ {A = Outcome PairValues PairBuffers} (record { number = 0; values = pair_values r; buffers = new })

@@ -1,4 +1,6 @@
 -- Demand 1 holds: of each operation's contract, for every call. Assumes nothing.
+use Rattle.plan.specs.declared.PlanFault.{PlanFault}
+use Rattle.std.specs.Prelude.{Result, Ok, Err}
 use Prim.Native.Nat.{ℕ, ◌+◌, ◌*◌}
 use native.Mathlib.Omega.{arith}
 use native.Mathlib.Nat.{pos_of_ne-zero}
@@ -23,8 +25,6 @@ use Rattle.temporal.specs.Band.{take_in, take_out}
 use Rattle.lists.proofs.ListLaws.{true_or_false}
 use Rattle.walks.proofs.NumberLaws.{none_has, cause_has, append_has, plan_has, ends_has, turning_other}
 use Rattle.plan.specs.Fault.{check_number}
-use Rattle.plan.specs.declared.CheckAnswer.{CheckAnswer}
-use Rattle.plan.specs.declared.CheckAnswer.TheVariants as check-answer
 use Rattle.plan.proofs.Answers.{number-positive}
 use Rattle.rows.proofs.RowLaws.{row_refused, row_part, row_within, row_end}
 use Rattle.listing.specs.Answer.{question}
@@ -74,12 +74,12 @@ use Rattle.demands.proofs.WayJudged.{outcome_of, first_way_judged, next_way_judg
 -- ---- check
 
 -- the number is 0 where the answer is acceptance, and nowhere else
-number_accepted : (r : CheckAnswer) → (r ≡ check-answer.Accepted) ↔ (check_number r ≡ 0)
-number_accepted check-answer.Accepted = (λ e. refl, λ e. refl)
-number_accepted (check-answer.Refused f) =
+number_accepted : (r : Result (Unit {0}) PlanFault) → (r ≡ Ok tt) ↔ (check_number r ≡ 0)
+number_accepted (Ok x) = (λ e. refl, λ e. refl)
+number_accepted (Err f) =
     (λ e. ap check_number e, λ e. absurd (let some = number-positive f in omega arith))
 
-check_judged : (bs : List ℕ) (n t : ℕ) (r : CheckAnswer) → check_number r ≡ plan_fault bs n t → CheckJudged bs n t r
+check_judged : (bs : List ℕ) (n t : ℕ) (r : Result (Unit {0}) PlanFault) → check_number r ≡ plan_fault bs n t → CheckJudged bs n t r
 unfolding plan_fault
 check_judged bs n t r e =
     record {

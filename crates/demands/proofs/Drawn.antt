@@ -1,4 +1,6 @@
 -- C-24 holds of the loads for the drawing program and of reading a record. Assumes nothing.
+use Rattle.plan.specs.declared.Fault.{Fault}
+use Rattle.std.specs.Prelude.{Result}
 use Prim.Native.Nat.{ℕ, ◌+◌, ◌*◌, ◌^◌, ◌≤◌, ◌<◌}
 use native.Mathlib.Nat.{mul-le-mul, mul_comm, mul_assoc, mul_right_comm, mul-le-mul_right, mul-lt-mul_of_pos_right}
 use native.Mathlib.Omega.{arith}
@@ -23,7 +25,6 @@ use Rattle.temporal.proofs.CauseLaws.{first_append_left, first_append_right, fir
 use Rattle.walks.proofs.EnteredLaws.{no_first, no_cause}
 use Rattle.lists.proofs.ListLaws.{true_or_false}
 use Rattle.counting.proofs.ExactSum.{pairs_at_most, load_below, within_exact_sum}
-use Rattle.loads.specs.declared.LoadsAnswer.{LoadsAnswer}
 use Rattle.loads.proofs.LoadLaws.{loads_works}
 use Rattle.drawing.specs.Reading.{read_result}
 use Rattle.drawing.specs.declared.Reading.{Reading}
@@ -90,7 +91,7 @@ module _ (p : Plan) (v : ℕ) (few : p.stations ≤ 256) where
 
 -- ---- an accepted call
 
-module _ (bs : List ℕ) (n t : ℕ) (terms : Terms) (old : DrawnBuffers) (r : LoadsAnswer) (new : DrawnBuffers)
+module _ (bs : List ℕ) (n t : ℕ) (terms : Terms) (old : DrawnBuffers) (r : Result (Unit {0}) Fault) (new : DrawnBuffers)
     (a : DrawnAccepts bs n t terms old r new) where
   -- none of its causes holds
   free : first (plan_causes bs n t ++ (terms_causes terms ++ cause 8 (drawn_short n t old) ∷ [])) ≡ 0

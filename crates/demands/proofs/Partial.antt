@@ -1,4 +1,7 @@
 -- C-18 holds of partial loads. Assumes nothing.
+use Rattle.plan.specs.Fault.{answer_number}
+use Rattle.plan.specs.declared.Fault.{Fault}
+use Rattle.std.specs.Prelude.{Result}
 use Prim.Native.Nat.{ℕ, ◌-◌, ◌≤◌, ◌<◌}
 use native.Mathlib.Omega.{arith}
 use mathlib.Core.Path.{◌≡◌, refl, sym, ◌∙◌}
@@ -15,8 +18,7 @@ use Rattle.temporal.specs.OutcomePair.{LoadBuffers, partial_loads}
 use Rattle.temporal.proofs.CauseLaws.{first_append_right, first_head}
 use Rattle.walks.proofs.EnteredLaws.{no_first, no_cause}
 use Rattle.counting.proofs.PartialLaws.{pairs_between, load_between}
-use Rattle.loads.specs.Answer.{loads_number, loads_outcome}
-use Rattle.loads.specs.declared.LoadsAnswer.{LoadsAnswer}
+use Rattle.loads.specs.Answer.{loads_outcome}
 use Rattle.demands.specs.Causes.{partial_loads_causes}
 use Rattle.demands.specs.PairLoads.{LoadsAccepts}
 use Rattle.demands.specs.Partial.{PartialAccepts, PartlyLoaded, Narrowed, Bounded, PartialDemand}
@@ -24,7 +26,7 @@ use Rattle.demands.proofs.JudgedLaws.{plain_few}
 use Rattle.demands.proofs.CountLaws.{partial_summed}
 use Rattle.demands.proofs.Demand1.{demand1}
 
-module _ (bs : List ℕ) (n t : ℕ) (terms : Terms) (k : ℕ) (old : LoadBuffers) (r : LoadsAnswer) (new : LoadBuffers)
+module _ (bs : List ℕ) (n t : ℕ) (terms : Terms) (k : ℕ) (old : LoadBuffers) (r : Result (Unit {0}) Fault) (new : LoadBuffers)
     (a : PartialAccepts bs n t terms k old r new) where
   -- where it is accepted, its work was done
   told : (v : ℕ) → v < n → PartlyLoaded bs n t terms k new v
@@ -41,13 +43,13 @@ module _ (bs : List ℕ) (n t : ℕ) (terms : Terms) (k : ℕ) (old : LoadBuffer
 
 -- loads is accepted where partial loads with all sources are
 of_all :
-    (bs : List ℕ) (n t : ℕ) (terms : Terms) (old : LoadBuffers) (r : LoadsAnswer) (new : LoadBuffers) →
+    (bs : List ℕ) (n t : ℕ) (terms : Terms) (old : LoadBuffers) (r : Result (Unit {0}) Fault) (new : LoadBuffers) →
     LoadsAccepts bs n t terms old r new → PartialAccepts bs n t terms n old r new
 of_all bs n t terms old r new a = record { contract = a.contract; accepted = a.accepted }
 
 narrowed :
-    (bs : List ℕ) (n t : ℕ) (terms : Terms) (k j : ℕ) (old : LoadBuffers) (r : LoadsAnswer) (new : LoadBuffers)
-    (old' : LoadBuffers) (r' : LoadsAnswer) (new' : LoadBuffers) → k ≤ j →
+    (bs : List ℕ) (n t : ℕ) (terms : Terms) (k j : ℕ) (old : LoadBuffers) (r : Result (Unit {0}) Fault) (new : LoadBuffers)
+    (old' : LoadBuffers) (r' : Result (Unit {0}) Fault) (new' : LoadBuffers) → k ≤ j →
     PartialAccepts bs n t terms k old r new → PartialAccepts bs n t terms j old' r' new' →
     (v : ℕ) → v < n → Narrowed n k j new new' v
 unfolding plan_of
@@ -77,8 +79,8 @@ unfolding rest_of_pairs rest_of_load
 no_rest n = let z : n - n ≡ 0 = omega arith in (rw z (omega arith), rw z (omega arith))
 
 bounded :
-    (bs : List ℕ) (n t : ℕ) (terms : Terms) (k : ℕ) (old : LoadBuffers) (r : LoadsAnswer) (new : LoadBuffers)
-    (old' : LoadBuffers) (r' : LoadsAnswer) (full : LoadBuffers) →
+    (bs : List ℕ) (n t : ℕ) (terms : Terms) (k : ℕ) (old : LoadBuffers) (r : Result (Unit {0}) Fault) (new : LoadBuffers)
+    (old' : LoadBuffers) (r' : Result (Unit {0}) Fault) (full : LoadBuffers) →
     PartialAccepts bs n t terms k old r new → LoadsAccepts bs n t terms old' r' full →
     (v : ℕ) → v < n → Bounded n k new full v
 bounded bs n t terms k old r new old' r' full a b v h =
@@ -96,15 +98,15 @@ bounded bs n t terms k old r new old' r' full a b v h =
 
 -- without a source there is no 9
 no_source :
-    (bs : List ℕ) (n t : ℕ) (terms : Terms) (old : LoadBuffers) (r : LoadsAnswer) (new : LoadBuffers) →
-    loads_outcome r new ≡ partial_loads bs n t terms 0 old → loads_number r ≢ 9
+    (bs : List ℕ) (n t : ℕ) (terms : Terms) (old : LoadBuffers) (r : Result (Unit {0}) Fault) (new : LoadBuffers) →
+    loads_outcome r new ≡ partial_loads bs n t terms 0 old → answer_number r ≢ 9
 unfolding partial_loads_causes too_many_below any below from
 no_source bs n t terms old r new a nine =
     (plain_few bs n t terms _ 0 (too_many_below (plan_of bs n t terms) 0) refl).not_too_many
     (sym (demand1.of_partial_loads bs n t terms 0 old new r a).numbered.the_first ∙ nine)
 
 no_source_zeros :
-    (bs : List ℕ) (n t : ℕ) (terms : Terms) (old : LoadBuffers) (r : LoadsAnswer) (new : LoadBuffers) →
+    (bs : List ℕ) (n t : ℕ) (terms : Terms) (old : LoadBuffers) (r : Result (Unit {0}) Fault) (new : LoadBuffers) →
     PartialAccepts bs n t terms 0 old r new → (v : ℕ) → v < n →
     (get_or new.pairs_table v 0 ≡ 0) × (get_or new.load_table v 0 ≡ 0)
 unfolding partial_pairs partial_load pairs_below ends_below below from select sum flat_map

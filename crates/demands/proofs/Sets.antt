@@ -1,4 +1,6 @@
 -- C-12 holds of the operation on a pair and a set. Assumes nothing.
+use Rattle.plan.specs.declared.Fault.{Fault}
+use Rattle.std.specs.Prelude.{Result}
 use Prim.Native.Nat.{ℕ, ◌<◌}
 use native.Mathlib.Omega.{arith}
 use mathlib.Core.Path.{◌≡◌, ap, ◌∙◌}
@@ -25,10 +27,9 @@ use Rattle.walks.proofs.SetLaws.{
   touched_larger,
 }
 use Rattle.sets.specs.Answer.{set_count}
-use Rattle.sets.specs.declared.SetAnswer.{SetAnswer}
 use Rattle.demands.specs.Sets.{SetDemand}
 
-module _ (bs : List ℕ) (n t : ℕ) (terms : Terms) (s z : ℕ) (set old : List ℕ) (r : SetAnswer) (new : List ℕ) where
+module _ (bs : List ℕ) (n t : ℕ) (terms : Terms) (s z : ℕ) (set old : List ℕ) (r : Result ℕ Fault) (new : List ℕ) where
   -- the work without cause 9 counts the walks that a member touches
   set_counted_law :
       ◌≡◌ {A = Outcome ℕ (List ℕ)} (record { number = 0; values = set_count r; buffers = new })

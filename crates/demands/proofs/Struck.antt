@@ -1,4 +1,6 @@
 -- C-23 holds of the operation on a contact that is struck out. Assumes nothing.
+use Rattle.plan.specs.declared.Fault.{Fault}
+use Rattle.std.specs.Prelude.{Result}
 use Prim.Native.Nat.{ℕ, ◌*◌, ◌^◌, ◌≤◌, ◌<◌}
 use native.Mathlib.Omega.{arith}
 use mathlib.Core.Path.{◌≡◌, sym, ap, ap₂, ◌∙◌}
@@ -20,14 +22,12 @@ use Rattle.lists.proofs.ListLaws.{true_or_false}
 use Rattle.walks.proofs.StruckLaws.{uses_exactly}
 use Rattle.walks.proofs.StruckLoads.{change_within, change_none}
 use Rattle.changes.proofs.WrittenLaws.{over_at}
-use Rattle.loads.specs.declared.LoadsAnswer.{LoadsAnswer}
 use Rattle.struck.specs.Answer.{struck_pairs}
-use Rattle.struck.specs.declared.StruckAnswer.{StruckAnswer}
 use Rattle.demands.specs.PairLoads.{LoadsAccepts}
 use Rattle.demands.specs.Struck.{StruckAccepts, StruckTold, StruckDemand}
 use Rattle.demands.proofs.CountLaws.{loads_demand}
 
-module _ (bs : List ℕ) (n t : ℕ) (terms : Terms) (i : ℕ) (old : StruckBuffers) (r : StruckAnswer) (new : StruckBuffers)
+module _ (bs : List ℕ) (n t : ℕ) (terms : Terms) (i : ℕ) (old : StruckBuffers) (r : Result ℕ Fault) (new : StruckBuffers)
     (a : StruckAccepts bs n t terms i old r new) where
   -- the work without cause 9
   work_told :
@@ -60,7 +60,7 @@ module _ (bs : List ℕ) (n t : ℕ) (terms : Terms) (i : ℕ) (old : StruckBuff
   unchanged none v h = told.change_of v h ∙ change_none (plan_of bs n t terms) i v (sym told.pairs_of ∙ none)
 
   by_loads :
-      (old-less : LoadBuffers) (r-less : LoadsAnswer) (less : LoadBuffers) (old-full : LoadBuffers) (r-full : LoadsAnswer) (full : LoadBuffers) →
+      (old-less : LoadBuffers) (r-less : Result (Unit {0}) Fault) (less : LoadBuffers) (old-full : LoadBuffers) (r-full : Result (Unit {0}) Fault) (full : LoadBuffers) →
       LoadsAccepts (lacking_record bs i) n t terms old-less r-less less → LoadsAccepts bs n t terms old-full r-full full → (v : ℕ) → v < n →
       get_or new.change_table v (pos 0) ≡ pos (get_or less.load_table v 0) -ℤ pos (get_or full.load_table v 0)
   unfolding change plan_of struck_out

@@ -1,4 +1,7 @@
 -- C-19 holds of the operation that judges a list. Assumes nothing.
+use Rattle.judging.specs.declared.Judgement.{Judgement}
+use Rattle.plan.specs.declared.Fault.{Fault}
+use Rattle.std.specs.Prelude.{Result}
 use Prim.Native.Nat.{ℕ, ◌≤◌, ◌<◌}
 use native.Mathlib.Omega.{arith}
 use native.Mathlib.Decide.{dec_le}
@@ -29,11 +32,10 @@ use Rattle.walks.proofs.VerdictLaws.{verdict_complete, verdict_beginning, verdic
 use Rattle.walks.proofs.Adequacy.{in_complete_list}
 use Rattle.verdicts.proofs.WorkLaws.{hops_some}
 use Rattle.verdicts.specs.Answer.{verdict_given}
-use Rattle.verdicts.specs.declared.VerdictAnswer.{VerdictAnswer}
 use Rattle.demands.specs.Verdicts.{VerdictAccepts, VerdictSaid, VerdictDemand}
 use Rattle.demands.proofs.Demand3.{demand3}
 
-module _ (q : Question) (list old : List ℕ) (r : VerdictAnswer) (new : List ℕ) (a : VerdictAccepts q list old r new) where
+module _ (q : Question) (list old : List ℕ) (r : Result Judgement Fault) (new : List ℕ) (a : VerdictAccepts q list old r new) where
   abbrev outcome : Outcome (Option Verdict) (List ℕ)
   outcome = record { number = 0; values = verdict_given r; buffers = new }
 

@@ -1,5 +1,10 @@
 -- Document 02's C-15: what the through counts of a pair add up to. Definitions only.
 -- Assumes nothing.
+use Rattle.foremost.specs.declared.ForemostCount.{ForemostCount}
+use Rattle.pair.specs.declared.PairCount.{PairCount}
+use Rattle.plan.specs.Fault.{answer_number}
+use Rattle.plan.specs.declared.Fault.{Fault}
+use Rattle.std.specs.Prelude.{Result}
 use Rattle.std.specs.Prelude.{ℕ, ◌-◌, ◌*◌, ◌≡◌, ◌≢◌, take}
 use mathlib.Core.List.{List, map, Memᴰ}
 use Rattle.temporal.specs.Lists.{below, sum}
@@ -11,10 +16,8 @@ use Rattle.temporal.specs.Bytes.{plan_of}
 use Rattle.temporal.specs.Cause.{plan_fault}
 use Rattle.temporal.specs.OutcomePair.{PairBuffers, pair}
 use Rattle.temporal.specs.OutcomeForemost.{foremost}
-use Rattle.pair.specs.Answer.{pair_number, pair_values, pair_outcome}
-use Rattle.pair.specs.declared.PairAnswer.{PairAnswer}
-use Rattle.foremost.specs.Answer.{foremost_number, foremost_values, foremost_outcome}
-use Rattle.foremost.specs.declared.ForemostAnswer.{ForemostAnswer}
+use Rattle.pair.specs.Answer.{pair_values, pair_outcome}
+use Rattle.foremost.specs.Answer.{foremost_values, foremost_outcome}
 
 -- What holds of a list of paths from s to z with equally many hops.
 pub record HopsAccounted (p : Plan) (s z : ℕ) (l : List (List ℕ)) : Type 0 where
@@ -36,10 +39,10 @@ pub record AccountDemand : Type 0 where
   -- the operations, for every call that the contract allows and that is not refused: the first n entries of the through table at
   -- exit, and the count and the hops that are answered
   pub of_pair :
-      (bs : List ℕ) (n t : ℕ) (terms : Terms) (s z : ℕ) (old new : PairBuffers) (r : PairAnswer) → Keeps t terms →
-      pair_outcome r new ≡ pair bs n t terms s z old → pair_number r ≡ 0 →
+      (bs : List ℕ) (n t : ℕ) (terms : Terms) (s z : ℕ) (old new : PairBuffers) (r : Result PairCount Fault) → Keeps t terms →
+      pair_outcome r new ≡ pair bs n t terms s z old → answer_number r ≡ 0 →
       sum (take n new.through_table) ≡ (pair_values r).count * ((pair_values r).hops - 1)
   pub of_foremost :
-      (bs : List ℕ) (n t g s z : ℕ) (old new : PairBuffers) (r : ForemostAnswer) →
-      foremost_outcome r new ≡ foremost bs n t (turning g) s z old → foremost_number r ≡ 0 →
+      (bs : List ℕ) (n t g s z : ℕ) (old new : PairBuffers) (r : Result ForemostCount Fault) →
+      foremost_outcome r new ≡ foremost bs n t (turning g) s z old → answer_number r ≡ 0 →
       sum (take n new.through_table) ≡ (foremost_values r).count * ((foremost_values r).hops - 1)

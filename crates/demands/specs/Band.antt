@@ -1,5 +1,8 @@
 -- Document 02's C-22: runs of takings in and takings out on one table. Definitions only.
 -- Assumes nothing.
+use Rattle.plan.specs.Fault.{answer_number}
+use Rattle.plan.specs.declared.Fault.{Fault}
+use Rattle.std.specs.Prelude.{Result, Ok, Err}
 use Rattle.std.specs.Prelude.{ℕ, ◌+◌, ◌≤◌, ◌<◌, ◌≡◌, cond, ◌↔◌, ◌≢◌, get_or, replicate}
 use mathlib.Core.List.{List, [], ◌∷◌, ◌++◌, map, Memᴰ}
 use Rattle.temporal.specs.Lists.{sum}
@@ -7,9 +10,7 @@ use Rattle.temporal.specs.Cause.{cause, first, plan_causes}
 use Rattle.temporal.specs.Outcome.{short}
 use Rattle.temporal.specs.Cursor.{same_numbers}
 use Rattle.temporal.specs.Band.{records_in, band_slots, take_in, take_out}
-use Rattle.band.specs.Answer.{band_number, band_outcome}
-use Rattle.band.specs.declared.BandAnswer.{BandAnswer}
-use Rattle.band.specs.declared.BandAnswer.TheVariants.{Taken, Refused}
+use Rattle.band.specs.Answer.{band_outcome}
 
 -- the arguments of a call beside the table; a taking in has the band's channels too
 pub record BandCall : Type 0 where
@@ -19,8 +20,8 @@ pub record BandCall : Type 0 where
 
 -- what happens in a run: a call of one of the two, with its answer and the table after it
 pub data BandEvent : Type 0 where
-  took_in : BandCall → BandAnswer → List ℕ → BandEvent
-  took_out : BandCall → BandAnswer → List ℕ → BandEvent
+  took_in : BandCall → Result (Unit {0}) Fault → List ℕ → BandEvent
+  took_out : BandCall → Result (Unit {0}) Fault → List ℕ → BandEvent
 
 -- ---- "Plans then in": their bytes, one that was taken in twice standing there twice. A refused call changes nothing.
 
@@ -29,13 +30,13 @@ unfoldable pub without : List ℕ → List (List ℕ) → List (List ℕ)
 without bs [] = []
 without bs (p ∷ l) = let r = without bs l in cond (same_numbers bs p) l (p ∷ r)
 
-unfoldable pub in_after_in : List ℕ → BandAnswer → List (List ℕ) → List (List ℕ)
-in_after_in bs Taken ins = bs ∷ ins
-in_after_in bs (Refused f) ins = ins
+unfoldable pub in_after_in : List ℕ → Result (Unit {0}) Fault → List (List ℕ) → List (List ℕ)
+in_after_in bs (Ok x) ins = bs ∷ ins
+in_after_in bs (Err f) ins = ins
 
-unfoldable pub in_after_out : List ℕ → BandAnswer → List (List ℕ) → List (List ℕ)
-in_after_out bs Taken ins = without bs ins
-in_after_out bs (Refused f) ins = ins
+unfoldable pub in_after_out : List ℕ → Result (Unit {0}) Fault → List (List ℕ) → List (List ℕ)
+in_after_out bs (Ok x) ins = without bs ins
+in_after_out bs (Err f) ins = ins
 
 -- ---- Runs
 
@@ -76,21 +77,21 @@ unfoldable pub RunHolds : ℕ → List (List ℕ) → List ℕ → List BandEven
 RunHolds c ins table [] = Used c ins table
 RunHolds c ins table (took_in k r after ∷ es) =
     Used c ins table ×
-    ((band_number r ≡ 15) ↔ ((earlier k table ≡ 0) × Passes c ins k.bytes)) ×
-    (band_number r ≢ 16) ×
+    ((answer_number r ≡ 15) ↔ ((earlier k table ≡ 0) × Passes c ins k.bytes)) ×
+    (answer_number r ≢ 16) ×
     RunHolds c (in_after_in k.bytes r ins) after es
 RunHolds c ins table (took_out k r after ∷ es) =
     Used c ins table ×
-    (band_number r ≢ 15) ×
-    (band_number r ≢ 16) ×
+    (answer_number r ≢ 15) ×
+    (answer_number r ≢ 16) ×
     RunHolds c (in_after_out k.bytes r ins) after es
 
 -- Each of the two calls has an answer on every table: a run can go on with any taking in, and with a taking out of any plan then in.
 abbrev pub EveryCallAnswered : Type 0
 EveryCallAnswered =
     (k : BandCall) (table : List ℕ) →
-    ((c : ℕ) → (r : BandAnswer) × (after : List ℕ) × (band_outcome r after ≡ take_in k.bytes k.stations k.slots c table)) ×
-    ((r : BandAnswer) × (after : List ℕ) × (band_outcome r after ≡ take_out k.bytes k.stations k.slots table))
+    ((c : ℕ) → (r : Result (Unit {0}) Fault) × (after : List ℕ) × (band_outcome r after ≡ take_in k.bytes k.stations k.slots c table)) ×
+    ((r : Result (Unit {0}) Fault) × (after : List ℕ) × (band_outcome r after ≡ take_out k.bytes k.stations k.slots table))
 
 -- C-22.
 pub record BandDemand : Type 0 where

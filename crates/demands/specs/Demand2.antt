@@ -2,6 +2,10 @@
 -- turnaround and for however long a reading is kept; and nothing stands in these lists but what document 000 means, with document 002's
 -- restless rule (section 4.3). Definitions only.
 -- Assumes nothing.
+use Rattle.pair.specs.declared.PairCount.{PairCount}
+use Rattle.plan.specs.Fault.{answer_number}
+use Rattle.plan.specs.declared.Fault.{Fault}
+use Rattle.std.specs.Prelude.{Result}
 use Rattle.std.specs.Prelude.{ℕ, ◌+◌, ◌-◌, ◌*◌, ◌≤◌, ◌<◌, ◌≡◌, Bool, true, ◌↔◌, length, take, get_or}
 use mathlib.Core.List.{List, Memᴰ}
 use Rattle.std.proofs.Math.Option.{some}
@@ -14,10 +18,8 @@ use Rattle.temporal.specs.Bytes.{plan_of}
 use Rattle.temporal.specs.Cause.{plan_fault}
 use Rattle.temporal.specs.Outcome.{ReachTables, reach}
 use Rattle.temporal.specs.OutcomePair.{PairValues, PairBuffers, pair}
-use Rattle.reach.specs.declared.ReachAnswer.{ReachAnswer}
-use Rattle.reach.specs.Answer.{reach_number, reach_outcome}
-use Rattle.pair.specs.declared.PairAnswer.{PairAnswer}
-use Rattle.pair.specs.Answer.{pair_number, pair_values, pair_outcome}
+use Rattle.reach.specs.Answer.{reach_outcome}
+use Rattle.pair.specs.Answer.{pair_values, pair_outcome}
 
 -- w passes the test, and no walk is shorter: document 000's shortest walk, and shortest path where the test is "path" (Def. 4)
 pub record IsShortest (passes isAWalk : List ℕ → Bool) (w : List ℕ) : Type 0 where
@@ -75,11 +77,11 @@ pub record NoReturn (s z : ℕ) (l : List Appearance) : Type 0 where
 -- Demand 2, for every call of reach and of pair that its contract allows and that is not refused.
 pub record Demand2 : Type 0 where
   pub of_reach :
-      (bs : List ℕ) (n t : ℕ) (terms : Terms) (s : ℕ) (old new : ReachTables) (r : ReachAnswer) →
-      reach_outcome r new ≡ reach bs n t terms s old → reach_number r ≡ 0 → ReachTold (plan_of bs n t terms) s new
+      (bs : List ℕ) (n t : ℕ) (terms : Terms) (s : ℕ) (old new : ReachTables) (r : Result (Unit {0}) Fault) →
+      reach_outcome r new ≡ reach bs n t terms s old → answer_number r ≡ 0 → ReachTold (plan_of bs n t terms) s new
   pub of_pair :
-      (bs : List ℕ) (n t : ℕ) (terms : Terms) (s z : ℕ) (old new : PairBuffers) (r : PairAnswer) →
-      pair_outcome r new ≡ pair bs n t terms s z old → pair_number r ≡ 0 → PairTold (plan_of bs n t terms) s z (pair_values r) new
+      (bs : List ℕ) (n t : ℕ) (terms : Terms) (s z : ℕ) (old new : PairBuffers) (r : Result PairCount Fault) →
+      pair_outcome r new ≡ pair bs n t terms s z old → answer_number r ≡ 0 → PairTold (plan_of bs n t terms) s z (pair_values r) new
   -- a member of a station's list visits its ends once; between them it may visit a station more often
   pub ends_once :
       (bs : List ℕ) (n t : ℕ) (terms : Terms) (s z : ℕ) → plan_fault bs n t ≡ 0 → (w : List ℕ) →

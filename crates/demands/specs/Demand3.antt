@@ -1,6 +1,9 @@
 -- Demand 3, whole. It is about the operations themselves: the WayContract by which a trace's calls are judged is what first way
 -- and next way ensure (crates/listing), and PairAccepts and LoadsAccepts hold what pair and loads ensure. Definitions only.
 -- Assumes nothing.
+use Rattle.pair.specs.declared.PairCount.{PairCount}
+use Rattle.plan.specs.declared.Fault.{Fault}
+use Rattle.std.specs.Prelude.{Result}
 use Rattle.std.specs.Prelude.{ℕ, ◌≡◌, Bool, true, false, ◌⊎◌, ◌↔◌, length, take}
 use mathlib.Core.List.{List, [], ◌∷◌, Memᴰ}
 use Rattle.temporal.specs.Lists.{any}
@@ -10,7 +13,6 @@ use Rattle.temporal.specs.Cursor.{Reply, path, no_path, last_path, refused, next
 use Rattle.temporal.specs.FirstNext.{Question, list_of, WayContract}
 use Rattle.temporal.specs.Trace.{cause_of, Event, called, wrote, Asked, EveryTraceFollows}
 use Rattle.temporal.specs.TraceGiven.{given, FromFirstWay, EveryTraceGives}
-use Rattle.pair.specs.declared.PairAnswer.{PairAnswer}
 use Rattle.demands.specs.Listing.{EveryListingTraced}
 use Rattle.demands.specs.PairLoads.{PairAccepts, CountedByPair, PairDemand, LoadsDemand, BusiestDemand}
 
@@ -27,7 +29,7 @@ says_end (wrote behind) = false
 abbrev pub EveryWayAccounted : Type 0
 EveryWayAccounted =
     (q : Question) → Asked q → (e : Event) (es : List Event) → FromFirstWay q e es → any says_end (e ∷ es) ≡ true →
-    (old : PairBuffers) (r : PairAnswer) (new : PairBuffers) → PairAccepts q old r new →
+    (old : PairBuffers) (r : Result PairCount Fault) (new : PairBuffers) → PairAccepts q old r new →
     CountedByPair q (given (e ∷ es)) r new
 
 -- Document 01's cause 10: the first entries of the way buffer, as many as the pair has hops, are no shortest walk of the pair,

@@ -1,6 +1,9 @@
 -- Document 02's C-24: what holds of the loads for the drawing program, of the doubles in their records, and of records read back.
 -- Definitions only.
 -- Assumes nothing.
+use Rattle.plan.specs.Fault.{answer_number}
+use Rattle.plan.specs.declared.Fault.{Fault}
+use Rattle.std.specs.Prelude.{Result}
 use Rattle.std.specs.Prelude.{ℕ, ◌+◌, ◌*◌, ◌^◌, ◌≤◌, ◌<◌, ◌≡◌, ◌↔◌, ◌≢◌, List, Option, length, get_or, take, drop}
 use Rattle.temporal.specs.Plan.{Plan, Terms}
 use Rattle.temporal.specs.Load.{pairs, load, common_count, exact_sum}
@@ -8,17 +11,15 @@ use Rattle.temporal.specs.Bytes.{plan_of}
 use Rattle.temporal.specs.Drawing.{multiple, ExactShare, carried, low_bits, high_bits, drawn_record}
 use Rattle.temporal.specs.Drawing.{CouldWrite, foreign, station, Reads, ForeignKinds}
 use Rattle.temporal.specs.OutcomeDrawn.{DrawnBuffers, drawn_loads}
-use Rattle.loads.specs.Answer.{loads_number}
-use Rattle.loads.specs.declared.LoadsAnswer.{LoadsAnswer}
 use Rattle.drawing.specs.Reading.{read_result}
 use Rattle.drawing.specs.declared.Reading.{Reading}
 use Rattle.drawn.specs.Answer.{drawn_outcome}
 use Rattle.demands.specs.PairLoads.{LoadsAccepts}
 
 -- The operation accepted the call: its ensures holds of the answer and the buffers before and after, and the number is 0.
-pub record DrawnAccepts (bs : List ℕ) (n t : ℕ) (terms : Terms) (old : DrawnBuffers) (r : LoadsAnswer) (new : DrawnBuffers) : Type 0 where
+pub record DrawnAccepts (bs : List ℕ) (n t : ℕ) (terms : Terms) (old : DrawnBuffers) (r : Result (Unit {0}) Fault) (new : DrawnBuffers) : Type 0 where
   pub contract : drawn_outcome r new ≡ drawn_loads bs n t terms old
-  pub accepted : loads_number r ≡ 0
+  pub accepted : answer_number r ≡ 0
 
 -- the 18 bytes of station v
 abbrev pub record_at : DrawnBuffers → ℕ → List ℕ
@@ -47,22 +48,22 @@ pub record Spans (p : Plan) (v : ℕ) : Type 0 where
 pub record DrawnDemand : Type 0 where
   -- loads accepts what this operation accepts, and leaves the same tables and the same work area
   pub as_loads :
-      (bs : List ℕ) (n t : ℕ) (terms : Terms) (old : DrawnBuffers) (r : LoadsAnswer) (new : DrawnBuffers) →
+      (bs : List ℕ) (n t : ℕ) (terms : Terms) (old : DrawnBuffers) (r : Result (Unit {0}) Fault) (new : DrawnBuffers) →
       DrawnAccepts bs n t terms old r new → LoadsAccepts bs n t terms old.tables r new.tables
   -- and a record of each station
   pub records_of :
-      (bs : List ℕ) (n t : ℕ) (terms : Terms) (old : DrawnBuffers) (r : LoadsAnswer) (new : DrawnBuffers) →
+      (bs : List ℕ) (n t : ℕ) (terms : Terms) (old : DrawnBuffers) (r : Result (Unit {0}) Fault) (new : DrawnBuffers) →
       DrawnAccepts bs n t terms old r new → (v : ℕ) → v < n →
       record_at new v ≡ drawn_record v (load (plan_of bs n t terms) v) (pairs (plan_of bs n t terms) v)
   pub unrounded :
-      (bs : List ℕ) (n t : ℕ) (terms : Terms) (old : DrawnBuffers) (r : LoadsAnswer) (new : DrawnBuffers) →
+      (bs : List ℕ) (n t : ℕ) (terms : Terms) (old : DrawnBuffers) (r : Result (Unit {0}) Fault) (new : DrawnBuffers) →
       DrawnAccepts bs n t terms old r new → (v : ℕ) → v < n → Unrounded (plan_of bs n t terms) v
   pub spans :
-      (bs : List ℕ) (n t : ℕ) (terms : Terms) (old : DrawnBuffers) (r : LoadsAnswer) (new : DrawnBuffers) →
+      (bs : List ℕ) (n t : ℕ) (terms : Terms) (old : DrawnBuffers) (r : Result (Unit {0}) Fault) (new : DrawnBuffers) →
       DrawnAccepts bs n t terms old r new → (v : ℕ) → v < n → 0 < pairs (plan_of bs n t terms) v → Spans (plan_of bs n t terms) v
   -- reading a record back gives the station, load and pairs that wrote it
   pub read_back :
-      (bs : List ℕ) (n t : ℕ) (terms : Terms) (old : DrawnBuffers) (r : LoadsAnswer) (new : DrawnBuffers) →
+      (bs : List ℕ) (n t : ℕ) (terms : Terms) (old : DrawnBuffers) (r : Result (Unit {0}) Fault) (new : DrawnBuffers) →
       DrawnAccepts bs n t terms old r new → (v : ℕ) → v < n → (a : Option Reading) → Reads (record_at new v) (read_result a) →
       read_result a ≡ station v (get_or new.tables.load_table v 0) (get_or new.tables.pairs_table v 0)
   -- Of all bytes: foreign is answered exactly where no station, load and pairs within the limits could have written them, so where they

@@ -1,6 +1,10 @@
 -- Document 02's C-14: what holds of the slot, the hops, the count and the through counts of the shortest foremost paths of a pair.
 -- Definitions only.
 -- Assumes nothing.
+use Rattle.foremost.specs.declared.ForemostCount.{ForemostCount}
+use Rattle.plan.specs.Fault.{answer_number}
+use Rattle.plan.specs.declared.Fault.{Fault}
+use Rattle.std.specs.Prelude.{Result}
 use Rattle.std.specs.Prelude.{ℕ, ◌≤◌, ◌<◌, ◌≡◌, Bool, true, ◌&&◌, ◌↔◌, ◌≢◌, length, get_or}
 use mathlib.Core.List.{List, Memᴰ}
 use Rattle.std.proofs.Math.Option.{some}
@@ -13,8 +17,7 @@ use Rattle.temporal.specs.Foremost.{foremost_paths}
 use Rattle.temporal.specs.Bytes.{plan_of}
 use Rattle.temporal.specs.OutcomePair.{PairBuffers}
 use Rattle.temporal.specs.OutcomeForemost.{ForemostValues, foremost}
-use Rattle.foremost.specs.Answer.{foremost_number, foremost_values, foremost_outcome}
-use Rattle.foremost.specs.declared.ForemostAnswer.{ForemostAnswer}
+use Rattle.foremost.specs.Answer.{foremost_values, foremost_outcome}
 use Rattle.demands.specs.Demand2.{ShortestList, is_between}
 
 -- whether w is document 000's path (Def. 3) from s to z that arrives in slot u
@@ -43,6 +46,6 @@ pub record ForemostTold (p : Plan) (s z : ℕ) (x : ForemostValues) (b : PairBuf
 -- C-14, for every call that the operation's contract allows and that is not refused, from one station to another.
 abbrev pub ForemostDemand : Type 0
 ForemostDemand =
-    (bs : List ℕ) (n t g s z : ℕ) (old new : PairBuffers) (r : ForemostAnswer) →
-    foremost_outcome r new ≡ foremost bs n t (turning g) s z old → foremost_number r ≡ 0 →
+    (bs : List ℕ) (n t g s z : ℕ) (old new : PairBuffers) (r : Result ForemostCount Fault) →
+    foremost_outcome r new ≡ foremost bs n t (turning g) s z old → answer_number r ≡ 0 →
     ForemostTold (plan_of bs n t (turning g)) s z (foremost_values r) new

@@ -1,6 +1,10 @@
 -- Document 02's C-21 where nothing goes stale: the shortest walks are the shortest paths, and so are the figures made of them; and that
 -- this need not be so otherwise. Definitions only.
 -- Assumes nothing.
+use Rattle.pair.specs.declared.PairCount.{PairCount}
+use Rattle.plan.specs.Fault.{answer_number}
+use Rattle.plan.specs.declared.Fault.{Fault}
+use Rattle.std.specs.Prelude.{Result}
 use Rattle.std.specs.Prelude.{ℕ, ◌-◌, ◌*◌, ◌<◌, ◌≡◌, ◌≢◌, List, map, length, get_or}
 use Rattle.temporal.specs.Lists.{below, sum}
 use Rattle.temporal.specs.Plan.{Plan, Terms, turning, Keeps}
@@ -13,10 +17,8 @@ use Rattle.temporal.specs.Cause.{first, plan_fault, terms_causes}
 use Rattle.temporal.specs.Outcome.{ReachTables, reach}
 use Rattle.temporal.specs.OutcomePair.{PairBuffers, pair}
 use Rattle.temporal.specs.Verdict.{verdict_on}
-use Rattle.reach.specs.declared.ReachAnswer.{ReachAnswer}
-use Rattle.reach.specs.Answer.{reach_number, reach_outcome}
-use Rattle.pair.specs.declared.PairAnswer.{PairAnswer}
-use Rattle.pair.specs.Answer.{pair_number, pair_values, pair_outcome}
+use Rattle.reach.specs.Answer.{reach_outcome}
+use Rattle.pair.specs.Answer.{pair_values, pair_outcome}
 use Rattle.demands.specs.Demand2.{ShortestList}
 
 -- the list of a station as document 000 has it: the paths (Def. 3) from s to v, none longer than a strict temporal walk from s to v
@@ -68,12 +70,12 @@ pub record KeptDemand : Type 0 where
   pub figures : (bs : List ℕ) (n t : ℕ) (terms : Terms) → plan_fault bs n t ≡ 0 → Keeps t terms → KeptFigures (plan_of bs n t terms)
   -- the tables of reach's stations, and what pair answers, of every call that is not refused
   pub of_reach :
-      (bs : List ℕ) (n t : ℕ) (terms : Terms) (s : ℕ) (old new : ReachTables) (r : ReachAnswer) → Keeps t terms →
-      reach_outcome r new ≡ reach bs n t terms s old → reach_number r ≡ 0 → (v : ℕ) → v < n →
+      (bs : List ℕ) (n t : ℕ) (terms : Terms) (s : ℕ) (old new : ReachTables) (r : Result (Unit {0}) Fault) → Keeps t terms →
+      reach_outcome r new ≡ reach bs n t terms s old → answer_number r ≡ 0 → (v : ℕ) → v < n →
       PathList (plan_of bs n t terms) s v (get_or new.station_hops v 0) (get_or new.station_counts v 0)
   pub of_pair :
-      (bs : List ℕ) (n t : ℕ) (terms : Terms) (s z : ℕ) (old new : PairBuffers) (r : PairAnswer) → Keeps t terms →
-      pair_outcome r new ≡ pair bs n t terms s z old → pair_number r ≡ 0 →
+      (bs : List ℕ) (n t : ℕ) (terms : Terms) (s z : ℕ) (old new : PairBuffers) (r : Result PairCount Fault) → Keeps t terms →
+      pair_outcome r new ≡ pair bs n t terms s z old → answer_number r ≡ 0 →
       PathList (plan_of bs n t terms) s z (pair_values r).hops (pair_values r).count
   -- the hypothesis is needed
   pub needed : (bs : List ℕ) × (n : ℕ) × (t : ℕ) × (terms : Terms) × (s : ℕ) × (z : ℕ) × (v : ℕ) × (entries : List ℕ) ×

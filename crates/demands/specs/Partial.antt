@@ -1,19 +1,21 @@
 -- Document 02's C-18: what holds of partial loads, beside the loads and beside those with more sources. Definitions only.
 -- Assumes nothing.
+use Rattle.plan.specs.Fault.{answer_number}
+use Rattle.plan.specs.declared.Fault.{Fault}
+use Rattle.std.specs.Prelude.{Result}
 use Rattle.std.specs.Prelude.{ℕ, ◌+◌, ◌≤◌, ◌<◌, ◌≡◌, ◌≢◌, List, get_or}
 use Rattle.temporal.specs.Plan.{Terms}
 use Rattle.temporal.specs.Load.{partial_pairs, partial_load, rest_of_pairs, rest_of_load}
 use Rattle.temporal.specs.Bytes.{plan_of}
 use Rattle.temporal.specs.OutcomePair.{LoadBuffers, partial_loads, loads}
-use Rattle.loads.specs.Answer.{loads_number, loads_outcome}
-use Rattle.loads.specs.declared.LoadsAnswer.{LoadsAnswer}
+use Rattle.loads.specs.Answer.{loads_outcome}
 use Rattle.demands.specs.PairLoads.{LoadsAccepts}
 
 -- Partial loads accepted the call: its ensures holds of the answer and the buffers before and after, and the number is 0.
-pub record PartialAccepts (bs : List ℕ) (n t : ℕ) (terms : Terms) (k : ℕ) (old : LoadBuffers) (r : LoadsAnswer) (new : LoadBuffers)
+pub record PartialAccepts (bs : List ℕ) (n t : ℕ) (terms : Terms) (k : ℕ) (old : LoadBuffers) (r : Result (Unit {0}) Fault) (new : LoadBuffers)
     : Type 0 where
   pub contract : loads_outcome r new ≡ partial_loads bs n t terms k old
-  pub accepted : loads_number r ≡ 0
+  pub accepted : answer_number r ≡ 0
 
 -- the entries of station v: the pairs and the load over the sources below k
 pub record PartlyLoaded (bs : List ℕ) (n t : ℕ) (terms : Terms) (k : ℕ) (new : LoadBuffers) (v : ℕ) : Type 0 where
@@ -42,32 +44,32 @@ pub record Bounded (n k : ℕ) (new full : LoadBuffers) (v : ℕ) : Type 0 where
 pub record PartialDemand : Type 0 where
   -- an accepted call leaves the pairs and the loads over the sources below k
   pub told :
-      (bs : List ℕ) (n t : ℕ) (terms : Terms) (k : ℕ) (old : LoadBuffers) (r : LoadsAnswer) (new : LoadBuffers) →
+      (bs : List ℕ) (n t : ℕ) (terms : Terms) (k : ℕ) (old : LoadBuffers) (r : Result (Unit {0}) Fault) (new : LoadBuffers) →
       PartialAccepts bs n t terms k old r new → (v : ℕ) → v < n → PartlyLoaded bs n t terms k new v
   -- where the loads are not refused, each is at least the partial one and exceeds it by at most (n - k) × (n - 1) × 2^32; the pairs
   -- by at most (n - k) × (n - 1)
   pub bounded :
-      (bs : List ℕ) (n t : ℕ) (terms : Terms) (k : ℕ) (old : LoadBuffers) (r : LoadsAnswer) (new : LoadBuffers)
-      (old' : LoadBuffers) (r' : LoadsAnswer) (full : LoadBuffers) →
+      (bs : List ℕ) (n t : ℕ) (terms : Terms) (k : ℕ) (old : LoadBuffers) (r : Result (Unit {0}) Fault) (new : LoadBuffers)
+      (old' : LoadBuffers) (r' : Result (Unit {0}) Fault) (full : LoadBuffers) →
       PartialAccepts bs n t terms k old r new → LoadsAccepts bs n t terms old' r' full →
       (v : ℕ) → v < n → Bounded n k new full v
   -- a larger number of sources that is accepted too lowers no figure and widens no span
   pub narrowed :
-      (bs : List ℕ) (n t : ℕ) (terms : Terms) (k j : ℕ) (old : LoadBuffers) (r : LoadsAnswer) (new : LoadBuffers)
-      (old' : LoadBuffers) (r' : LoadsAnswer) (new' : LoadBuffers) → k ≤ j →
+      (bs : List ℕ) (n t : ℕ) (terms : Terms) (k j : ℕ) (old : LoadBuffers) (r : Result (Unit {0}) Fault) (new : LoadBuffers)
+      (old' : LoadBuffers) (r' : Result (Unit {0}) Fault) (new' : LoadBuffers) → k ≤ j →
       PartialAccepts bs n t terms k old r new → PartialAccepts bs n t terms j old' r' new' →
       (v : ℕ) → v < n → Narrowed n k j new new' v
   -- with k = n the answer and all buffers are those of the loads
   pub whole :
-      (bs : List ℕ) (n t : ℕ) (terms : Terms) (old : LoadBuffers) (r : LoadsAnswer) (new : LoadBuffers) (r' : LoadsAnswer)
+      (bs : List ℕ) (n t : ℕ) (terms : Terms) (old : LoadBuffers) (r : Result (Unit {0}) Fault) (new : LoadBuffers) (r' : Result (Unit {0}) Fault)
       (new' : LoadBuffers) →
       loads_outcome r new ≡ partial_loads bs n t terms n old → loads_outcome r' new' ≡ loads bs n t terms old →
       loads_outcome r new ≡ loads_outcome r' new'
   -- with k = 0 there is no 9, and an accepted call leaves zeros
   pub no_source :
-      (bs : List ℕ) (n t : ℕ) (terms : Terms) (old : LoadBuffers) (r : LoadsAnswer) (new : LoadBuffers) →
-      loads_outcome r new ≡ partial_loads bs n t terms 0 old → loads_number r ≢ 9
+      (bs : List ℕ) (n t : ℕ) (terms : Terms) (old : LoadBuffers) (r : Result (Unit {0}) Fault) (new : LoadBuffers) →
+      loads_outcome r new ≡ partial_loads bs n t terms 0 old → answer_number r ≢ 9
   pub no_source_zeros :
-      (bs : List ℕ) (n t : ℕ) (terms : Terms) (old : LoadBuffers) (r : LoadsAnswer) (new : LoadBuffers) →
+      (bs : List ℕ) (n t : ℕ) (terms : Terms) (old : LoadBuffers) (r : Result (Unit {0}) Fault) (new : LoadBuffers) →
       PartialAccepts bs n t terms 0 old r new → (v : ℕ) → v < n →
       (get_or new.pairs_table v 0 ≡ 0) × (get_or new.load_table v 0 ≡ 0)

@@ -1,5 +1,8 @@
 -- Document 02's C-12: what holds of the number of shortest walks that have a member of a set inside. Definitions only.
 -- Assumes nothing.
+use Rattle.plan.specs.Fault.{answer_number}
+use Rattle.plan.specs.declared.Fault.{Fault}
+use Rattle.std.specs.Prelude.{Result}
 use Rattle.std.specs.Prelude.{ℕ, ◌≤◌, ◌<◌, ◌≡◌, true, false, cond, List, map, eqb}
 use Rattle.temporal.specs.Plan.{Terms}
 use Rattle.temporal.specs.Lists.{below, sum}
@@ -7,13 +10,12 @@ use Rattle.temporal.specs.Shortest.{shortest_walks_to, hops, count, through}
 use Rattle.temporal.specs.Set.{touched}
 use Rattle.temporal.specs.Bytes.{plan_of}
 use Rattle.temporal.specs.OutcomeSet.{is_member, through_set}
-use Rattle.sets.specs.Answer.{set_number, set_count, set_outcome}
-use Rattle.sets.specs.declared.SetAnswer.{SetAnswer}
+use Rattle.sets.specs.Answer.{set_count, set_outcome}
 
 -- The operation accepted the call: its ensures holds of the answer and the work area before and after, and the number is 0.
-pub record SetAccepts (bs : List ℕ) (n t : ℕ) (terms : Terms) (s z : ℕ) (set old : List ℕ) (r : SetAnswer) (new : List ℕ) : Type 0 where
+pub record SetAccepts (bs : List ℕ) (n t : ℕ) (terms : Terms) (s z : ℕ) (set old : List ℕ) (r : Result ℕ Fault) (new : List ℕ) : Type 0 where
   pub contract : set_outcome r new ≡ through_set bs n t terms s z set old
-  pub accepted : set_number r ≡ 0
+  pub accepted : answer_number r ≡ 0
 
 -- What an accepted call says of its set.
 pub record SetTold (bs : List ℕ) (n t : ℕ) (terms : Terms) (s z : ℕ) (set : List ℕ) (c : ℕ) : Type 0 where
@@ -38,5 +40,5 @@ pub record SetTold (bs : List ℕ) (n t : ℕ) (terms : Terms) (s z : ℕ) (set 
 -- C-12, for every accepted call.
 abbrev pub SetDemand : Type 0
 SetDemand =
-    (bs : List ℕ) (n t : ℕ) (terms : Terms) (s z : ℕ) (set old : List ℕ) (r : SetAnswer) (new : List ℕ) → SetAccepts bs n t terms s z set old r new →
+    (bs : List ℕ) (n t : ℕ) (terms : Terms) (s z : ℕ) (set old : List ℕ) (r : Result ℕ Fault) (new : List ℕ) → SetAccepts bs n t terms s z set old r new →
     SetTold bs n t terms s z set (set_count r)
