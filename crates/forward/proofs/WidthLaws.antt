@@ -128,11 +128,7 @@ module _ (bs : List ℕ) (n t : ℕ) (terms : Terms) (s end : ℕ) where
 
 module _ (bs : List ℕ) (n t : ℕ) (terms : Terms) (base s end : ℕ) (splits : Splits) (old : List ℕ)
     (pre : RefillReady bs n t terms base s end splits old) where
-  -- some are known still
-  pub refill_same : 0 < splits.left → Refilled bs n t terms base s end old old splits
-  refill_same some = record { some = some; knows = pre.knows; beyond = refl; same_length = refl }
-
-  -- else more are looked at
+  -- where none is known, more are looked at
   pub refill_asked : GroupAsked n t terms base (end - s)
   refill_asked =
       let a = accepted bs n t pre.accepted in
@@ -140,21 +136,6 @@ module _ (bs : List ℕ) (n t : ℕ) (terms : Terms) (base s end : ℕ) (splits 
       record { stations = a.stations; slots = a.slots; units = pre.units; some = omega arith; one = pre.room }
 
   module _ (left : ℕ) (fits : GroupFits n t terms base (end - s) left) where
-    pub refill_ready : WidthsAsked bs n t terms s left old
-    refill_ready =
-        let few = fits.most in
-        let within = fits.fits in
-        let source = pre.source in
-        let sources = pre.sources in
-        let room = pre.fits in
-        record {
-          accepted = pre.accepted;
-          units = pre.units;
-          sources = omega arith;
-          few = fits.few;
-          fits = omega arith;
-        }
-
     pub refill_more : (new : List ℕ) (word : ℕ) → WidthsKnown bs n t terms s left old new word
         → Refilled bs n t terms base s end old new (record { left = left; word = word })
     refill_more new word x =

@@ -333,7 +333,3 @@ module _ (bs : List ℕ) (n t h : ℕ) (ready : DepthReady bs n t h) where
             rw same at (sum_past (x + h - (t + 1))),
             s.fit (t + 1) (omega arith),
           ))
-
--- what is found, where the work area is not touched
-pub depth_untouched : (bs : List ℕ) (n h : ℕ) (work : List ℕ) (r : ℕ) → Deep bs n h r → r ≤ h → DepthOf bs n h work work r
-depth_untouched bs n h work r deep most = record { deep = deep; most = most; beyond = refl; same_length = refl }
