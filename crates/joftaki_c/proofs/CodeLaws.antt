@@ -7,13 +7,13 @@ use Rattle.temporal.specs.Cause.{station_causes}
 use Rattle.temporal.specs.Outcome.{row_number}
 use Rattle.walks.proofs.NumberLaws.{none_has, cause_has}
 use Rattle.plan.specs.Fault.{check_number}
-use Rattle.plan.specs.declared.CheckAnswer.{CheckAnswer}
-use Rattle.plan.specs.declared.CheckAnswer.TheVariants as check-answer
+use Rattle.plan.specs.declared.PlanFault.{PlanFault}
+use Rattle.std.specs.Prelude.{Result, Ok, Err}
 use Rattle.plan.proofs.Answers.{plan-number-small}
 
-pub check_small : (r : CheckAnswer) (k : ℕ) → k ≡ check_number r → k ≤ 10
-check_small check-answer.Accepted k e = omega arith
-check_small (check-answer.Refused f) k e = omega (arith, plan-number-small f)
+pub check_small : (r : Result (Unit {0}) PlanFault) (k : ℕ) → k ≡ check_number r → k ≤ 10
+check_small (Ok x) k e = omega arith
+check_small (Err f) k e = omega (arith, plan-number-small f)
 
 AtMostTen : ℕ → Type 0
 AtMostTen k = k ≤ 10

@@ -16,13 +16,12 @@ ghost use Rattle.temporal.specs.OutcomeVerdict.{verdict};
 ghost use Rattle.temporal.specs.Band.{take_in, take_out};
 ghost use Rattle.temporal.specs.Cursor.{first_way, next_way};
 ghost use Rattle.temporal.specs.FirstNext.{way_answer};
-ghost use Rattle.plan.specs.Fault.{fault_number};
+ghost use Rattle.plan.specs.Fault.{fault_number, answer_number};
 ghost use Rattle.reach.specs.Answer.{lent_tables};
 ghost use Rattle.pair.specs.Answer.{pair_buffers};
-ghost use Rattle.loads.specs.Answer.{loads_number, load_buffers};
+ghost use Rattle.loads.specs.Answer.{load_buffers};
 ghost use Rattle.drawn.specs.Answer.{drawn_buffers};
 ghost use Rattle.struck.specs.Answer.{struck_buffers};
-ghost use Rattle.band.specs.Answer.{band_number};
 ghost use Rattle.judging.specs.Judge.{verdict_of};
 ghost use Rattle.listing.specs.Answer.{reply_of, question};
 ghost use Rattle.joftaki_c.specs.Slots.{
@@ -40,23 +39,25 @@ ghost use Rattle.joftaki_c.specs.Slots.{
 ghost use Rattle.joftaki_c.specs.Code.{reply_code, reply_hops, way_given, way_exit};
 ghost use Rattle.joftaki_c.specs.Reading.{read_slots, ReadGiven};
 
-use band::BandAnswer;
-use foremost::ForemostAnswer;
 use judging::Judgement;
 use listing::WayAnswer;
-use loads::{BusiestAnswer, LoadsAnswer};
-use pair::PairAnswer;
 use plan::Fault;
-use reach::ReachAnswer;
-use sets::SetAnswer;
-use struck::StruckAnswer;
-use verdicts::VerdictAnswer;
 
 // The papers' number of a fault, in 32 bits.
 fn fault_code(fault: Fault) -> u32
     ensures { result ≡ fault_number fault }
 {
     plan::fault_number(fault) as u32
+}
+
+// The number of an operation that answers nothing beside it.
+fn answer_code(answer: Result<(), Fault>) -> u32
+    ensures { result ≡ answer_number answer }
+{
+    match answer {
+        Ok(()) => 0,
+        Err(fault) => fault_code(fault),
+    }
 }
 
 // Operation 1, check: document 01's number, 0 where the plan is accepted.
@@ -86,7 +87,7 @@ pub extern "C" fn joftaki_reach(
         reach plan.now n t (units g h) s
         (lent_tables hops.old counts.old station_hops.old station_counts.old) }
 {
-    match reach::reach(
+    answer_code(reach::reach(
         plan,
         n,
         t,
@@ -97,10 +98,7 @@ pub extern "C" fn joftaki_reach(
         counts,
         station_hops,
         station_counts,
-    ) {
-        ReachAnswer::Reached => 0,
-        ReachAnswer::Refused(fault) => fault_code(fault),
-    }
+    ))
 }
 
 // The sister of row: row's number of refusal, 0 where row is accepted.
@@ -153,26 +151,16 @@ pub extern "C" fn joftaki_pair(
         pair plan.now n t (units g h) s z (pair_buffers through.old work.old) }
 {
     match pair::pair(plan, n, t, g, h, s, z, through, work) {
-        PairAnswer::Counted(l, c) => {
-            *hops = l as usize;
-            *count = c;
+        Ok(found) => {
+            *hops = found.hops as usize;
+            *count = found.count;
             0
         }
-        PairAnswer::Refused(fault) => {
+        Err(fault) => {
             *hops = 0;
             *count = 0;
             fault_code(fault)
         }
-    }
-}
-
-// The number of what loads and partial loads answer.
-fn loads_code(answer: LoadsAnswer) -> u32
-    ensures { result ≡ loads_number answer }
-{
-    match answer {
-        LoadsAnswer::Loaded => 0,
-        LoadsAnswer::Refused(fault) => fault_code(fault),
     }
 }
 
@@ -192,7 +180,7 @@ pub extern "C" fn joftaki_partial_loads(
     ensures { answered result (load_buffers pairs.new sums.new work.new) ≡
         partial_loads plan.now n t (units g h) k (load_buffers pairs.old sums.old work.old) }
 {
-    loads_code(loads::partial_loads(plan, n, t, g, h, k, pairs, sums, work))
+    answer_code(loads::partial_loads(plan, n, t, g, h, k, pairs, sums, work))
 }
 
 // Operation 5, loads: its number, and the lent tables and work area as loads leaves them.
@@ -210,7 +198,7 @@ pub extern "C" fn joftaki_loads(
     ensures { answered result (load_buffers pairs.new sums.new work.new) ≡
         loads plan.now n t (units g h) (load_buffers pairs.old sums.old work.old) }
 {
-    loads_code(loads::loads(plan, n, t, g, h, pairs, sums, work))
+    answer_code(loads::loads(plan, n, t, g, h, pairs, sums, work))
 }
 
 // Document 02's loads for the drawing program: its number, and the two tables, the records and the work area as the operation leaves them.
@@ -230,7 +218,7 @@ pub extern "C" fn joftaki_drawn_loads(
         drawn_loads plan.now n t (units g h)
         (drawn_buffers pairs.old sums.old records.old work.old) }
 {
-    loads_code(drawn::drawn_loads(plan, n, t, g, h, pairs, sums, records, work))
+    answer_code(drawn::drawn_loads(plan, n, t, g, h, pairs, sums, records, work))
 }
 
 // Reading a record of the drawing program: 0 and the station, the load and the pairs in three slots; or 102 where the bytes are foreign,
@@ -271,11 +259,11 @@ pub extern "C" fn joftaki_busiest(
         busiest plan.now n t (units g h) work.old }
 {
     match loads::busiest(plan, n, t, g, h, work) {
-        BusiestAnswer::Station(v) => {
+        Ok(v) => {
             *station = v;
             0
         }
-        BusiestAnswer::Refused(fault) => {
+        Err(fault) => {
             *station = 0;
             fault_code(fault)
         }
@@ -300,11 +288,11 @@ pub extern "C" fn joftaki_struck_out(
         struck plan.now n t (units g h) position (struck_buffers changes.old work.old) }
 {
     match struck::struck_out(plan, n, t, g, h, position, changes, work) {
-        StruckAnswer::Pairs(k) => {
+        Ok(k) => {
             *pairs = k;
             0
         }
-        StruckAnswer::Refused(fault) => {
+        Err(fault) => {
             *pairs = 0;
             fault_code(fault)
         }
@@ -329,11 +317,11 @@ pub extern "C" fn joftaki_through_set(
         through_set plan.now n t (units g h) s z set.now work.old }
 {
     match sets::through_set(plan, n, t, g, h, s, z, set, work) {
-        SetAnswer::Counted(c) => {
+        Ok(c) => {
             *count = c;
             0
         }
-        SetAnswer::Refused(fault) => {
+        Err(fault) => {
             *count = 0;
             fault_code(fault)
         }
@@ -369,11 +357,11 @@ pub extern "C" fn joftaki_verdict(
         verdict_coded (verdict plan.now n t (units g h) s z list.now work.old) }
 {
     match verdicts::verdict(plan, n, t, g, h, s, z, list, work) {
-        VerdictAnswer::Judged(judgement) => {
+        Ok(judgement) => {
             *told = verdict_code(judgement);
             0
         }
-        VerdictAnswer::Refused(fault) => {
+        Err(fault) => {
             *told = 0;
             fault_code(fault)
         }
@@ -401,13 +389,13 @@ pub extern "C" fn joftaki_foremost(
         foremost plan.now n t (turning g) s z (pair_buffers through.old work.old) }
 {
     match foremost::foremost(plan, n, t, g, s, z, through, work) {
-        ForemostAnswer::Counted(u, h, c) => {
-            *arrival = u as usize;
-            *hops = h as usize;
-            *count = c;
+        Ok(found) => {
+            *arrival = found.arrival as usize;
+            *hops = found.hops as usize;
+            *count = found.count;
             0
         }
-        ForemostAnswer::Refused(fault) => {
+        Err(fault) => {
             *arrival = 0;
             *hops = 0;
             *count = 0;
@@ -417,26 +405,24 @@ pub extern "C" fn joftaki_foremost(
 }
 
 // The hops of a way, 0 beside every other answer.
-fn way_hops(answer: WayAnswer) -> usize
+fn way_hops(answer: Result<WayAnswer, Fault>) -> usize
     ensures { result ≡ reply_hops (reply_of answer) }
 {
     match answer {
-        WayAnswer::Path(h) => h,
-        WayAnswer::NoPath => 0,
-        WayAnswer::LastPath => 0,
-        WayAnswer::Refused(_) => 0,
+        Ok(WayAnswer::Path(h)) => h,
+        _ => 0,
     }
 }
 
 // The number of an answer: 0 for a way, 100 for none, 101 for last, a fault's number.
-fn way_code(answer: WayAnswer) -> u32
+fn way_code(answer: Result<WayAnswer, Fault>) -> u32
     ensures { result ≡ reply_code (reply_of answer) }
 {
     match answer {
-        WayAnswer::Path(_) => 0,
-        WayAnswer::NoPath => 100,
-        WayAnswer::LastPath => 101,
-        WayAnswer::Refused(fault) => fault_code(fault),
+        Ok(WayAnswer::Path(_)) => 0,
+        Ok(WayAnswer::NoPath) => 100,
+        Ok(WayAnswer::LastPath) => 101,
+        Err(fault) => fault_code(fault),
     }
 }
 
@@ -484,22 +470,12 @@ pub extern "C" fn joftaki_next_way(
     way_code(answer)
 }
 
-// The number of what taking in and taking out answer.
-fn band_code(answer: BandAnswer) -> u32
-    ensures { result ≡ band_number answer }
-{
-    match answer {
-        BandAnswer::Taken => 0,
-        BandAnswer::Refused(fault) => fault_code(fault),
-    }
-}
-
 // Taking a plan into a band (document 02, C-22): the number, and the table as taking in leaves it.
 #[unsafe(no_mangle)]
 pub extern "C" fn joftaki_take_in(plan: &[u8], n: usize, t: usize, c: u16, table: &mut [u16]) -> u32
     ensures { answered result table.new ≡ take_in plan.now n t c table.old }
 {
-    band_code(band::take_in(plan, n, t, c, table))
+    answer_code(band::take_in(plan, n, t, c, table))
 }
 
 // Taking a plan out (document 02, C-22): the number, and the table as taking out leaves it.
@@ -507,5 +483,5 @@ pub extern "C" fn joftaki_take_in(plan: &[u8], n: usize, t: usize, c: u16, table
 pub extern "C" fn joftaki_take_out(plan: &[u8], n: usize, t: usize, table: &mut [u16]) -> u32
     ensures { answered result table.new ≡ take_out plan.now n t table.old }
 {
-    band_code(band::take_out(plan, n, t, table))
+    answer_code(band::take_out(plan, n, t, table))
 }

@@ -2,9 +2,9 @@
 -- Assumes nothing.
 use Rattle.joftaki_c.proofs.joftaki_busiest.Goals as goal
 
-pub returns-in-Station : goal.returns-in-Station
-returns-in-Station c = rw c.in-Station.is at c.busiest.ensures
+pub returns-in-Ok : goal.returns-in-Ok
+returns-in-Ok c = rw c.in-Ok.is at c.busiest.ensures
 
-pub returns-in-Refused : goal.returns-in-Refused
-returns-in-Refused c =
-    rw c.fault_code.ensures (rw c.in-Refused.is at c.busiest.ensures)
+pub returns-in-Err : goal.returns-in-Err
+returns-in-Err c =
+    rw c.fault_code.ensures (rw c.in-Err.is at c.busiest.ensures)

@@ -3,4 +3,4 @@
 use Rattle.joftaki_c.proofs.joftaki_loads.Goals as goal
 
 pub returns : goal.returns
-returns c = rw c.loads_code.ensures c.loads.ensures
+returns c = rw c.answer_code.ensures c.loads.ensures

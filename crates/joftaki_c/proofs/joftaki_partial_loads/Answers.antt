@@ -4,4 +4,4 @@
 use Rattle.joftaki_c.proofs.joftaki_partial_loads.Goals as goal
 
 pub returns : goal.returns
-returns c = rw c.loads_code.ensures c.partial_loads.ensures
+returns c = rw c.answer_code.ensures c.partial_loads.ensures

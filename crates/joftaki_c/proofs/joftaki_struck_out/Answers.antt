@@ -2,9 +2,9 @@
 -- Assumes nothing.
 use Rattle.joftaki_c.proofs.joftaki_struck_out.Goals as goal
 
-pub returns-in-Pairs : goal.returns-in-Pairs
-returns-in-Pairs c = rw c.in-Pairs.is at c.struck_out.ensures
+pub returns-in-Ok : goal.returns-in-Ok
+returns-in-Ok c = rw c.in-Ok.is at c.struck_out.ensures
 
-pub returns-in-Refused : goal.returns-in-Refused
-returns-in-Refused c =
-    rw c.fault_code.ensures (rw c.in-Refused.is at c.struck_out.ensures)
+pub returns-in-Err : goal.returns-in-Err
+returns-in-Err c =
+    rw c.fault_code.ensures (rw c.in-Err.is at c.struck_out.ensures)

@@ -3,4 +3,4 @@
 use Rattle.joftaki_c.proofs.joftaki_take_out.Goals as goal
 
 pub returns : goal.returns
-returns c = rw c.band_code.ensures c.take_out.ensures
+returns c = rw c.answer_code.ensures c.take_out.ensures

@@ -4,10 +4,10 @@ use mathlib.Core.Path.{ap}
 use Rattle.joftaki_c.specs.Slots.{verdict_code, verdict_coded}
 use Rattle.joftaki_c.proofs.joftaki_verdict.Goals as goal
 
-pub returns-in-Judged : goal.returns-in-Judged
+pub returns-in-Ok : goal.returns-in-Ok
 unfolding verdict_coded
-returns-in-Judged c = rw c.verdict_code.ensures (ap verdict_coded (rw c.in-Judged.is at c.verdict.ensures))
+returns-in-Ok c = rw c.verdict_code.ensures (ap verdict_coded (rw c.in-Ok.is at c.verdict.ensures))
 
-pub returns-in-Refused : goal.returns-in-Refused
+pub returns-in-Err : goal.returns-in-Err
 unfolding verdict_coded verdict_code
-returns-in-Refused c = rw c.fault_code.ensures (ap verdict_coded (rw c.in-Refused.is at c.verdict.ensures))
+returns-in-Err c = rw c.fault_code.ensures (ap verdict_coded (rw c.in-Err.is at c.verdict.ensures))
