@@ -1,9 +1,7 @@
 -- `pair::pair_work` meets its contract: too many clears both buffers; else the counts stand in the table and in the work
 -- area, which is then cleared.
 -- Assumes nothing.
-use native.Mathlib.Omega.{arith}
 use mathlib.Core.Path.{refl}
-use Rattle.walks.proofs.Accepted.{accepted}
 use Rattle.pair.proofs.PairLaws.{paired_refused, paired_counted}
 use mathlib.Core.Logic.{inl, inr}
 use Rattle.pair.proofs.pair_work.Goals as goal
@@ -11,15 +9,9 @@ use Rattle.pair.proofs.pair_work.Goals as goal
 pub throughs-requires : goal.throughs-requires
 throughs-requires c = record { ready = c.requires; asks = record { which = inl refl; waits = inr refl } }
 
-pub overflow_add-t : goal.overflow_add-t
-overflow_add-t c = omega (arith, (accepted _ _ _ c.requires.accepted).slots)
-
 pub returns-in_default : goal.returns-in_default
 returns-in_default c =
     paired_refused _ _ _ _ _ _ _ _ c.requires _ _ c.in_default.ensures _ _ c.clear.ensures c.clear-in_default.ensures
-
-pub overflow_add-t-2 : goal.overflow_add-t-2
-overflow_add-t-2 c = omega (arith, (accepted _ _ _ c.requires.accepted).slots)
 
 pub returns : goal.returns
 returns c =

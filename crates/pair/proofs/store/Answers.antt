@@ -18,12 +18,6 @@ through_at-requires c =
       at_most = c.requires.at_most _ c.loop-j-test.true;
     }
 
-pub offset_bounds-through-v : goal.offset_bounds-through-v
-offset_bounds-through-v c = omega (arith, c.loop-j.invariant.1.same_length, c.well_formed.0.1)
-
-pub bounds-through-v : goal.bounds-through-v
-bounds-through-v c = omega (arith, c.loop-j.invariant.1.same_length)
-
 pub loop-j-preserved : goal.loop-j-preserved
 loop-j-preserved c = (
   omega arith,

@@ -1,18 +1,10 @@
 -- `pair::throughs` meets its contract: how many appearances are kept, how many columns fit, then the blocks.
 -- Assumes nothing.
-use native.Mathlib.Omega.{arith}
-use Rattle.walks.proofs.Accepted.{accepted}
 use Rattle.pair.proofs.BlockLaws.{depth_ready, columns_lent, blocks_ready, throughs_entry}
 use Rattle.pair.proofs.throughs.Goals as goal
 
 pub depth-depth-requires : goal.depth-depth-requires
 depth-depth-requires c = depth_ready _ _ _ _ _ _ _ _ _ _ c.requires
-
-pub overflow_add-t : goal.overflow_add-t
-overflow_add-t c = omega (arith, (accepted _ _ _ c.requires.ready.accepted).slots)
-
-pub overflow_mul-t : goal.overflow_mul-t
-overflow_mul-t c = omega (arith, (accepted _ _ _ c.requires.ready.accepted).slots)
 
 pub most_columns-most-requires : goal.most_columns-most-requires
 most_columns-most-requires c = columns_lent _ _ _ _ _ _ _ _ _ _ c.requires _ _ c.depth-depth.ensures

@@ -6,26 +6,11 @@ use Rattle.tallies.proofs.LoopLaws.{entry_place, entry_skipped, running_none, ru
 use Rattle.tallies.proofs.LoopLaws.{running_all}
 use Rattle.tallies.proofs.add_entry.Goals as goal
 
-pub overflow_mul-z : goal.overflow_mul-z
-overflow_mul-z c = omega (arith, entry_place _ _ _ _ _ _ _ _ _ c.requires, c.well_formed.0.0)
-
-pub overflow_add-n : goal.overflow_add-n
-overflow_add-n c = omega (arith, entry_place _ _ _ _ _ _ _ _ _ c.requires, c.well_formed.0.0)
-
-pub overflow_add-n-2 : goal.overflow_add-n-2
-overflow_add-n-2 c = omega (arith, entry_place _ _ _ _ _ _ _ _ _ c.requires, c.well_formed.0.0)
-
-pub offset_bounds-work-n : goal.offset_bounds-work-n
-offset_bounds-work-n c = omega (arith, entry_place _ _ _ _ _ _ _ _ _ c.requires, c.well_formed.0)
-
 pub bounds-work-n : goal.bounds-work-n
 bounds-work-n c = entry_place _ _ _ _ _ _ _ _ _ c.requires
 
 pub returns-then-work-n : goal.returns-then-work-n
 returns-then-work-n c = entry_skipped _ _ _ _ _ _ _ _ _ c.requires (omega arith)
-
-pub overflow_add-e : goal.overflow_add-e
-overflow_add-e c = omega (arith, entry_small c.requires (omega (arith, c.well_formed.0)))
 
 pub columns_of-requires : goal.columns_of-requires
 columns_of-requires c = (c.requires.working.few, omega (arith, entry_small c.requires (omega (arith, c.well_formed.0))))

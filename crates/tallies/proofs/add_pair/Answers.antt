@@ -2,19 +2,12 @@
 -- one pair and its share.
 -- Assumes nothing.
 use native.Mathlib.Omega.{arith}
-use lib.ListN.{length-set}
 use Rattle.tallies.proofs.LaneLaws.{column_within, rows_before}
-use Rattle.tallies.proofs.AddLaws.{added_destination, added_none, added_some, whole_share}
+use Rattle.tallies.proofs.AddLaws.{added_destination, added_none, added_some}
 use Rattle.tallies.proofs.add_pair.Goals as goal
 
 pub returns-then-v-z : goal.returns-then-v-z
 returns-then-v-z c = added_destination _ _ _ _ _ _ _ _ (omega arith)
-
-pub overflow_mul-row-2 : goal.overflow_mul-row-2
-overflow_mul-row-2 c = omega (arith, rows_before c.requires, c.requires.room.area, c.requires.room.fits, c.well_formed.0.0)
-
-pub overflow_add-row : goal.overflow_add-row
-overflow_add-row c = omega (arith, rows_before c.requires, c.requires.room.area, c.requires.room.fits, c.well_formed.0.0)
 
 pub column-requires : goal.column-requires
 column-requires c = column_within c.requires (omega (arith, rows_before c.requires, c.requires.room.area, c.requires.room.fits, c.well_formed.0))
@@ -24,13 +17,6 @@ overflow_sub-through c = rw c.column.ensures (c.requires.row (omega arith))
 
 pub returns-then-through-eq0 : goal.returns-then-through-eq0
 returns-then-through-eq0 c = added_none _ _ _ _ _ _ _ _ (omega arith) (omega (arith, c.column.ensures))
-
-pub overflow_add-sum : goal.overflow_add-sum
-overflow_add-sum c =
-    omega (arith, whole_share _ _ _ c.share.ensures (omega arith))
-
-pub bounds-work-load-2 : goal.bounds-work-load-2
-bounds-work-load-2 c = rw length-set (omega arith)
 
 pub returns : goal.returns
 returns c = added_some _ _ _ _ _ _ _ _ (omega arith) (omega (arith, c.column.ensures)) _ (rw c.column.ensures at c.share.ensures)

@@ -6,12 +6,6 @@ use Rattle.pass.proofs.WidthLaws.{column_asked}
 use Rattle.tallies.proofs.LaneLaws.{column_whole, column_lane}
 use Rattle.tallies.proofs.column.Goals as goal
 
-pub overflow_add-result : goal.overflow_add-result
-overflow_add-result c = omega (arith, c.requires.whole (omega arith), c.well_formed.0.0)
-
-pub offset_bounds-work-row : goal.offset_bounds-work-row
-offset_bounds-work-row c = omega (arith, c.requires.whole (omega arith), c.well_formed.0)
-
 pub bounds-work-row : goal.bounds-work-row
 bounds-work-row c = c.requires.whole (omega arith)
 
@@ -19,17 +13,6 @@ pub returns-then-split-eq0 : goal.returns-then-split-eq0
 returns-then-split-eq0 c =
     let a = c.args in
     column_whole a.split a.row a.j a.work.now (omega arith)
-
-pub overflow_add-at : goal.overflow_add-at
-overflow_add-at c = omega (arith, c.requires.lanes (omega arith), c.entry_of.ensures, c.well_formed.0.0)
-
-pub offset_bounds-work-at : goal.offset_bounds-work-at
-offset_bounds-work-at c =
-    omega (arith, c.requires.lanes (omega arith), c.entry_of.ensures, c.well_formed.0)
-
-pub bounds-work-at : goal.bounds-work-at
-bounds-work-at c =
-    omega (arith, c.requires.lanes (omega arith), c.entry_of.ensures)
 
 pub lane_at-requires : goal.lane_at-requires
 lane_at-requires c =

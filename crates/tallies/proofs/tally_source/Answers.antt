@@ -29,10 +29,6 @@ tally_block-requires c = (
   c.loop-low.invariant.1,
 )
 
-pub overflow_add-low : goal.overflow_add-low
-overflow_add-low c =
-    omega (arith, c.min-stations.ensures)
-
 pub loop-low-smaller-in-Ok : goal.loop-low-smaller-in-Ok
 loop-low-smaller-in-Ok c =
     fewer_passes _ _ _ _ _ (some_stations _ _ _ _ _ _ _ _ _ c.requires.0 _ _ c.loop-low.invariant.2 _ _ _ _ c.loop-low.invariant.0 c.next_entries-entries.ensures

@@ -3,15 +3,11 @@
 -- Assumes nothing.
 use mathlib.Core.Path.{◌∙◌}
 use native.Mathlib.Omega.{arith}
-use Rattle.walks.proofs.Accepted.{accepted}
 use Rattle.forward.proofs.WidthLaws.{knows_none, knows_next, knows_later}
 use Rattle.tallies.proofs.SourceLaws.{summing_none, summing_ready, summing_kept}
 use Rattle.tallies.proofs.SourceLaws.{summing_over, summing_more, summing_all, all_room, all_cleared, tallied_cleared}
 use Rattle.tallies.proofs.SourceLaws.{source_whole, done_whole, source_refill}
 use Rattle.tallies.proofs.tally_sources.Goals as goal
-
-pub overflow_mul-n : goal.overflow_mul-n
-overflow_mul-n c = omega (arith, (accepted _ _ _ c.requires.asked.accepted).stations)
 
 pub fill_part-requires : goal.fill_part-requires
 fill_part-requires c = all_room _ _ _ _ _ _ _ _ _ c.requires
