@@ -3,20 +3,10 @@
 -- Assumes nothing.
 use mathlib.Core.Path.{◌∙◌}
 use native.Mathlib.Omega.{arith}
-use Rattle.walks.proofs.Accepted.{accepted}
 use Rattle.forward.proofs.WidthLaws.{knows_none, knows_next, knows_later}
 use Rattle.struck.proofs.ParkLaws.{pairing_room, pairing_cleared, pairing_none, pairing_refill, pairing_kept, pairing_ready}
 use Rattle.struck.proofs.ParkLaws.{pairing_over, pairing_small, pairing_more, pairing_all, pairing_before}
 use Rattle.struck.proofs.strike_roomy.Goals as goal
-
-pub overflow_mul-with : goal.overflow_mul-with
-overflow_mul-with c = omega (arith, (accepted _ _ _ c.requires.accepted).stations)
-
-pub overflow_add-with : goal.overflow_add-with
-overflow_add-with c = omega (arith, c.requires.fits, c.well_formed.0.0)
-
-pub overflow_mul-n : goal.overflow_mul-n
-overflow_mul-n c = omega (arith, (accepted _ _ _ c.requires.accepted).stations)
 
 pub fill_part-requires : goal.fill_part-requires
 fill_part-requires c = pairing_room _ 0 _ _ _ _ _ _ _ c.requires

@@ -3,14 +3,10 @@
 -- Assumes nothing.
 use mathlib.Core.Path.{◌∙◌}
 use native.Mathlib.Omega.{arith}
-use Rattle.walks.proofs.Accepted.{accepted}
 use Rattle.forward.proofs.WidthLaws.{knows_none, knows_next, knows_later}
 use Rattle.struck.proofs.StrikeLaws.{striking_room, striking_cleared, striking_none, striking_refill, striking_kept}
 use Rattle.struck.proofs.StrikeLaws.{striking_ready, striking_over, striking_small, striking_more, striking_all, struck_cleared}
 use Rattle.struck.proofs.strike_sources.Goals as goal
-
-pub overflow_mul-n : goal.overflow_mul-n
-overflow_mul-n c = omega (arith, (accepted _ _ _ c.requires.asked.accepted).stations)
 
 pub fill_part-requires : goal.fill_part-requires
 fill_part-requires c = striking_room _ 0 _ _ _ _ _ _ _ c.requires
