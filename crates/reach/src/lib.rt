@@ -4,13 +4,13 @@
 
 ghost use Rattle.std.specs.Prelude.{◌≡◌};
 ghost use Rattle.temporal.specs.Plan.{units};
-ghost use Rattle.temporal.specs.Bytes.{plan_of};
 ghost use Rattle.temporal.specs.Cause.{plan_fault, first, terms_causes};
 ghost use Rattle.temporal.specs.Outcome.{reached, reach};
+ghost use Rattle.plan.specs.Setting.{terms_of, plan_in};
 ghost use Rattle.reach_entries.specs.Pass.{tables_of, ReachReady, FilledTables};
 ghost use Rattle.reach.specs.Answer.{lent_tables, reach_outcome};
 
-use plan::{CallFault, Fault};
+use plan::{CallFault, Fault, Setting};
 
 // Fills the four tables from a source.
 fn fill(
@@ -19,29 +19,23 @@ fn fill(
     station_hops: &mut [u16],
     station_counts: &mut [u64],
     plan: &[u8],
-    n: usize,
-    t: usize,
-    g: usize,
-    h: usize,
+    setting: Setting,
     source: usize,
 )
-    requires { ReachReady plan.now n t (units g h) source
+    requires { ReachReady plan.now setting.stations setting.slots (terms_of setting) source
         (tables_of hops.old counts.old station_hops.old station_counts.old) }
-    ensures { FilledTables plan.now n t (units g h) source
+    ensures { FilledTables plan.now setting.stations setting.slots (terms_of setting) source
         (tables_of hops.old counts.old station_hops.old station_counts.old)
         (tables_of hops.new counts.new station_hops.new station_counts.new) }
 {
-    if t <= h + 1 {
+    if setting.slots <= setting.keeping + 1 {
         reach_lasting::fill_lasting(
             hops,
             counts,
             station_hops,
             station_counts,
             plan,
-            n,
-            t,
-            g,
-            h,
+            setting,
             source,
         );
     } else {
@@ -51,10 +45,7 @@ fn fill(
             station_hops,
             station_counts,
             plan,
-            n,
-            t,
-            g,
-            h,
+            setting,
             source,
         );
     }
@@ -67,29 +58,28 @@ fn work(
     station_hops: &mut [u16],
     station_counts: &mut [u64],
     plan: &[u8],
-    n: usize,
-    t: usize,
-    g: usize,
-    h: usize,
+    setting: Setting,
     source: usize,
 ) -> Result<(), Fault>
-    requires { ReachReady plan.now n t (units g h) source
+    requires { ReachReady plan.now setting.stations setting.slots (terms_of setting) source
         (tables_of hops.old counts.old station_hops.old station_counts.old) }
     ensures { reach_outcome result (lent_tables hops.new counts.new station_hops.new
         station_counts.new) ≡
-        reached (plan_of plan.now n t (units g h)) source
+        reached (plan_in plan.now setting) source
         (lent_tables hops.old counts.old station_hops.old station_counts.old) }
 {
+    let Setting {
+        stations: n,
+        slots: t,
+        ..
+    } = setting;
     fill(
         hops,
         counts,
         station_hops,
         station_counts,
         plan,
-        n,
-        t,
-        g,
-        h,
+        setting,
         source,
     );
     if reach_entries::overflowed(hops, counts, station_hops, station_counts, n, t + 1) {
@@ -131,16 +121,19 @@ pub fn reach(
     {
         return Err(Fault::Call(CallFault::Short));
     }
+    let setting = Setting {
+        stations: n,
+        slots: t,
+        turnaround: g,
+        keeping: h,
+    };
     work(
         hops,
         counts,
         station_hops,
         station_counts,
         plan,
-        n,
-        t,
-        g,
-        h,
+        setting,
         source,
     )
 }

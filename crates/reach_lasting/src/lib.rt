@@ -4,7 +4,8 @@
 #![tactic(auto)]
 
 ghost use Rattle.std.specs.Prelude.{◌≡◌, ◌*◌, ◌-◌, ◌<◌, ◌≤◌, length};
-ghost use Rattle.temporal.specs.Plan.{units, Keeps};
+ghost use Rattle.temporal.specs.Plan.{Keeps};
+ghost use Rattle.plan.specs.Setting.{terms_of};
 ghost use Rattle.reach_entries.specs.Table.{table_of, Fits};
 ghost use Rattle.reach_entries.specs.Pass.{tables_of, ReachReady, FilledTables};
 ghost use Rattle.reach_lasting.specs.Slot.{
@@ -19,6 +20,8 @@ ghost use Rattle.reach_lasting.specs.Slot.{
   Endable,
   SlotEnded,
 };
+
+use plan::Setting;
 
 // Takes the appearance of slot u of the hearer of the record at i into the hearer's entry and marks the hearer, unless it is marked. The
 // mark is 2 added to its count of slot 0, which is 0 or 1 without it.
@@ -191,23 +194,28 @@ pub fn fill_lasting(
     station_hops: &mut [u16],
     station_counts: &mut [u64],
     plan: &[u8],
-    n: usize,
-    t: usize,
-    g: usize,
-    h: usize,
+    setting: Setting,
     source: usize,
 )
-    requires { ReachReady plan.now n t (units g h) source
-        (tables_of hops.old counts.old station_hops.old station_counts.old) × Keeps t (units g h) }
-    ensures { FilledTables plan.now n t (units g h) source
+    requires { ReachReady plan.now setting.stations setting.slots (terms_of setting) source
+        (tables_of hops.old counts.old station_hops.old station_counts.old) × Keeps setting.slots (terms_of setting) }
+    ensures { FilledTables plan.now setting.stations setting.slots (terms_of setting) source
         (tables_of hops.old counts.old station_hops.old station_counts.old)
         (tables_of hops.new counts.new station_hops.new station_counts.new) }
 {
-    let width = t + 1;
+    let width = setting.slots + 1;
     // What is heard waits before it is sent on as many slots as the turnaround says, but no more than there are.
-    let wait = g.min(t);
-    let end = t + wait;
-    reach_entries::begin(hops, counts, station_hops, station_counts, n, width, source);
+    let wait = setting.turnaround.min(setting.slots);
+    let end = setting.slots + wait;
+    reach_entries::begin(
+        hops,
+        counts,
+        station_hops,
+        station_counts,
+        setting.stations,
+        width,
+        source,
+    );
     let mut u = 1;
     let mut j = 0;
     let mut i = 0;
@@ -220,7 +228,7 @@ pub fn fill_lasting(
                 station_hops,
                 station_counts,
                 plan,
-                n,
+                setting.stations,
                 width,
                 j,
             );
@@ -232,7 +240,7 @@ pub fn fill_lasting(
                 hops,
                 counts,
                 plan,
-                n,
+                setting.stations,
                 width,
                 wait,
                 u,

@@ -2,11 +2,13 @@
 #![tactic(auto)]
 
 ghost use Rattle.std.specs.Prelude.{◌≡◌, ◌-◌, ◌<◌, ◌≤◌, length};
-ghost use Rattle.temporal.specs.Plan.{units};
+ghost use Rattle.plan.specs.Setting.{terms_of};
 ghost use Rattle.temporal.specs.Bytes.{contact_at};
 ghost use Rattle.reach_entries.specs.Table.{table_of, Fits, FoldableTables};
 ghost use Rattle.reach_entries.specs.Pass.{tables_of, ReachReady, FilledTables};
 ghost use Rattle.reach_window.specs.Window.{gathered, emptied_entry, window_table, window_folded, emptied_stations, settled_slots};
+
+use plan::Setting;
 
 // Takes the appearances of station v, of the slots from one on and before another, into its entry.
 fn gather(
@@ -49,17 +51,15 @@ fn gather_window(
     station_counts: &mut [u64],
     hops: &[u16],
     counts: &[u64],
-    n: usize,
+    setting: Setting,
     width: usize,
-    g: usize,
-    h: usize,
     v: usize,
     u: usize,
 )
-    requires { Fits n width (table_of hops.now counts.now) (table_of station_hops.old station_counts.old) × (v < n) ×
-        (u < width) × (0 < g) }
+    requires { Fits setting.stations width (table_of hops.now counts.now) (table_of station_hops.old station_counts.old) ×
+        (v < setting.stations) × (u < width) × (0 < setting.turnaround) }
     ensures { table_of station_hops.new station_counts.new ≡
-        window_table width g h (table_of hops.now counts.now) v u
+        window_table width setting.turnaround setting.keeping (table_of hops.now counts.now) v u
         (table_of station_hops.old station_counts.old) }
 {
     empty_entry(station_hops, station_counts, v);
@@ -68,20 +68,20 @@ fn gather_window(
         station_counts,
         hops,
         counts,
-        n,
+        setting.stations,
         width,
         v,
         0,
         1,
     );
-    let from = plan::window_first(h, u);
-    let end = plan::window_end(g, u);
+    let from = plan::window_first(setting.keeping, u);
+    let end = plan::window_end(setting.turnaround, u);
     gather(
         station_hops,
         station_counts,
         hops,
         counts,
-        n,
+        setting.stations,
         width,
         v,
         from,
@@ -96,16 +96,14 @@ fn fold_window(
     station_hops: &mut [u16],
     station_counts: &mut [u64],
     plan: &[u8],
-    n: usize,
+    setting: Setting,
     width: usize,
-    g: usize,
-    h: usize,
     j: usize,
 )
-    requires { FoldableTables plan.now n width j (table_of hops.old counts.old)
-        (table_of station_hops.old station_counts.old) × (0 < g) }
+    requires { FoldableTables plan.now setting.stations width j (table_of hops.old counts.old)
+        (table_of station_hops.old station_counts.old) × (0 < setting.turnaround) }
     ensures { tables_of hops.new counts.new station_hops.new station_counts.new ≡
-        window_folded width g h
+        window_folded width setting.turnaround setting.keeping
         (tables_of hops.old counts.old station_hops.old station_counts.old)
         (contact_at plan.now j) }
 {
@@ -115,10 +113,8 @@ fn fold_window(
         station_counts,
         hops,
         counts,
-        n,
+        setting,
         width,
-        g,
-        h,
         c.sender,
         c.slot,
     );
@@ -128,7 +124,7 @@ fn fold_window(
         station_hops,
         station_counts,
         plan,
-        n,
+        setting.stations,
         width,
         j,
     );
@@ -162,20 +158,25 @@ pub fn fill_window(
     station_hops: &mut [u16],
     station_counts: &mut [u64],
     plan: &[u8],
-    n: usize,
-    t: usize,
-    g: usize,
-    h: usize,
+    setting: Setting,
     source: usize,
 )
-    requires { ReachReady plan.now n t (units g h) source
+    requires { ReachReady plan.now setting.stations setting.slots (terms_of setting) source
         (tables_of hops.old counts.old station_hops.old station_counts.old) }
-    ensures { FilledTables plan.now n t (units g h) source
+    ensures { FilledTables plan.now setting.stations setting.slots (terms_of setting) source
         (tables_of hops.old counts.old station_hops.old station_counts.old)
         (tables_of hops.new counts.new station_hops.new station_counts.new) }
 {
-    let width = t + 1;
-    reach_entries::begin(hops, counts, station_hops, station_counts, n, width, source);
+    let width = setting.slots + 1;
+    reach_entries::begin(
+        hops,
+        counts,
+        station_hops,
+        station_counts,
+        setting.stations,
+        width,
+        source,
+    );
     let m = plan.len() / 6;
     for j in 0..m {
         fold_window(
@@ -184,12 +185,17 @@ pub fn fill_window(
             station_hops,
             station_counts,
             plan,
-            n,
+            setting,
             width,
-            g,
-            h,
             j,
         );
     }
-    settle_all(station_hops, station_counts, hops, counts, n, width);
+    settle_all(
+        station_hops,
+        station_counts,
+        hops,
+        counts,
+        setting.stations,
+        width,
+    );
 }
