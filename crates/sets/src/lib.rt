@@ -4,12 +4,13 @@
 
 ghost use Rattle.std.specs.Prelude.{◌≡◌, ◌≤◌, length};
 ghost use Rattle.temporal.specs.Plan.{units};
-ghost use Rattle.temporal.specs.Bytes.{plan_of};
 ghost use Rattle.temporal.specs.OutcomeSet.{wrong_set, set_counted, through_set};
+ghost use Rattle.plan.specs.Setting.{terms_of, plan_in};
 ghost use Rattle.sets.specs.Answer.{set_outcome};
 ghost use Rattle.sets.specs.Work.{SetAsked, touched_entry, Readable};
 
-use plan::{CallFault, Fault};
+use calls::Question;
+use plan::{CallFault, Fault, Setting};
 
 // Whether one of the first n bytes is neither 0 nor 1.
 fn wrong_set(set: &[u8], n: usize) -> bool
@@ -33,21 +34,25 @@ fn touched_at(work: &[u64], n: usize, z: usize) -> u64
 }
 
 // The operation once 1 to 8, 11, 12 and 14 are excluded.
-fn set_work(
-    work: &mut [u64],
-    plan: &[u8],
-    n: usize,
-    t: usize,
-    g: usize,
-    h: usize,
-    s: usize,
-    z: usize,
-    set: &[u8],
-) -> Result<u64, Fault>
-    requires { SetAsked plan.now n t (units g h) s z set.now work.old }
+fn set_work(question: &Question<'_>, set: &[u8], work: &mut [u64]) -> Result<u64, Fault>
+    requires { SetAsked question.now.plan.now question.now.setting.stations question.now.setting.slots
+        (terms_of question.now.setting) question.now.source question.now.destination set.now work.old }
     ensures { set_outcome result work.new ≡
-        set_counted (plan_of plan.now n t (units g h)) s z set.now work.old }
+        set_counted (plan_in question.now.plan.now question.now.setting) question.now.source question.now.destination
+        set.now work.old }
 {
+    let Question {
+        plan,
+        setting,
+        source: s,
+        destination: z,
+    } = *question;
+    let Setting {
+        stations: n,
+        slots: t,
+        turnaround: g,
+        keeping: h,
+    } = setting;
     if forward::set_pass(work, plan, n, t, g, h, s, z, set) {
         memory::clear(work, 4 * (n * (t + 1)));
         return Err(Fault::Call(CallFault::TooMany));
@@ -78,5 +83,16 @@ pub fn through_set(
     if wrong_set(set, n) {
         return Err(Fault::Call(CallFault::SetByte));
     }
-    set_work(work, plan, n, t, g, h, s, z, set)
+    let question = Question {
+        plan,
+        setting: Setting {
+            stations: n,
+            slots: t,
+            turnaround: g,
+            keeping: h,
+        },
+        source: s,
+        destination: z,
+    };
+    set_work(&question, set, work)
 }
