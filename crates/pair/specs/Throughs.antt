@@ -11,6 +11,8 @@ use Rattle.pass.specs.Row.{part_size}
 use Rattle.pass.specs.PassedColumns.{Overfull}
 use Rattle.stale.specs.Depth.{Deep}
 use Rattle.forward.specs.Passed.{pass_size, most_columns}
+use Rattle.plan.specs.Setting.{terms_of}
+use Rattle.calls.specs.declared.Question.{Question}
 
 -- what the pass leaves for the station at j of a block: the count less its entry, 0 at z itself and where there is no walk
 unfoldable pub through_entry : List ℕ → ℕ → ℕ → ℕ → ℕ → ℕ → ℕ
@@ -127,3 +129,27 @@ pub record Throughs (bs : List ℕ) (n t : ℕ) (terms : Terms) (s z until : ℕ
   pub table_length : length through' ≡ length through
   pub area_beyond : drop (work_size n t) work' ≡ drop (work_size n t) work
   pub area_length : length work' ≡ length work
+
+-- what counting the pair of a question asks
+abbrev pub pair_asked : Question → List ℕ → List ℕ → Type 0
+pair_asked q = PairReady q.plan.now q.setting.stations q.setting.slots (terms_of q.setting) q.source q.destination
+
+-- what counting it block by block asks
+abbrev pub throughs_asked : Question → ℕ → List ℕ → List ℕ → Type 0
+throughs_asked q = ThroughsReady q.plan.now q.setting.stations q.setting.slots (terms_of q.setting) q.source q.destination
+
+-- the same, with so many appearances kept, and so many columns at most
+abbrev pub blocks_asked : Question → ℕ → ℕ → ℕ → List ℕ → List ℕ → Type 0
+blocks_asked q d most = BlocksReady q.plan.now q.setting.stations q.setting.slots (terms_of q.setting) d most q.source q.destination
+
+-- all its blocks are done with
+abbrev pub throughs_done : Question → ℕ → List ℕ → List ℕ → List ℕ → List ℕ → Option ℕ → Type 0
+throughs_done q = Throughs q.plan.now q.setting.stations q.setting.slots (terms_of q.setting) q.source q.destination
+
+-- what storing the through counts of one of them asks
+abbrev pub block_asked : Question → ℕ → ℕ → ℕ → ℕ → List ℕ → List ℕ → Type 0
+block_asked q d = BlockReady q.plan.now q.setting.stations q.setting.slots (terms_of q.setting) d q.source q.destination
+
+-- this one is done with
+abbrev pub block_done : Question → ℕ → ℕ → ℕ → ℕ → List ℕ → List ℕ → List ℕ → List ℕ → Option ℕ → Type 0
+block_done q d = BlockDone q.plan.now q.setting.stations q.setting.slots (terms_of q.setting) d q.source q.destination

@@ -3,23 +3,24 @@
 
 ghost use Rattle.std.specs.Prelude.{◌≡◌, ◌&&◌, ltb, eqb};
 ghost use Rattle.temporal.specs.Plan.{units};
-ghost use Rattle.temporal.specs.Bytes.{plan_of};
 ghost use Rattle.temporal.specs.OutcomePair.{paired, pair};
+ghost use Rattle.plan.specs.Setting.{plan_in};
 ghost use Rattle.pair.specs.Answer.{pair_outcome, pair_buffers};
 ghost use Rattle.pair.specs.Throughs.{
   through_entry,
   Storable,
   Storing,
   StoredBlock,
-  PairReady,
-  BlockReady,
-  BlockDone,
-  BlocksReady,
-  ThroughsReady,
-  Throughs,
+  pair_asked,
+  throughs_asked,
+  throughs_done,
+  blocks_asked,
+  block_asked,
+  block_done,
 };
 
-use plan::{CallFault, Fault};
+use calls::Question;
+use plan::{CallFault, Fault, Setting};
 
 // The hops and the count of a pair's shortest walks.
 #[derive(Clone, Copy, Debug, PartialEq, Eq)]
@@ -62,24 +63,30 @@ fn settled_before(n: usize, low: usize, until: usize) -> bool
 // The through counts of a block of stations, from a pass that ends where the station until is reached. The slot in which it ends;
 // none where a count is over 2^64 - 1.
 fn block_throughs(
+    question: &Question<'_>,
     through: &mut [u64],
     work: &mut [u64],
-    plan: &[u8],
-    n: usize,
-    t: usize,
-    g: usize,
-    h: usize,
     depth: usize,
-    s: usize,
-    z: usize,
     low: usize,
     block: usize,
     until: usize,
 ) -> Option<usize>
-    requires { BlockReady plan.now n t (units g h) depth s z until low block through.old work.old }
-    ensures { BlockDone plan.now n t (units g h) depth s z until low block
+    requires { block_asked question.now depth until low block through.old work.old }
+    ensures { block_done question.now depth until low block
         through.old work.old through.new work.new result }
 {
+    let Question {
+        plan,
+        setting,
+        source: s,
+        destination: z,
+    } = *question;
+    let Setting {
+        stations: n,
+        slots: t,
+        turnaround: g,
+        keeping: h,
+    } = setting;
     let known = settled_before(n, low, until);
     let Ok(slot) = forward::pass_until(work, plan, known, n, t, g, h, depth, s, low, block, until)
     else {
@@ -91,31 +98,24 @@ fn block_throughs(
 
 // The through counts of a pair, in blocks of at most so many columns.
 fn through_blocks(
+    question: &Question<'_>,
     through: &mut [u64],
     work: &mut [u64],
-    plan: &[u8],
-    n: usize,
-    t: usize,
-    g: usize,
-    h: usize,
     depth: usize,
     most: usize,
-    s: usize,
-    z: usize,
     until: usize,
 ) -> Option<usize>
-    requires { BlocksReady plan.now n t (units g h) depth most s z until through.old work.old }
-    ensures { Throughs plan.now n t (units g h) s z until
+    requires { blocks_asked question.now depth most until through.old work.old }
+    ensures { throughs_done question.now until
         through.old work.old through.new work.new result }
 {
+    let n = question.setting.stations;
     let mut low = 0;
     let mut slot = 0;
     // No for: a step is as long as its block.
     while low < n {
         let block = most.min(n - low);
-        slot = block_throughs(
-            through, work, plan, n, t, g, h, depth, s, z, low, block, until,
-        )?;
+        slot = block_throughs(question, through, work, depth, low, block, until)?;
         low += block;
     }
     Some(slot)
@@ -124,43 +124,49 @@ fn through_blocks(
 // The through counts of a pair, block by block: of its shortest walks by the slot in which the station until is reached, which is
 // z, or n for none. That slot, or the last; none where a count is over 2^64 - 1.
 pub fn throughs(
+    question: &Question<'_>,
     through: &mut [u64],
     work: &mut [u64],
-    plan: &[u8],
-    n: usize,
-    t: usize,
-    g: usize,
-    h: usize,
-    s: usize,
-    z: usize,
     until: usize,
 ) -> Option<usize>
-    requires { ThroughsReady plan.now n t (units g h) s z until through.old work.old }
-    ensures { Throughs plan.now n t (units g h) s z until
+    requires { throughs_asked question.now until through.old work.old }
+    ensures { throughs_done question.now until
         through.old work.old through.new work.new result }
 {
+    let Question { plan, setting, .. } = *question;
+    let Setting {
+        stations: n,
+        slots: t,
+        turnaround: g,
+        keeping: h,
+    } = setting;
     let depth = forward::depth(work, plan, n, t, h);
     let most = forward::most_columns(n, t, g, h, depth, 4 * (t + 1));
-    through_blocks(through, work, plan, n, t, g, h, depth, most, s, z, until)
+    through_blocks(question, through, work, depth, most, until)
 }
 
 // Pair once 1 to 8, 12 and 14 are excluded.
 fn pair_work(
+    question: &Question<'_>,
     through: &mut [u64],
     work: &mut [u64],
-    plan: &[u8],
-    n: usize,
-    t: usize,
-    g: usize,
-    h: usize,
-    s: usize,
-    z: usize,
 ) -> Result<PairCount, Fault>
-    requires { PairReady plan.now n t (units g h) s z through.old work.old }
+    requires { pair_asked question.now through.old work.old }
     ensures { pair_outcome result (pair_buffers through.new work.new) ≡
-        paired (plan_of plan.now n t (units g h)) s z (pair_buffers through.old work.old) }
+        paired (plan_in question.now.plan.now question.now.setting) question.now.source question.now.destination
+        (pair_buffers through.old work.old) }
 {
-    let Some(_) = throughs(through, work, plan, n, t, g, h, s, z, n) else {
+    let Question {
+        setting,
+        destination: z,
+        ..
+    } = *question;
+    let Setting {
+        stations: n,
+        slots: t,
+        ..
+    } = setting;
+    let Some(_) = throughs(question, through, work, n) else {
         memory::clear(through, n);
         memory::clear(work, 4 * (n * (t + 1)));
         return Err(Fault::Call(CallFault::TooMany));
@@ -189,5 +195,16 @@ pub fn pair(
 {
     plan::check(plan, n, t)?;
     calls::pair_call(n, t, g, h, s, z, through.len(), n, work.len())?;
-    pair_work(through, work, plan, n, t, g, h, s, z)
+    let question = Question {
+        plan,
+        setting: Setting {
+            stations: n,
+            slots: t,
+            turnaround: g,
+            keeping: h,
+        },
+        source: s,
+        destination: z,
+    };
+    pair_work(&question, through, work)
 }

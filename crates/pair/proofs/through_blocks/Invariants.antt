@@ -2,13 +2,13 @@
 -- of stations left, which falls since no block is empty.
 -- Assumes nothing.
 use Prim.Native.Nat.{◌-◌}
-use Rattle.temporal.specs.Plan.{units}
+use Rattle.plan.specs.Setting.{terms_of}
 use Rattle.pair.proofs.BlockLaws.{Blocks}
 use Rattle.pair.proofs.through_blocks.Given as goal
 
 abbrev pub invariant-loop-low : goal.invariant-loop-low
 invariant-loop-low l =
-    Blocks l.plan l.n l.t (units l.g l.h) l.depth l.most l.s l.z l.until l.initial.through l.initial.work l.low l.through l.work l.slot
+    Blocks l.question.plan.now l.question.setting.stations l.question.setting.slots (terms_of l.question.setting) l.depth l.most l.question.source l.question.destination l.until l.initial.through l.initial.work l.low l.through l.work l.slot
 
 abbrev pub decreases-loop-low : goal.decreases-loop-low
-decreases-loop-low l = l.n - l.low
+decreases-loop-low l = l.question.setting.stations - l.low
