@@ -3,16 +3,17 @@
 #![tactic(auto)]
 
 ghost use Rattle.std.specs.Prelude.{◌≡◌};
-ghost use Rattle.temporal.specs.Plan.{turning};
-ghost use Rattle.temporal.specs.Bytes.{plan_of};
+ghost use Rattle.temporal.specs.Plan.{turning, Keeps};
 ghost use Rattle.temporal.specs.OutcomeForemost.{foremost_paired, foremost};
+ghost use Rattle.plan.specs.Setting.{terms_of, plan_in};
 ghost use Rattle.pair.specs.Answer.{pair_buffers};
-ghost use Rattle.pair.specs.Throughs.{PairReady};
+ghost use Rattle.pair.specs.Throughs.{pair_asked};
 ghost use Rattle.foremost.specs.Answer.{foremost_outcome};
 ghost use Rattle.foremost.specs.Work.{met_appearance, AppearancesReady, Appearances, Foremosts, slot_value};
 
+use calls::Question;
 use pass::{Columns, Stopped};
-use plan::{CallFault, Fault};
+use plan::{CallFault, Fault, Setting};
 
 // The slot in which a pair's foremost paths arrive, and the hops and the count of the shortest of them.
 #[derive(Clone, Copy, Debug, PartialEq, Eq)]
@@ -32,55 +33,45 @@ fn met_appearance(ended: Result<usize, Stopped>) -> bool
 
 // Whether some appearance has over 2^64 - 1 shortest walks from s: a pass through every slot, without rows. Nothing goes stale, so it is
 // the pass of the crate pass.
-fn appearance_too_many(
-    work: &mut [u64],
-    plan: &[u8],
-    n: usize,
-    t: usize,
-    g: usize,
-    s: usize,
-) -> bool
-    requires { AppearancesReady plan.now n t (turning g) s work.old }
-    ensures { Appearances plan.now n t (turning g) s work.old work.new result }
+fn appearance_too_many(work: &mut [u64], plan: &[u8], setting: Setting, s: usize) -> bool
+    requires { AppearancesReady plan.now setting.stations setting.slots (terms_of setting) s work.old }
+    ensures { Appearances plan.now setting.stations setting.slots (terms_of setting) s work.old work.new result }
 {
     let ended = pass::pass_columns(
         work,
         plan,
         plan.len(),
         false,
-        n,
-        t,
-        g,
-        255,
+        setting.stations,
+        setting.slots,
+        setting.turnaround,
+        setting.keeping,
         s,
         Columns::From(0, 0),
         &plan[0..0],
         0,
-        n,
+        setting.stations,
     );
     met_appearance(ended)
 }
 
-// The through counts of the shortest foremost paths, and in the work area their hops and count. The slot in which z is reached, or
+// The through counts of the shortest foremost paths, where nothing goes stale, and in the work area their hops and count. The slot in which z is reached, or
 // the last where it is not; none where an appearance has over 2^64 - 1 shortest walks.
 fn foremost_throughs(
+    question: &Question<'_>,
     through: &mut [u64],
     work: &mut [u64],
-    plan: &[u8],
-    n: usize,
-    t: usize,
-    g: usize,
-    s: usize,
-    z: usize,
 ) -> Option<usize>
-    requires { PairReady plan.now n t (turning g) s z through.old work.old }
-    ensures { Foremosts plan.now n t (turning g) s z
+    requires { pair_asked question.now through.old work.old ×
+        Keeps question.now.setting.slots (terms_of question.now.setting) }
+    ensures { Foremosts question.now.plan.now question.now.setting.stations question.now.setting.slots
+        (terms_of question.now.setting) question.now.source question.now.destination
         through.old work.old through.new work.new result }
 {
-    if appearance_too_many(work, plan, n, t, g, s) {
+    if appearance_too_many(work, question.plan, question.setting, question.source) {
         return None;
     }
-    pair::throughs(through, work, plan, n, t, g, 255, s, z, z)
+    pair::throughs(question, through, work, question.destination)
 }
 
 // The slot of arrival, from the slot in which the pass ended: 65535 where there is no path.
@@ -94,22 +85,29 @@ fn slot_value(slot: usize, hops: u64) -> u64
     slot as u64
 }
 
-// The operation once 1 to 8 and 12 are excluded.
+// The operation once 1 to 8 and 12 are excluded, where nothing goes stale.
 fn foremost_work(
+    question: &Question<'_>,
     through: &mut [u64],
     work: &mut [u64],
-    plan: &[u8],
-    n: usize,
-    t: usize,
-    g: usize,
-    s: usize,
-    z: usize,
 ) -> Result<ForemostCount, Fault>
-    requires { PairReady plan.now n t (turning g) s z through.old work.old }
+    requires { pair_asked question.now through.old work.old ×
+        Keeps question.now.setting.slots (terms_of question.now.setting) }
     ensures { foremost_outcome result (pair_buffers through.new work.new) ≡
-        foremost_paired (plan_of plan.now n t (turning g)) s z (pair_buffers through.old work.old) }
+        foremost_paired (plan_in question.now.plan.now question.now.setting) question.now.source
+        question.now.destination (pair_buffers through.old work.old) }
 {
-    let Some(slot) = foremost_throughs(through, work, plan, n, t, g, s, z) else {
+    let Question {
+        setting,
+        destination: z,
+        ..
+    } = *question;
+    let Setting {
+        stations: n,
+        slots: t,
+        ..
+    } = setting;
+    let Some(slot) = foremost_throughs(question, through, work) else {
         memory::clear(through, n);
         memory::clear(work, 4 * (n * (t + 1)));
         return Err(Fault::Call(CallFault::TooMany));
@@ -141,5 +139,16 @@ pub fn foremost(
 {
     plan::check(plan, n, t)?;
     calls::pair_call(n, t, g, 255, s, z, through.len(), n, work.len())?;
-    foremost_work(through, work, plan, n, t, g, s, z)
+    let question = Question {
+        plan,
+        setting: Setting {
+            stations: n,
+            slots: t,
+            turnaround: g,
+            keeping: 255,
+        },
+        source: s,
+        destination: z,
+    };
+    foremost_work(&question, through, work)
 }

@@ -2,6 +2,7 @@
 -- Assumes nothing.
 use mathlib.Core.Path.{sym, ap, ◌∙◌}
 use Rattle.walks.proofs.Accepted.{accepted}
+use Rattle.walks.proofs.PlanLaws.{kept_always}
 use Rattle.plan.specs.Fault.{check_number}
 use Rattle.plan.proofs.Answers.{err_is}
 use Rattle.pair.proofs.BeginLaws.{call_free}
@@ -26,7 +27,7 @@ returns-in_err-pair_call c =
 pub foremost_work-requires : goal.foremost_work-requires
 foremost_work-requires c =
     let ok = sym c.check.ensures ∙ ap check_number c.in_ok-check.was in
-    call_free _ _ _ _ _ _ _ _ ok _ c.pair_call.ensures c.in_ok-pair_call.was
+    (call_free _ _ _ _ _ _ _ _ ok _ c.pair_call.ensures c.in_ok-pair_call.was, kept_always _ _ _ ok)
 
 pub returns : goal.returns
 returns c =
