@@ -3,13 +3,13 @@
 
 ghost use Rattle.std.specs.Prelude.{◌≡◌, ◌+◌, ◌<◌, ◌≤◌, length};
 ghost use Rattle.temporal.specs.Plan.{units};
-ghost use Rattle.temporal.specs.Bytes.{plan_of};
 ghost use Rattle.temporal.specs.Cause.{first, terms_causes, plan_fault};
 ghost use Rattle.temporal.specs.OutcomePair.{partly_loaded, partial_loads, loads, compared, busiest};
+ghost use Rattle.plan.specs.Setting.{terms_of, plan_in};
 ghost use Rattle.loads.specs.Answer.{loads_outcome, load_buffers, busiest_outcome};
 ghost use Rattle.loads.specs.Largest.{better_of, Largest, LoadsReady, BusiestReady};
 
-use plan::{CallFault, Fault};
+use plan::{CallFault, Fault, Setting};
 
 // Of two places from a place on, the second where it holds the larger number, else the first.
 #[tactic(auto, unfolding(crate::specs::Largest::better_of))]
@@ -40,17 +40,19 @@ pub fn partial_loads_work(
     sums: &mut [u64],
     work: &mut [u64],
     plan: &[u8],
-    n: usize,
-    t: usize,
-    g: usize,
-    h: usize,
+    setting: Setting,
     k: usize,
 ) -> Result<(), Fault>
-    requires { LoadsReady plan.now n t (units g h) k pairs.old sums.old work.old }
+    requires { LoadsReady plan.now setting.stations setting.slots (terms_of setting) k pairs.old sums.old work.old }
     ensures { loads_outcome result (load_buffers pairs.new sums.new work.new) ≡
-        partly_loaded (plan_of plan.now n t (units g h)) k
-        (load_buffers pairs.old sums.old work.old) }
+        partly_loaded (plan_in plan.now setting) k (load_buffers pairs.old sums.old work.old) }
 {
+    let Setting {
+        stations: n,
+        slots: t,
+        turnaround: g,
+        keeping: h,
+    } = setting;
     if tallies::tally(work, plan, n, t, g, h, k) {
         memory::clear(pairs, n);
         memory::clear(sums, n);
@@ -70,23 +72,26 @@ fn partial_loads_asked(
     sums: &mut [u64],
     work: &mut [u64],
     plan: &[u8],
-    n: usize,
-    t: usize,
-    g: usize,
-    h: usize,
+    setting: Setting,
     k: usize,
 ) -> Result<(), Fault>
-    requires { (plan_fault plan.now n t ≡ 0) × (first (terms_causes (units g h)) ≡ 0) }
+    requires { (plan_fault plan.now setting.stations setting.slots ≡ 0) × (first (terms_causes (terms_of setting)) ≡ 0) }
     ensures { loads_outcome result (load_buffers pairs.new sums.new work.new) ≡
-        partial_loads plan.now n t (units g h) k (load_buffers pairs.old sums.old work.old) }
+        partial_loads plan.now setting.stations setting.slots (terms_of setting) k
+        (load_buffers pairs.old sums.old work.old) }
 {
+    let Setting {
+        stations: n,
+        slots: t,
+        ..
+    } = setting;
     if n < k {
         return Err(Fault::Call(CallFault::Sources));
     }
     if pairs.len() < n || sums.len() < n || work.len() < 4 * (n * (t + 1)) {
         return Err(Fault::Call(CallFault::Short));
     }
-    partial_loads_work(pairs, sums, work, plan, n, t, g, h, k)
+    partial_loads_work(pairs, sums, work, plan, setting, k)
 }
 
 // Partial loads (document 02, C-18): for each station its pairs whose source is below k, and its load over these, in units of
@@ -107,7 +112,13 @@ pub fn partial_loads(
 {
     plan::check(plan, n, t)?;
     calls::terms_call(g, h)?;
-    partial_loads_asked(pairs, sums, work, plan, n, t, g, h, k)
+    let setting = Setting {
+        stations: n,
+        slots: t,
+        turnaround: g,
+        keeping: h,
+    };
+    partial_loads_asked(pairs, sums, work, plan, setting, k)
 }
 
 // Operation 5, loads: for each station its pairs and its load, every source being worked on.
@@ -128,17 +139,16 @@ pub fn loads(
 }
 
 // Busiest once 1 to 8, 12 and 14 are excluded.
-fn busiest_work(
-    work: &mut [u64],
-    plan: &[u8],
-    n: usize,
-    t: usize,
-    g: usize,
-    h: usize,
-) -> Result<usize, Fault>
-    requires { BusiestReady plan.now n t (units g h) work.old }
-    ensures { busiest_outcome result work.new ≡ compared (plan_of plan.now n t (units g h)) work.old }
+fn busiest_work(work: &mut [u64], plan: &[u8], setting: Setting) -> Result<usize, Fault>
+    requires { BusiestReady plan.now setting.stations setting.slots (terms_of setting) work.old }
+    ensures { busiest_outcome result work.new ≡ compared (plan_in plan.now setting) work.old }
 {
+    let Setting {
+        stations: n,
+        slots: t,
+        turnaround: g,
+        keeping: h,
+    } = setting;
     if tallies::tally(work, plan, n, t, g, h, n) {
         memory::clear(work, 4 * (n * (t + 1)));
         return Err(Fault::Call(CallFault::TooMany));
@@ -150,21 +160,20 @@ fn busiest_work(
 }
 
 // Busiest once 1 to 5, 12 and 14 are excluded: 8, then the work.
-fn busiest_asked(
-    work: &mut [u64],
-    plan: &[u8],
-    n: usize,
-    t: usize,
-    g: usize,
-    h: usize,
-) -> Result<usize, Fault>
-    requires { (plan_fault plan.now n t ≡ 0) × (first (terms_causes (units g h)) ≡ 0) }
-    ensures { busiest_outcome result work.new ≡ busiest plan.now n t (units g h) work.old }
+fn busiest_asked(work: &mut [u64], plan: &[u8], setting: Setting) -> Result<usize, Fault>
+    requires { (plan_fault plan.now setting.stations setting.slots ≡ 0) × (first (terms_causes (terms_of setting)) ≡ 0) }
+    ensures { busiest_outcome result work.new ≡
+        busiest plan.now setting.stations setting.slots (terms_of setting) work.old }
 {
+    let Setting {
+        stations: n,
+        slots: t,
+        ..
+    } = setting;
     if work.len() < 4 * (n * (t + 1)) {
         return Err(Fault::Call(CallFault::Short));
     }
-    busiest_work(work, plan, n, t, g, h)
+    busiest_work(work, plan, setting)
 }
 
 // Operation 6, busiest: the lowest-numbered station whose load no other exceeds.
@@ -180,5 +189,11 @@ pub fn busiest(
 {
     plan::check(plan, n, t)?;
     calls::terms_call(g, h)?;
-    busiest_asked(work, plan, n, t, g, h)
+    let setting = Setting {
+        stations: n,
+        slots: t,
+        turnaround: g,
+        keeping: h,
+    };
+    busiest_asked(work, plan, setting)
 }
