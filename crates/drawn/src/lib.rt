@@ -4,14 +4,14 @@
 ghost use Rattle.std.specs.Prelude.{◌≡◌, ◌*◌, ◌<◌};
 ghost use Rattle.std.proofs.lemmas.List.Edits.{sets};
 ghost use Rattle.temporal.specs.Plan.{units};
-ghost use Rattle.temporal.specs.Bytes.{plan_of};
 ghost use Rattle.temporal.specs.Cause.{first, terms_causes, plan_fault};
 ghost use Rattle.temporal.specs.Outcome.{over};
 ghost use Rattle.temporal.specs.OutcomeDrawn.{drawn_loaded, drawn_loads};
+ghost use Rattle.plan.specs.Setting.{terms_of, plan_in};
 ghost use Rattle.drawn.specs.Answer.{drawn_buffers, drawn_outcome};
 ghost use Rattle.drawn.specs.Work.{entry_record, records_from, Drawable, DrawnReady};
 
-use plan::{CallFault, Fault};
+use plan::{CallFault, Fault, Setting};
 
 // Writes the record of station v, by its entries in both tables, to its place.
 fn draw_entry(records: &mut [u8], pairs: &[u64], sums: &[u64], n: usize, v: usize)
@@ -38,17 +38,15 @@ fn drawn_loads_work(
     records: &mut [u8],
     work: &mut [u64],
     plan: &[u8],
-    n: usize,
-    t: usize,
-    g: usize,
-    h: usize,
+    setting: Setting,
 ) -> Result<(), Fault>
-    requires { DrawnReady plan.now n t (units g h) pairs.old sums.old records.old work.old }
+    requires { DrawnReady plan.now setting.stations setting.slots (terms_of setting) pairs.old sums.old records.old work.old }
     ensures { drawn_outcome result (drawn_buffers pairs.new sums.new records.new work.new) ≡
-        drawn_loaded (plan_of plan.now n t (units g h))
+        drawn_loaded (plan_in plan.now setting)
         (drawn_buffers pairs.old sums.old records.old work.old) }
 {
-    if let Err(fault) = loads::partial_loads_work(pairs, sums, work, plan, n, t, g, h, n) {
+    let n = setting.stations;
+    if let Err(fault) = loads::partial_loads_work(pairs, sums, work, plan, setting, n) {
         memory::fill(records, 18 * n, 0);
         return Err(fault);
     }
@@ -63,16 +61,18 @@ fn drawn_loads_asked(
     records: &mut [u8],
     work: &mut [u64],
     plan: &[u8],
-    n: usize,
-    t: usize,
-    g: usize,
-    h: usize,
+    setting: Setting,
 ) -> Result<(), Fault>
-    requires { (plan_fault plan.now n t ≡ 0) × (first (terms_causes (units g h)) ≡ 0) }
+    requires { (plan_fault plan.now setting.stations setting.slots ≡ 0) × (first (terms_causes (terms_of setting)) ≡ 0) }
     ensures { drawn_outcome result (drawn_buffers pairs.new sums.new records.new work.new) ≡
-        drawn_loads plan.now n t (units g h)
+        drawn_loads plan.now setting.stations setting.slots (terms_of setting)
         (drawn_buffers pairs.old sums.old records.old work.old) }
 {
+    let Setting {
+        stations: n,
+        slots: t,
+        ..
+    } = setting;
     if pairs.len() < n
         || sums.len() < n
         || records.len() < 18 * n
@@ -80,7 +80,7 @@ fn drawn_loads_asked(
     {
         return Err(Fault::Call(CallFault::Short));
     }
-    drawn_loads_work(pairs, sums, records, work, plan, n, t, g, h)
+    drawn_loads_work(pairs, sums, records, work, plan, setting)
 }
 
 // Loads for the drawing program: the pairs and the load of each station, and its record of 18 bytes.
@@ -101,5 +101,11 @@ pub fn drawn_loads(
 {
     plan::check(plan, n, t)?;
     calls::terms_call(g, h)?;
-    drawn_loads_asked(pairs, sums, records, work, plan, n, t, g, h)
+    let setting = Setting {
+        stations: n,
+        slots: t,
+        turnaround: g,
+        keeping: h,
+    };
+    drawn_loads_asked(pairs, sums, records, work, plan, setting)
 }
