@@ -11,8 +11,6 @@ ghost use Rattle.plan.specs.declared.Fault.TheVariants.{Plan, Call};
 ghost use Rattle.plan.specs.Fault.{plan_number, call_number, fault_number, check_number};
 ghost use Rattle.plan.specs.Record.{contact_of, in_slot, SlotRecords};
 
-use std::marker::Model;
-
 // The most stations, slots and records of a plan.
 const MOST_STATIONS: usize = 256;
 
@@ -269,62 +267,4 @@ pub fn window_end(g: usize, u: usize) -> usize
     ensures { result ≡ window_end g u }
 {
     u.saturating_sub(g) + 1
-}
-
-// The records of a plan but for the one at position out; all of them where there is no such record. A clause sees their bytes.
-#[derive(Drop)]
-pub struct Records<'a> {
-    plan: &'a [u8],
-    out: usize,
-}
-
-impl<'a> Model for Records<'a> {
-    ghost use Rattle.std.specs.Prelude.{List, ℕ};
-    ghost use Rattle.temporal.specs.Struck.{lacking_record};
-
-    ghost Value = { List ℕ };
-
-    ghost view = { λ s. lacking_record s.plan.now s.out };
-}
-
-impl<'a> Records<'a> {
-    // All of a plan's.
-    pub fn whole(plan: &'a [u8]) -> Records<'a>
-        ensures { result ≡ plan.now }
-    {
-        Records {
-            plan,
-            out: plan.len(),
-        }
-    }
-
-    // All but the one at position out.
-    pub fn without(plan: &'a [u8], out: usize) -> Records<'a>
-        ensures { result ≡ lacking_record plan.now out }
-    {
-        Records { plan, out }
-    }
-
-    // The one at position j.
-    pub fn contact(&self, j: usize) -> Contact
-        requires { j * 6 + 5 < length self.now }
-        ensures { contact_of result ≡ contact_at self.now j }
-    {
-        kept_contact(self.plan, self.out, j)
-    }
-
-    // Whether there is one at position j and it lies in slot u.
-    pub fn in_slot(&self, j: usize, u: usize) -> bool
-        ensures { result ≡ in_slot self.now j u }
-    {
-        kept_in_slot(self.plan, self.out, j, u)
-    }
-
-    // The position past those of slot u that stand from j on.
-    pub fn slot_end(&self, j: usize, u: usize) -> usize
-        requires { j * 6 ≤ length self.now }
-        ensures { SlotRecords self.now u j result }
-    {
-        kept_slot_end(self.plan, self.out, j, u)
-    }
 }
