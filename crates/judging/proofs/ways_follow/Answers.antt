@@ -35,13 +35,6 @@ returns-then-not-follows_at c =
           (c.follows_at.ensures.no c.if-not-follows_at.true);
     }
 
-pub returns : goal.returns
-returns c =
-    record {
-      yes = λ h. through_all _ _ _ c.requires.0.pair _ _ c.loop-at.invariant (omega arith);
-      no = λ h. absurd (not_both refl h);
-    }
-
 pub returns-else-not-follows_at : goal.returns-else-not-follows_at
 returns-else-not-follows_at c =
     let pre = c.requires in

@@ -1,5 +1,4 @@
 -- `ways::first_path` meets its contract. The loop's invariant: the first k entries are the least that begin a shortest walk.
---
 -- Assumes nothing.
 use native.Mathlib.Omega.{arith}
 use Rattle.ways.proofs.ListingLaws.{beginning_none, beginning_more, beginning_all}

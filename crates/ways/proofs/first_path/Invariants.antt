@@ -1,5 +1,4 @@
 -- `ways::first_path` meets its contract. The loop's invariant: the first k entries are the least that begin a shortest walk.
---
 -- Assumes nothing.
 use Rattle.ways.proofs.ListingLaws.{Beginning}
 use Rattle.ways.proofs.first_path.Given as goal
