@@ -141,6 +141,7 @@ fn write_run<T: Copy + PartialEq + Display>(
 // Writes " |" and the runs of a table, but those of the value left out.
 pub fn write_runs<T: Copy + PartialEq + Display>(rt: &impl Print, table: &[T], out: T) {
     write(rt, b" |");
+    // No for: a step is as long as its run.
     let mut from = 0;
     while from < table.len() {
         let end = run_end(table, from);

@@ -50,6 +50,7 @@ pub fn read_all<R: Read>(reader: &mut R, buf: &mut [u8]) -> Result<usize, ReadFa
 {
     let mut done = 0;
     let mut left = MOST_INTERRUPTED;
+    // No for: a read gives a part of any length, or none.
     while done < buf.len() {
         match read_part(reader, &mut buf[done..]) {
             Ok(0) => return Ok(done),
