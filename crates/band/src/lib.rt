@@ -95,15 +95,18 @@ fn change_all(plan: &[u8], taking: Taking, table: &mut [u16])
 fn take(plan: &[u8], n: usize, t: usize, taking: Taking, table: &mut [u16]) -> Result<(), Fault>
     ensures { band_outcome result table.new ≡ taken_by taking plan.now n t table.old }
 {
-    plan::check(plan, n, t)?;
-    if table.len() < BAND_SLOTS {
-        return Err(Fault::Call(CallFault::Short));
-    }
-    if refused_somewhere(plan, taking, table) {
-        return Err(Fault::Call(refusal(taking)));
-    }
-    change_all(plan, taking, table);
-    Ok(())
+    // let .. else is the form that document 01 names for the check's answer.
+    let Err(fault) = plan::check(plan, n, t) else {
+        if table.len() < BAND_SLOTS {
+            return Err(Fault::Call(CallFault::Short));
+        }
+        if refused_somewhere(plan, taking, table) {
+            return Err(Fault::Call(refusal(taking)));
+        }
+        change_all(plan, taking, table);
+        return Ok(());
+    };
+    Err(Fault::Plan(fault))
 }
 
 // Adds a plan's records per slot to a table of 255 entries, slot 1 first; 15 where an entry would be above c.

@@ -1,9 +1,10 @@
 -- What a station carries, and what is drawn of it.
 -- Assumes nothing.
-use Rattle.std.proofs.Common.{◌≡◌, ℕ, zero, suc, ◌+◌, ◌*◌, ◌^◌, ◌<◌, Option, Some, None, sym, refl, ap, ◌∙◌, arith}
+use Rattle.std.proofs.Common.{◌≡◌, ℕ, zero, suc, ◌+◌, ◌*◌, ◌^◌, ◌<◌, sym, refl, ap, ◌∙◌, arith}
 use lib.Ieee.{Float, binary64, of_bits, to_bits}
 use Rattle.temporal.specs.Drawing.{share_bits, idle, carries, carried, low_bits, high_bits}
 use Rattle.drawing.specs.declared.Figures.{Figures}
+use Rattle.drawing.specs.declared.Figures.TheVariants.{Idle, Carries}
 use Rattle.drawing.specs.Doubles.{carried_bits, DrawnAs}
 use Rattle.drawing.proofs.ShareLaws.{share_below}
 
@@ -44,14 +45,14 @@ high_below load (suc pairs) h l = share_below (load + suc pairs) (omega arith)
 
 -- ---- what is drawn
 
-module _ (v load pairs : ℕ) (figures : Option Figures) (is : carried_bits figures ≡ carried load pairs) where
-  pub drawn_idle : figures ≡ None → DrawnAs v load pairs v (of_bits binary64 0) (of_bits binary64 0)
+module _ (v load pairs : ℕ) (figures : Figures) (is : carried_bits figures ≡ carried load pairs) where
+  pub drawn_idle : figures ≡ Idle → DrawnAs v load pairs v (of_bits binary64 0) (of_bits binary64 0)
   unfolding to_bits of_bits low_bits high_bits
   drawn_idle e =
       let f : idle ≡ carried load pairs = ap carried_bits (sym e) ∙ is in
       record { station_is = refl; low_is = ap low_bits f; high_is = ap high_bits f }
 
-  pub drawn_carries : (low high : Float) → figures ≡ Some (record { low = low; high = high }) → DrawnAs v load pairs v low high
+  pub drawn_carries : (low high : Float) → figures ≡ Carries low high → DrawnAs v load pairs v low high
   unfolding low_bits high_bits
   drawn_carries low high e =
       let f : carries (to_bits binary64 low) (to_bits binary64 high) ≡ carried load pairs = ap carried_bits (sym e) ∙ is in

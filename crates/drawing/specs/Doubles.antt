@@ -1,15 +1,16 @@
 -- What the doubles of this crate's types are, by their bits. Definitions only.
 -- Assumes nothing.
-use Rattle.std.specs.Prelude.{◌≡◌, ℕ, List, Option, Some, None, to_bits, Float}
+use Rattle.std.specs.Prelude.{◌≡◌, ℕ, List, to_bits, Float}
 use Rattle.std.specs.Float.{binary64}
 use Rattle.temporal.specs.Drawing.{Carried, idle, carries, carried, low_bits, high_bits, record_of}
 use Rattle.drawing.specs.declared.Figures.{Figures}
+use Rattle.drawing.specs.declared.Figures.TheVariants.{Idle, Carries}
 use Rattle.drawing.specs.declared.Drawn.{Drawn}
 
 -- what figures say of a station
-abbrev pub carried_bits : Option Figures → Carried
-carried_bits None = idle
-carried_bits (Some f) = carries (to_bits binary64 f.low) (to_bits binary64 f.high)
+abbrev pub carried_bits : Figures → Carried
+carried_bits Idle = idle
+carried_bits (Carries low high) = carries (to_bits binary64 low) (to_bits binary64 high)
 
 -- a station and two doubles are what is drawn of station v with this load and this number of pairs
 pub record DrawnAs (v load pairs station : ℕ) (low high : Float) : Type 0 where

@@ -15,11 +15,11 @@ const INFINITY: u64 = 0x7ff0_0000_0000_0000;
 // Loads and numbers of pairs are below 2^49.
 const LIMIT: u64 = 1 << 49;
 
-// What a station carries.
+// What a station carries: a low and a high double, or nothing. Document 02 names an enum of these two cases.
 #[derive(Clone, Copy)]
-pub struct Figures {
-    pub low: f64,
-    pub high: f64,
+pub enum Figures {
+    Idle,
+    Carries(f64, f64),
 }
 
 // What a record holds.
@@ -38,18 +38,15 @@ pub fn share_value(x: u64) -> f64
     x as f64 / 4294967296.0
 }
 
-// The figures of a station with a load and a number of pairs; none of an idle one.
-pub fn figures_of(load: u64, pairs: u64) -> Option<Figures>
+// The figures of a station with a load and a number of pairs.
+pub fn figures_of(load: u64, pairs: u64) -> Figures
     requires { (load < 2 ^ 49) × (pairs < 2 ^ 49) }
     ensures { carried_bits result ≡ carried load pairs }
 {
     if pairs == 0 {
-        return None;
+        return Figures::Idle;
     }
-    Some(Figures {
-        low: share_value(load),
-        high: share_value(load + pairs),
-    })
+    Figures::Carries(share_value(load), share_value(load + pairs))
 }
 
 // What is drawn of a station; an idle one has zeros.
@@ -58,12 +55,12 @@ pub fn drawn_of(station: usize, load: u64, pairs: u64) -> Drawn
     ensures { DrawnAs station load pairs result.station result.low result.high }
 {
     match figures_of(load, pairs) {
-        Some(Figures { low, high }) => Drawn { station, low, high },
-        None => Drawn {
+        Figures::Idle => Drawn {
             station,
             low: 0.0,
             high: 0.0,
         },
+        Figures::Carries(low, high) => Drawn { station, low, high },
     }
 }
 

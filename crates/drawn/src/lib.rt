@@ -99,13 +99,16 @@ pub fn drawn_loads(
         drawn_loads plan.now n t (units g h)
         (drawn_buffers pairs.old sums.old records.old work.old) }
 {
-    plan::check(plan, n, t)?;
-    calls::terms_call(g, h)?;
-    let setting = Setting {
-        stations: n,
-        slots: t,
-        turnaround: g,
-        keeping: h,
+    // let .. else is the form that document 01 names for the check's answer.
+    let Err(fault) = plan::check(plan, n, t) else {
+        calls::terms_call(g, h)?;
+        let setting = Setting {
+            stations: n,
+            slots: t,
+            turnaround: g,
+            keeping: h,
+        };
+        return drawn_loads_asked(pairs, sums, records, work, plan, setting);
     };
-    drawn_loads_asked(pairs, sums, records, work, plan, setting)
+    Err(Fault::Plan(fault))
 }

@@ -137,18 +137,21 @@ pub fn foremost(
     ensures { foremost_outcome result (pair_buffers through.new work.new) ≡
         foremost plan.now n t (turning g) s z (pair_buffers through.old work.old) }
 {
-    plan::check(plan, n, t)?;
-    calls::pair_call(n, t, g, 255, s, z, through.len(), n, work.len())?;
-    let question = Question {
-        plan,
-        setting: Setting {
-            stations: n,
-            slots: t,
-            turnaround: g,
-            keeping: 255,
-        },
-        source: s,
-        destination: z,
+    // let .. else is the form that document 01 names for the check's answer.
+    let Err(fault) = plan::check(plan, n, t) else {
+        calls::pair_call(n, t, g, 255, s, z, through.len(), n, work.len())?;
+        let question = Question {
+            plan,
+            setting: Setting {
+                stations: n,
+                slots: t,
+                turnaround: g,
+                keeping: 255,
+            },
+            source: s,
+            destination: z,
+        };
+        return foremost_work(&question, through, work);
     };
-    foremost_work(&question, through, work)
+    Err(Fault::Plan(fault))
 }

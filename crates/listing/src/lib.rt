@@ -115,20 +115,23 @@ pub fn first_way(
     ensures { WayContract first_way (question plan.now n t g h source destination) way.old
         work.old (reply_of result) way.new work.new }
 {
-    plan::check(plan, n, t)?;
-    calls::pair_call(n, t, g, h, source, destination, way.len(), t, work.len())?;
-    let question = Question {
-        plan,
-        setting: Setting {
-            stations: n,
-            slots: t,
-            turnaround: g,
-            keeping: h,
-        },
-        source,
-        destination,
+    // let .. else is the form that document 01 names for the check's answer.
+    let Err(fault) = plan::check(plan, n, t) else {
+        calls::pair_call(n, t, g, h, source, destination, way.len(), t, work.len())?;
+        let question = Question {
+            plan,
+            setting: Setting {
+                stations: n,
+                slots: t,
+                turnaround: g,
+                keeping: h,
+            },
+            source,
+            destination,
+        };
+        return first_cleared(&question, way, work);
     };
-    first_cleared(&question, way, work)
+    Err(Fault::Plan(fault))
 }
 
 // Next way once 1 to 5, 12, 14 and 6 to 8 are excluded: on from the walk with which the buffer begins; 10 where it begins with none.
@@ -213,18 +216,21 @@ pub fn next_way(
     ensures { WayContract next_way (question plan.now n t g h source destination) way.old work.old
         (reply_of result) way.new work.new }
 {
-    plan::check(plan, n, t)?;
-    calls::pair_call(n, t, g, h, source, destination, way.len(), t, work.len())?;
-    let question = Question {
-        plan,
-        setting: Setting {
-            stations: n,
-            slots: t,
-            turnaround: g,
-            keeping: h,
-        },
-        source,
-        destination,
+    // let .. else is the form that document 01 names for the check's answer.
+    let Err(fault) = plan::check(plan, n, t) else {
+        calls::pair_call(n, t, g, h, source, destination, way.len(), t, work.len())?;
+        let question = Question {
+            plan,
+            setting: Setting {
+                stations: n,
+                slots: t,
+                turnaround: g,
+                keeping: h,
+            },
+            source,
+            destination,
+        };
+        return next_cleared(&question, way, work);
     };
-    next_cleared(&question, way, work)
+    Err(Fault::Plan(fault))
 }

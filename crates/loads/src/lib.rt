@@ -110,15 +110,18 @@ pub fn partial_loads(
     ensures { loads_outcome result (load_buffers pairs.new sums.new work.new) ≡
         partial_loads plan.now n t (units g h) k (load_buffers pairs.old sums.old work.old) }
 {
-    plan::check(plan, n, t)?;
-    calls::terms_call(g, h)?;
-    let setting = Setting {
-        stations: n,
-        slots: t,
-        turnaround: g,
-        keeping: h,
+    // let .. else is the form that document 01 names for the check's answer.
+    let Err(fault) = plan::check(plan, n, t) else {
+        calls::terms_call(g, h)?;
+        let setting = Setting {
+            stations: n,
+            slots: t,
+            turnaround: g,
+            keeping: h,
+        };
+        return partial_loads_asked(pairs, sums, work, plan, setting, k);
     };
-    partial_loads_asked(pairs, sums, work, plan, setting, k)
+    Err(Fault::Plan(fault))
 }
 
 // Operation 5, loads: for each station its pairs and its load, every source being worked on.
@@ -187,13 +190,16 @@ pub fn busiest(
 ) -> Result<usize, Fault>
     ensures { busiest_outcome result work.new ≡ busiest plan.now n t (units g h) work.old }
 {
-    plan::check(plan, n, t)?;
-    calls::terms_call(g, h)?;
-    let setting = Setting {
-        stations: n,
-        slots: t,
-        turnaround: g,
-        keeping: h,
+    // let .. else is the form that document 01 names for the check's answer.
+    let Err(fault) = plan::check(plan, n, t) else {
+        calls::terms_call(g, h)?;
+        let setting = Setting {
+            stations: n,
+            slots: t,
+            turnaround: g,
+            keeping: h,
+        };
+        return busiest_asked(work, plan, setting);
     };
-    busiest_asked(work, plan, setting)
+    Err(Fault::Plan(fault))
 }

@@ -193,18 +193,21 @@ pub fn pair(
     ensures { pair_outcome result (pair_buffers through.new work.new) ≡
         pair plan.now n t (units g h) s z (pair_buffers through.old work.old) }
 {
-    plan::check(plan, n, t)?;
-    calls::pair_call(n, t, g, h, s, z, through.len(), n, work.len())?;
-    let question = Question {
-        plan,
-        setting: Setting {
-            stations: n,
-            slots: t,
-            turnaround: g,
-            keeping: h,
-        },
-        source: s,
-        destination: z,
+    // let .. else is the form that document 01 names for the check's answer.
+    let Err(fault) = plan::check(plan, n, t) else {
+        calls::pair_call(n, t, g, h, s, z, through.len(), n, work.len())?;
+        let question = Question {
+            plan,
+            setting: Setting {
+                stations: n,
+                slots: t,
+                turnaround: g,
+                keeping: h,
+            },
+            source: s,
+            destination: z,
+        };
+        return pair_work(&question, through, work);
     };
-    pair_work(&question, through, work)
+    Err(Fault::Plan(fault))
 }

@@ -108,32 +108,35 @@ pub fn reach(
         reach plan.now n t (units g h) source
         (lent_tables hops.old counts.old station_hops.old station_counts.old) }
 {
-    plan::check(plan, n, t)?;
-    calls::terms_call(g, h)?;
-    if n <= source {
-        return Err(Fault::Call(CallFault::Station));
-    }
-    let places = n * (t + 1);
-    if hops.len() < places
-        || counts.len() < places
-        || station_hops.len() < n
-        || station_counts.len() < n
-    {
-        return Err(Fault::Call(CallFault::Short));
-    }
-    let setting = Setting {
-        stations: n,
-        slots: t,
-        turnaround: g,
-        keeping: h,
+    // let .. else is the form that document 01 names for the check's answer.
+    let Err(fault) = plan::check(plan, n, t) else {
+        calls::terms_call(g, h)?;
+        if n <= source {
+            return Err(Fault::Call(CallFault::Station));
+        }
+        let places = n * (t + 1);
+        if hops.len() < places
+            || counts.len() < places
+            || station_hops.len() < n
+            || station_counts.len() < n
+        {
+            return Err(Fault::Call(CallFault::Short));
+        }
+        let setting = Setting {
+            stations: n,
+            slots: t,
+            turnaround: g,
+            keeping: h,
+        };
+        return work(
+            hops,
+            counts,
+            station_hops,
+            station_counts,
+            plan,
+            setting,
+            source,
+        );
     };
-    work(
-        hops,
-        counts,
-        station_hops,
-        station_counts,
-        plan,
-        setting,
-        source,
-    )
+    Err(Fault::Plan(fault))
 }

@@ -78,21 +78,24 @@ pub fn through_set(
     ensures { set_outcome result work.new ≡
         through_set plan.now n t (units g h) s z set.now work.old }
 {
-    plan::check(plan, n, t)?;
-    calls::pair_call(n, t, g, h, s, z, set.len(), n, work.len())?;
-    if wrong_set(set, n) {
-        return Err(Fault::Call(CallFault::SetByte));
-    }
-    let question = Question {
-        plan,
-        setting: Setting {
-            stations: n,
-            slots: t,
-            turnaround: g,
-            keeping: h,
-        },
-        source: s,
-        destination: z,
+    // let .. else is the form that document 01 names for the check's answer.
+    let Err(fault) = plan::check(plan, n, t) else {
+        calls::pair_call(n, t, g, h, s, z, set.len(), n, work.len())?;
+        if wrong_set(set, n) {
+            return Err(Fault::Call(CallFault::SetByte));
+        }
+        let question = Question {
+            plan,
+            setting: Setting {
+                stations: n,
+                slots: t,
+                turnaround: g,
+                keeping: h,
+            },
+            source: s,
+            destination: z,
+        };
+        return set_work(&question, set, work);
     };
-    set_work(&question, set, work)
+    Err(Fault::Plan(fault))
 }

@@ -468,7 +468,10 @@ pub fn struck_out(
     ensures { struck_outcome result (struck_buffers changes.new work.new) ≡
         struck plan.now n t (units g h) position (struck_buffers changes.old work.old) }
 {
-    plan::check(plan, n, t)?;
-    calls::terms_call(g, h)?;
-    struck_asked(changes, work, plan, n, t, g, h, position)
+    // let .. else is the form that document 01 names for the check's answer.
+    let Err(fault) = plan::check(plan, n, t) else {
+        calls::terms_call(g, h)?;
+        return struck_asked(changes, work, plan, n, t, g, h, position);
+    };
+    Err(Fault::Plan(fault))
 }

@@ -100,18 +100,21 @@ pub fn verdict(
     ensures { verdict_outcome result work.new ≡
         verdict plan.now n t (units g h) source destination list.now work.old }
 {
-    plan::check(plan, n, t)?;
-    calls::pair_call(n, t, g, h, source, destination, 0, 0, work.len())?;
-    let question = Question {
-        plan,
-        setting: Setting {
-            stations: n,
-            slots: t,
-            turnaround: g,
-            keeping: h,
-        },
-        source,
-        destination,
+    // let .. else is the form that document 01 names for the check's answer.
+    let Err(fault) = plan::check(plan, n, t) else {
+        calls::pair_call(n, t, g, h, source, destination, 0, 0, work.len())?;
+        let question = Question {
+            plan,
+            setting: Setting {
+                stations: n,
+                slots: t,
+                turnaround: g,
+                keeping: h,
+            },
+            source,
+            destination,
+        };
+        return verdict_cleared(&question, list, work);
     };
-    verdict_cleared(&question, list, work)
+    Err(Fault::Plan(fault))
 }

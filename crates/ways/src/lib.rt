@@ -249,12 +249,18 @@ fn find(work: &[u64], plan: &[u8], q: Pair, x: Spot, need: u64, from: usize) -> 
     ensures { found_of result ≡ first_from (serves_at (plan_in plan.now q) work.now (q.slots + 1) (spot_of x) need)
         from (records plan.now - from) }
 {
-    for i in from..plan.len() / 6 {
-        if serves(work, plan, q, x, need, i) {
-            return Some(i);
+    let m = plan.len() / 6;
+    let mut i = from;
+    // A loop that yields what it finds by break is the form that document 01 names here.
+    loop {
+        if m <= i {
+            break None;
         }
+        if serves(work, plan, q, x, need, i) {
+            break Some(i);
+        }
+        i += 1;
     }
-    None
 }
 
 // The first position from a given one on that leads home behind the first k entries of a buffer.

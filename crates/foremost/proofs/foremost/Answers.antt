@@ -9,27 +9,27 @@ use Rattle.pair.proofs.BeginLaws.{call_free}
 use Rattle.foremost.proofs.WorkLaws.{foremost_plan, foremost_call, foremost_works}
 use Rattle.foremost.proofs.foremost.Goals as goal
 
-pub returns-in_err-check : goal.returns-in_err-check
-returns-in_err-check c =
-    rw (err_is _ _ c.from_residual.ensures.1) (foremost_plan _ _ _ _ _ _ _ _ _ _ c.check.ensures c.in_err-check.was)
+pub returns : goal.returns
+returns c =
+    foremost_plan _ _ _ _ _ _ _ _ _ _ c.check.ensures c.in-Err.is
 
 pub pair_call-requires : goal.pair_call-requires
 pair_call-requires c =
-    let a = accepted _ _ _ (sym c.check.ensures ∙ ap check_number c.in_ok-check.was) in
+    let a = accepted _ _ _ (sym c.check.ensures ∙ ap check_number c.in_default.is) in
     (a.stations, a.slots)
 
 pub returns-in_err-pair_call : goal.returns-in_err-pair_call
 returns-in_err-pair_call c =
-    let ok = sym c.check.ensures ∙ ap check_number c.in_ok-check.was in
-    rw (err_is _ _ c.from_residual-in_err-pair_call.ensures.1)
+    let ok = sym c.check.ensures ∙ ap check_number c.in_default.is in
+    rw (err_is _ _ c.from_residual.ensures.1)
     (foremost_call _ _ _ _ _ _ _ _ ok _ c.pair_call.ensures _ c.in_err-pair_call.was)
 
 pub foremost_work-requires : goal.foremost_work-requires
 foremost_work-requires c =
-    let ok = sym c.check.ensures ∙ ap check_number c.in_ok-check.was in
+    let ok = sym c.check.ensures ∙ ap check_number c.in_default.is in
     (call_free _ _ _ _ _ _ _ _ ok _ c.pair_call.ensures c.in_ok-pair_call.was, kept_always _ _ _ ok)
 
-pub returns : goal.returns
-returns c =
-    let ok = sym c.check.ensures ∙ ap check_number c.in_ok-check.was in
+pub returns-in_default : goal.returns-in_default
+returns-in_default c =
+    let ok = sym c.check.ensures ∙ ap check_number c.in_default.is in
     c.foremost_work.ensures ∙ sym (foremost_works _ _ _ _ _ _ _ _ ok _ c.pair_call.ensures c.in_ok-pair_call.was)

@@ -7,25 +7,25 @@ use Rattle.plan.proofs.Answers.{err_is}
 use Rattle.listing.proofs.CallLaws.{accepted_plan, way_plan, way_ready, way_works, way_call}
 use Rattle.listing.proofs.next_way.Goals as goal
 
-pub returns-in_err-check : goal.returns-in_err-check
-returns-in_err-check c =
-    rw (err_is _ _ c.from_residual.ensures.1) (way_plan _ _ _ _ _ _ c.check.ensures c.in_err-check.was)
+pub returns : goal.returns
+returns c =
+    way_plan _ _ _ _ _ _ c.check.ensures c.in-Err.is
 
 pub pair_call-requires : goal.pair_call-requires
 pair_call-requires c =
-    let ok = accepted _ _ _ (accepted_plan _ _ _ _ c.check.ensures c.in_ok-check.was) in
+    let ok = accepted _ _ _ (accepted_plan _ _ _ _ c.check.ensures c.in_default.is) in
     (ok.stations, ok.slots)
 
 pub returns-in_err-pair_call : goal.returns-in_err-pair_call
 returns-in_err-pair_call c =
-    rw (err_is _ _ c.from_residual-in_err-pair_call.ensures.1)
-    (way_call _ _ _ _ (accepted_plan _ _ _ _ c.check.ensures c.in_ok-check.was) _ _ c.pair_call.ensures c.in_err-pair_call.was)
+    rw (err_is _ _ c.from_residual.ensures.1)
+    (way_call _ _ _ _ (accepted_plan _ _ _ _ c.check.ensures c.in_default.is) _ _ c.pair_call.ensures c.in_err-pair_call.was)
 
 pub next_cleared-requires : goal.next_cleared-requires
 next_cleared-requires c =
-    way_ready next_way _ _ _ (accepted_plan _ _ _ _ c.check.ensures c.in_ok-check.was) _ c.pair_call.ensures c.in_ok-pair_call.was
+    way_ready next_way _ _ _ (accepted_plan _ _ _ _ c.check.ensures c.in_default.is) _ c.pair_call.ensures c.in_ok-pair_call.was
 
-pub returns : goal.returns
-returns c =
+pub returns-in_default : goal.returns-in_default
+returns-in_default c =
     c.next_cleared.ensures ∙
-    sym (way_works _ _ _ _ (accepted_plan _ _ _ _ c.check.ensures c.in_ok-check.was) _ c.pair_call.ensures c.in_ok-pair_call.was)
+    sym (way_works _ _ _ _ (accepted_plan _ _ _ _ c.check.ensures c.in_default.is) _ c.pair_call.ensures c.in_ok-pair_call.was)

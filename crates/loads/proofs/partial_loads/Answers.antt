@@ -7,16 +7,16 @@ use Rattle.calls.proofs.CallLaws.{terms_free_by}
 use Rattle.loads.proofs.LoadLaws.{loads_plan, loads_terms}
 use Rattle.loads.proofs.partial_loads.Goals as goal
 
-pub returns-in_err-check : goal.returns-in_err-check
-returns-in_err-check c =
-    rw (err_is _ _ c.from_residual.ensures.1) (loads_plan _ _ _ _ _ _ _ _ _ _ c.check.ensures c.in_err-check.was)
+pub returns : goal.returns
+returns c =
+    loads_plan _ _ _ _ _ _ _ _ _ _ c.check.ensures c.in-Err.is
 
 pub returns-in_err-terms_call : goal.returns-in_err-terms_call
 returns-in_err-terms_call c =
-    let ok = sym c.check.ensures ∙ ap check_number c.in_ok-check.was in
-    rw (err_is _ _ c.from_residual-in_err-terms_call.ensures.1)
+    let ok = sym c.check.ensures ∙ ap check_number c.in_default.is in
+    rw (err_is _ _ c.from_residual.ensures.1)
     (loads_terms _ _ _ _ _ _ _ _ ok _ c.terms_call.ensures _ c.in_err-terms_call.was)
 
 pub partial_loads_asked-requires : goal.partial_loads_asked-requires
 partial_loads_asked-requires c =
-    (sym c.check.ensures ∙ ap check_number c.in_ok-check.was, terms_free_by _ _ c.terms_call.ensures c.in_ok-terms_call.was)
+    (sym c.check.ensures ∙ ap check_number c.in_default.is, terms_free_by _ _ c.terms_call.ensures c.in_ok-terms_call.was)

@@ -1,4 +1,5 @@
--- `ways::find` meets its contract. The loop's invariant: what the search finds from i on is what it finds.
+-- `ways::find` meets its contract. The loop's invariant: what the search finds from i on is what it finds. The measure is the
+-- number of positions left.
 -- Assumes nothing.
 use native.Mathlib.Omega.{arith}
 use mathlib.Core.Path.{refl, sym, ◌∙◌}
@@ -11,11 +12,17 @@ loop-i-init c = refl
 pub serves-requires : goal.serves-requires
 serves-requires c = c.requires
 
+pub overflow_add-i : goal.overflow_add-i
+overflow_add-i c = omega arith
+
+pub loop-i-smaller : goal.loop-i-smaller
+loop-i-smaller c = omega arith
+
 pub loop-i-preserved : goal.loop-i-preserved
 loop-i-preserved c = search_on c.args.plan.now _ _ _ _ c.loop-i.invariant (omega arith) (sym c.serves.ensures ∙ c.if-serves.false)
 
-pub returns : goal.returns
-returns c = search_nothing _ _ _ _ _ c.loop-i.invariant refl (omega arith)
+pub returns-then-m-i : goal.returns-then-m-i
+returns-then-m-i c = search_nothing _ _ _ _ _ c.loop-i.invariant refl c.if-m-i.true
 
 pub returns-then-serves : goal.returns-then-serves
 returns-then-serves c = search_here _ _ _ _ _ c.loop-i.invariant refl (omega arith) (sym c.serves.ensures ∙ c.if-serves.true)
