@@ -27,7 +27,7 @@ ghost use Rattle.account.specs.Work.{
 };
 ghost use Rattle.account.specs.Whole.{station_text, with_station, LayersWritable, LoadedFor, AccountWithin};
 
-use plan::{CallFault, Fault};
+use plan::{CallFault, Fault, Setting};
 use ways::Pair;
 
 // The figures of a pair of the station: its ends, hops, through count, count and share.
@@ -171,7 +171,13 @@ fn put_pair(
 {
     let stations = 2 * n;
     let destination = n + f.destination;
-    ways::complete(work, layered, stations, t, g, 255, destination);
+    let setting = Setting {
+        stations,
+        slots: t,
+        turnaround: g,
+        keeping: 255,
+    };
+    ways::complete(work, layered, setting, destination);
     let most = (k as u64).min(f.through);
     let q = Pair {
         stations,

@@ -3,10 +3,9 @@
 #![tactic(auto)]
 
 ghost use Rattle.std.specs.Prelude.{◌≡◌, true, false, ◌+◌, ◌*◌, ◌^◌, ◌<◌, ◌≤◌};
-ghost use Rattle.temporal.specs.Plan.{units};
-ghost use Rattle.temporal.specs.Bytes.{plan_of};
 ghost use Rattle.temporal.specs.Cause.{is_too_many};
 ghost use Rattle.temporal.specs.Struck.{lacking_record};
+ghost use Rattle.plan.specs.Setting.{terms_of, plan_in};
 ghost use Rattle.pass.specs.Column.{block_column, column_of, whole, lanes_by, split_of};
 ghost use Rattle.pass.specs.PassedColumns.{area_size, Spared, ColumnsPassed};
 ghost use Rattle.stale.specs.Depth.{DepthOf};
@@ -37,6 +36,7 @@ ghost use Rattle.forward.specs.Passed.{
 };
 
 use pass::{Columns, Stopped};
+use plan::Setting;
 
 // Why a pass whose rows hold several counts to an entry does not have every count: one is over 2^64 - 1, or does not fit.
 #[derive(Clone, Copy, Debug, PartialEq, Eq)]
@@ -92,10 +92,16 @@ fn kept_size(n: usize, q: usize, block: usize) -> usize
 }
 
 // The most columns of a row for which the pass fits e entries a station.
-pub fn most_columns(n: usize, t: usize, g: usize, h: usize, depth: usize, e: usize) -> usize
-    requires { Lent t (units g h) depth e }
-    ensures { result ≡ most_columns n t (units g h) depth e }
+pub fn most_columns(setting: Setting, depth: usize, e: usize) -> usize
+    requires { Lent setting.slots (terms_of setting) depth e }
+    ensures { result ≡ most_columns setting.stations setting.slots (terms_of setting) depth e }
 {
+    let Setting {
+        stations: n,
+        slots: t,
+        turnaround: g,
+        keeping: h,
+    } = setting;
     if t <= h + 1 {
         kept_columns(n, e, g.min(t))
     } else {
@@ -112,10 +118,16 @@ fn window_size(n: usize, depth: usize, block: usize) -> usize
 }
 
 // How many entries of the work area the pass uses, with blocks of so many columns.
-pub fn pass_size(n: usize, t: usize, g: usize, h: usize, depth: usize, block: usize) -> usize
-    requires { (h ≤ 255) × ((depth ≤ 255) × (pass_size n t (units g h) depth block < 18446744073709551616)) }
-    ensures { result ≡ pass_size n t (units g h) depth block }
+pub fn pass_size(setting: Setting, depth: usize, block: usize) -> usize
+    requires { (setting.keeping ≤ 255) × ((depth ≤ 255) × (pass_size setting.stations setting.slots (terms_of setting) depth block < 18446744073709551616)) }
+    ensures { result ≡ pass_size setting.stations setting.slots (terms_of setting) depth block }
 {
+    let Setting {
+        stations: n,
+        slots: t,
+        turnaround: g,
+        keeping: h,
+    } = setting;
     if t <= h + 1 {
         kept_size(n, g.min(t), block)
     } else {
@@ -130,10 +142,7 @@ fn pass_slots(
     plan: &[u8],
     out: usize,
     known: bool,
-    n: usize,
-    t: usize,
-    g: usize,
-    h: usize,
+    setting: Setting,
     depth: usize,
     source: usize,
     columns: Columns,
@@ -141,12 +150,18 @@ fn pass_slots(
     block: usize,
     until: usize,
 ) -> Result<usize, Stopped>
-    requires { UntilReady (lacking_record plan.now out) n t (units g h) depth source until block work.old × (split_of columns ≤ 3) ×
-        Spared known (lacking_record plan.now out) n t (units g h) source }
-    ensures { ColumnsPassed (lacking_record plan.now out) n t (units g h) source until (lanes_by (split_of columns))
+    requires { UntilReady (lacking_record plan.now out) setting.stations setting.slots (terms_of setting) depth source until block work.old × (split_of columns ≤ 3) ×
+        Spared known (lacking_record plan.now out) setting.stations setting.slots (terms_of setting) source }
+    ensures { ColumnsPassed (lacking_record plan.now out) setting.stations setting.slots (terms_of setting) source until (lanes_by (split_of columns))
         (column_of columns set.now (block * 2 ^ split_of columns)) block
-        (pass_size n t (units g h) depth block) work.old work.new result }
+        (pass_size setting.stations setting.slots (terms_of setting) depth block) work.old work.new result }
 {
+    let Setting {
+        stations: n,
+        slots: t,
+        turnaround: g,
+        keeping: h,
+    } = setting;
     if t <= h + 1 {
         pass::pass_columns(
             work, plan, out, known, n, t, g, h, source, columns, set, block, until,
@@ -165,30 +180,24 @@ pub fn pass_until(
     work: &mut [u64],
     plan: &[u8],
     known: bool,
-    n: usize,
-    t: usize,
-    g: usize,
-    h: usize,
+    setting: Setting,
     depth: usize,
     source: usize,
     low: usize,
     block: usize,
     until: usize,
 ) -> Result<usize, Stopped>
-    requires { UntilReady plan.now n t (units g h) depth source until block work.old ×
-        (known ≡ true → is_too_many (plan_of plan.now n t (units g h)) source ≡ false) }
-    ensures { ColumnsPassed plan.now n t (units g h) source until whole (block_column low block) block
-        (pass_size n t (units g h) depth block) work.old work.new result }
+    requires { UntilReady plan.now setting.stations setting.slots (terms_of setting) depth source until block work.old ×
+        (known ≡ true → is_too_many (plan_in plan.now setting) source ≡ false) }
+    ensures { ColumnsPassed plan.now setting.stations setting.slots (terms_of setting) source until whole (block_column low block) block
+        (pass_size setting.stations setting.slots (terms_of setting) depth block) work.old work.new result }
 {
     pass_slots(
         work,
         plan,
         plan.len(),
         known,
-        n,
-        t,
-        g,
-        h,
+        setting,
         depth,
         source,
         Columns::From(low, 0),
@@ -206,30 +215,25 @@ pub fn pass_packed(
     plan: &[u8],
     out: usize,
     known: bool,
-    n: usize,
-    t: usize,
-    g: usize,
-    h: usize,
+    setting: Setting,
     depth: usize,
     source: usize,
     low: usize,
     block: usize,
     split: usize,
 ) -> Result<(), Unpacked>
-    requires { PackedReady (lacking_record plan.now out) n t (units g h) depth source block split work.old ×
-        (known ≡ true → is_too_many (plan_of (lacking_record plan.now out) n t (units g h)) source ≡ false) }
-    ensures { PackedPassed (lacking_record plan.now out) n t (units g h) depth source low block split
+    requires { PackedReady (lacking_record plan.now out) setting.stations setting.slots (terms_of setting) depth source block split work.old ×
+        (known ≡ true → is_too_many (plan_in (lacking_record plan.now out) setting) source ≡ false) }
+    ensures { PackedPassed (lacking_record plan.now out) setting.stations setting.slots (terms_of setting) depth source low block split
         work.old work.new result }
 {
+    let Setting { stations: n, .. } = setting;
     pass_slots(
         work,
         plan,
         out,
         known,
-        n,
-        t,
-        g,
-        h,
+        setting,
         depth,
         source,
         Columns::From(low, split),
@@ -246,28 +250,23 @@ pub fn pass_without(
     work: &mut [u64],
     plan: &[u8],
     out: usize,
-    n: usize,
-    t: usize,
-    g: usize,
-    h: usize,
+    setting: Setting,
     depth: usize,
     source: usize,
     low: usize,
     block: usize,
 ) -> bool
-    requires { PassReady (lacking_record plan.now out) n t (units g h) depth source low block work.old }
-    ensures { Passed (lacking_record plan.now out) n t (units g h) depth source low block
+    requires { PassReady (lacking_record plan.now out) setting.stations setting.slots (terms_of setting) depth source low block work.old }
+    ensures { Passed (lacking_record plan.now out) setting.stations setting.slots (terms_of setting) depth source low block
         work.old work.new result }
 {
+    let Setting { stations: n, .. } = setting;
     pass_slots(
         work,
         plan,
         out,
         false,
-        n,
-        t,
-        g,
-        h,
+        setting,
         depth,
         source,
         Columns::From(low, 0),
@@ -282,58 +281,42 @@ pub fn pass_without(
 pub fn pass(
     work: &mut [u64],
     plan: &[u8],
-    n: usize,
-    t: usize,
-    g: usize,
-    h: usize,
+    setting: Setting,
     depth: usize,
     source: usize,
     low: usize,
     block: usize,
 ) -> bool
-    requires { PassReady plan.now n t (units g h) depth source low block work.old }
-    ensures { Passed plan.now n t (units g h) depth source low block work.old work.new result }
+    requires { PassReady plan.now setting.stations setting.slots (terms_of setting) depth source low block work.old }
+    ensures { Passed plan.now setting.stations setting.slots (terms_of setting) depth source low block work.old work.new result }
 {
-    pass_without(
-        work,
-        plan,
-        plan.len(),
-        n,
-        t,
-        g,
-        h,
-        depth,
-        source,
-        low,
-        block,
-    )
+    pass_without(work, plan, plan.len(), setting, depth, source, low, block)
 }
 
 // The pass for a set of stations, one column for all members; the destination is never inside.
 pub fn set_pass(
     work: &mut [u64],
     plan: &[u8],
-    n: usize,
-    t: usize,
-    g: usize,
-    h: usize,
+    setting: Setting,
     source: usize,
     destination: usize,
     set: &[u8],
 ) -> bool
-    requires { SetReady plan.now n t (units g h) source destination work.old }
-    ensures { SetPassed plan.now n t (units g h) source destination set.now work.old
+    requires { SetReady plan.now setting.stations setting.slots (terms_of setting) source destination work.old }
+    ensures { SetPassed plan.now setting.stations setting.slots (terms_of setting) source destination set.now work.old
         work.new result }
 {
+    let Setting {
+        stations: n,
+        keeping: h,
+        ..
+    } = setting;
     pass_slots(
         work,
         plan,
         plan.len(),
         false,
-        n,
-        t,
-        g,
-        h,
+        setting,
         h,
         source,
         Columns::Members(destination),
@@ -354,10 +337,16 @@ fn source_size(n: usize, q: usize) -> usize
 
 // How many sources the pass without rows takes at once in base entries of the work area, no more than are left. Where readings go stale it
 // takes none of it.
-pub fn sources_at_once(n: usize, t: usize, g: usize, h: usize, base: usize, left: usize) -> usize
-    requires { GroupAsked n t (units g h) base left }
-    ensures { GroupFits n t (units g h) base left result }
+pub fn sources_at_once(setting: Setting, base: usize, left: usize) -> usize
+    requires { GroupAsked setting.stations setting.slots (terms_of setting) base left }
+    ensures { GroupFits setting.stations setting.slots (terms_of setting) base left result }
 {
+    let Setting {
+        stations: n,
+        slots: t,
+        turnaround: g,
+        keeping: h,
+    } = setting;
     let few = left.min(32);
     if t <= h + 1 {
         let q = g.min(t);
@@ -373,17 +362,20 @@ pub fn widths(
     work: &mut [u64],
     plan: &[u8],
     out: usize,
-    n: usize,
-    t: usize,
-    g: usize,
-    h: usize,
+    setting: Setting,
     first: usize,
     many: usize,
 ) -> u64
-    requires { WidthsAsked (lacking_record plan.now out) n t (units g h) first many work.old }
-    ensures { WidthsKnown (lacking_record plan.now out) n t (units g h) first many
+    requires { WidthsAsked (lacking_record plan.now out) setting.stations setting.slots (terms_of setting) first many work.old }
+    ensures { WidthsKnown (lacking_record plan.now out) setting.stations setting.slots (terms_of setting) first many
         work.old work.new result }
 {
+    let Setting {
+        stations: n,
+        slots: t,
+        turnaround: g,
+        keeping: h,
+    } = setting;
     if t <= h + 1 {
         widths::widths_of(work, plan, out, n, t, g, h, first, many)
     } else {
@@ -397,24 +389,21 @@ pub fn refilled(
     work: &mut [u64],
     plan: &[u8],
     out: usize,
-    n: usize,
-    t: usize,
-    g: usize,
-    h: usize,
+    setting: Setting,
     base: usize,
     source: usize,
     end: usize,
     splits: Splits,
 ) -> Splits
-    requires { RefillReady (lacking_record plan.now out) n t (units g h) base source end splits work.old }
-    ensures { Refilled (lacking_record plan.now out) n t (units g h) base source end
+    requires { RefillReady (lacking_record plan.now out) setting.stations setting.slots (terms_of setting) base source end splits work.old }
+    ensures { Refilled (lacking_record plan.now out) setting.stations setting.slots (terms_of setting) base source end
         work.old work.new result }
 {
     if 0 < splits.left {
         return splits;
     }
-    let left = sources_at_once(n, t, g, h, base, end - source);
-    let word = widths(work, plan, out, n, t, g, h, source, left);
+    let left = sources_at_once(setting, base, end - source);
+    let word = widths(work, plan, out, setting, source, left);
     Splits { left, word }
 }
 

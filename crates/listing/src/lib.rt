@@ -46,33 +46,14 @@ fn first_work(
         source,
         destination,
     } = *question;
-    if forward::pass(
-        work,
-        plan,
-        setting.stations,
-        setting.slots,
-        setting.turnaround,
-        setting.keeping,
-        setting.keeping,
-        source,
-        0,
-        0,
-    ) {
+    if forward::pass(work, plan, setting, setting.keeping, source, 0, 0) {
         return Err(Fault::Call(CallFault::TooMany));
     }
     let hops = work[destination] as usize;
     if hops == 65535 {
         return Ok(WayAnswer::NoPath);
     }
-    ways::complete(
-        work,
-        plan,
-        setting.stations,
-        setting.slots,
-        setting.turnaround,
-        setting.keeping,
-        destination,
-    );
+    ways::complete(work, plan, setting, destination);
     let pair = Pair {
         stations: setting.stations,
         slots: setting.slots,
@@ -145,18 +126,7 @@ fn next_work(question: &Question<'_>, way: &mut [u16], work: &mut [u64]) -> Resu
         source,
         destination,
     } = *question;
-    if forward::pass(
-        work,
-        plan,
-        setting.stations,
-        setting.slots,
-        setting.turnaround,
-        setting.keeping,
-        setting.keeping,
-        source,
-        0,
-        0,
-    ) {
+    if forward::pass(work, plan, setting, setting.keeping, source, 0, 0) {
         return Err(Fault::Call(CallFault::TooMany));
     }
     let hops = work[destination] as usize;
@@ -172,15 +142,7 @@ fn next_work(question: &Question<'_>, way: &mut [u16], work: &mut [u64]) -> Resu
     if hops == 65535 || !ways::offered(way, plan, pair) {
         return Err(Fault::Call(CallFault::NotShortestPath));
     }
-    ways::complete(
-        work,
-        plan,
-        setting.stations,
-        setting.slots,
-        setting.turnaround,
-        setting.keeping,
-        destination,
-    );
+    ways::complete(work, plan, setting, destination);
     if ways::next_path(way, work, plan, pair) {
         return Ok(WayAnswer::Path(hops));
     }

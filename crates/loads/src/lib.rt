@@ -50,10 +50,9 @@ pub fn partial_loads_work(
     let Setting {
         stations: n,
         slots: t,
-        turnaround: g,
-        keeping: h,
+        ..
     } = setting;
-    if tallies::tally(work, plan, n, t, g, h, k) {
+    if tallies::tally(work, plan, setting, k) {
         memory::clear(pairs, n);
         memory::clear(sums, n);
         memory::clear(work, 4 * (n * (t + 1)));
@@ -149,10 +148,9 @@ fn busiest_work(work: &mut [u64], plan: &[u8], setting: Setting) -> Result<usize
     let Setting {
         stations: n,
         slots: t,
-        turnaround: g,
-        keeping: h,
+        ..
     } = setting;
-    if tallies::tally(work, plan, n, t, g, h, n) {
+    if tallies::tally(work, plan, setting, n) {
         memory::clear(work, 4 * (n * (t + 1)));
         return Err(Fault::Call(CallFault::TooMany));
     }

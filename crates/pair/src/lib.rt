@@ -81,14 +81,9 @@ fn block_throughs(
         source: s,
         destination: z,
     } = *question;
-    let Setting {
-        stations: n,
-        slots: t,
-        turnaround: g,
-        keeping: h,
-    } = setting;
+    let n = setting.stations;
     let known = settled_before(n, low, until);
-    let Ok(slot) = forward::pass_until(work, plan, known, n, t, g, h, depth, s, low, block, until)
+    let Ok(slot) = forward::pass_until(work, plan, known, setting, depth, s, low, block, until)
     else {
         return None;
     };
@@ -137,11 +132,11 @@ pub fn throughs(
     let Setting {
         stations: n,
         slots: t,
-        turnaround: g,
         keeping: h,
+        ..
     } = setting;
     let depth = forward::depth(work, plan, n, t, h);
-    let most = forward::most_columns(n, t, g, h, depth, 4 * (t + 1));
+    let most = forward::most_columns(setting, depth, 4 * (t + 1));
     through_blocks(question, through, work, depth, most, until)
 }
 

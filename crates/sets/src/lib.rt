@@ -50,10 +50,9 @@ fn set_work(question: &Question<'_>, set: &[u8], work: &mut [u64]) -> Result<u64
     let Setting {
         stations: n,
         slots: t,
-        turnaround: g,
-        keeping: h,
+        ..
     } = setting;
-    if forward::set_pass(work, plan, n, t, g, h, s, z, set) {
+    if forward::set_pass(work, plan, setting, s, z, set) {
         memory::clear(work, 4 * (n * (t + 1)));
         return Err(Fault::Call(CallFault::TooMany));
     }

@@ -5,10 +5,10 @@
 
 ghost use Rattle.std.specs.Prelude.{◌≡◌, ◌<◌, ◌≤◌};
 ghost use Rattle.temporal.specs.Plan.{units};
-ghost use Rattle.temporal.specs.Bytes.{plan_of};
 ghost use Rattle.temporal.specs.Cause.{first, terms_causes, plan_fault};
 ghost use Rattle.temporal.specs.Struck.{lacking_record};
 ghost use Rattle.temporal.specs.OutcomeStruck.{struck_off, struck};
+ghost use Rattle.plan.specs.Setting.{terms_of, plan_in};
 ghost use Rattle.forward.specs.Passed.{Known};
 ghost use Rattle.struck.specs.Answer.{struck_outcome, struck_buffers};
 ghost use Rattle.struck.specs.Work.{
@@ -38,7 +38,7 @@ ghost use Rattle.struck.specs.Work.{
   too_many_struck,
 };
 
-use plan::{CallFault, Fault};
+use plan::{CallFault, Fault, Setting};
 
 // Whether hops or count of station z differ from those kept from a place on.
 #[tactic(auto, unfolding(crate::specs::Work::differs_at))]
@@ -78,19 +78,17 @@ fn compare_source(
     work: &mut [u64],
     plan: &[u8],
     out: usize,
-    n: usize,
-    t: usize,
-    g: usize,
-    h: usize,
+    setting: Setting,
     depth: usize,
     at: usize,
     source: usize,
 ) -> Option<usize>
-    requires { CompareReady plan.now out n t (units g h) depth at source work.old }
-    ensures { Compared plan.now out n t (units g h) at source work.old work.new result }
+    requires { CompareReady plan.now out setting.stations setting.slots (terms_of setting) depth at source work.old }
+    ensures { Compared plan.now out setting.stations setting.slots (terms_of setting) at source work.old work.new result }
 {
+    let Setting { stations: n, .. } = setting;
     pass::copy_row(work, at, 0, 2 * n);
-    if forward::pass(work, plan, n, t, g, h, depth, source, 0, 0) {
+    if forward::pass(work, plan, setting, depth, source, 0, 0) {
         return None;
     }
     Some(count_differing(work, n, at, source))
@@ -102,26 +100,22 @@ fn strike_source(
     work: &mut [u64],
     plan: &[u8],
     out: usize,
-    n: usize,
-    t: usize,
-    g: usize,
-    h: usize,
+    setting: Setting,
     depth: usize,
     base: usize,
     block: usize,
     source: usize,
     width: usize,
 ) -> Option<usize>
-    requires { OneReady plan.now out n t (units g h) depth base block source work.old ×
-        Known (lacking_record plan.now out) n t (units g h) source width }
-    ensures { OneStruck plan.now out n t (units g h) base source work.old work.new result }
+    requires { OneReady plan.now out setting.stations setting.slots (terms_of setting) depth base block source work.old ×
+        Known (lacking_record plan.now out) setting.stations setting.slots (terms_of setting) source width }
+    ensures { OneStruck plan.now out setting.stations setting.slots (terms_of setting) base source work.old work.new result }
 {
-    if tallies::tally_source(
-        work, plan, out, n, t, g, h, depth, base, block, source, width,
-    ) {
+    let Setting { stations: n, .. } = setting;
+    if tallies::tally_source(work, plan, out, setting, depth, base, block, source, width) {
         return None;
     }
-    compare_source(work, plan, out, n, t, g, h, depth, base - 2 * n, source)
+    compare_source(work, plan, out, setting, depth, base - 2 * n, source)
 }
 
 // Works on every source, from cleared tallies on.
@@ -129,48 +123,42 @@ fn strike_sources(
     work: &mut [u64],
     plan: &[u8],
     out: usize,
-    n: usize,
-    t: usize,
-    g: usize,
-    h: usize,
+    setting: Setting,
     depth: usize,
     base: usize,
     block: usize,
 ) -> Option<usize>
-    requires { AllReady plan.now n t (units g h) depth base block work.old }
-    ensures { AllStruck plan.now out n t (units g h) work.old work.new result }
+    requires { AllReady plan.now setting.stations setting.slots (terms_of setting) depth base block work.old }
+    ensures { AllStruck plan.now out setting.stations setting.slots (terms_of setting) work.old work.new result }
 {
+    let Setting { stations: n, .. } = setting;
     memory::fill_part(work, base, 2 * n, 0);
     let mut splits = forward::no_splits();
     let mut pairs = 0;
     for source in 0..n {
-        splits = forward::refilled(work, plan, out, n, t, g, h, base, source, n, splits);
+        splits = forward::refilled(work, plan, out, setting, base, source, n, splits);
         let width = forward::next_split(splits);
-        pairs += strike_source(
-            work, plan, out, n, t, g, h, depth, base, block, source, width,
-        )?;
+        pairs += strike_source(work, plan, out, setting, depth, base, block, source, width)?;
         splits = forward::later_splits(splits);
     }
     Some(pairs)
 }
 
 // How many pairs use the contact, and in the tallies every station's load without the record.
-fn strike(
-    work: &mut [u64],
-    plan: &[u8],
-    out: usize,
-    n: usize,
-    t: usize,
-    g: usize,
-    h: usize,
-) -> Option<usize>
-    requires { AllAsked plan.now n t (units g h) work.old }
-    ensures { AllStruck plan.now out n t (units g h) work.old work.new result }
+fn strike(work: &mut [u64], plan: &[u8], out: usize, setting: Setting) -> Option<usize>
+    requires { AllAsked plan.now setting.stations setting.slots (terms_of setting) work.old }
+    ensures { AllStruck plan.now out setting.stations setting.slots (terms_of setting) work.old work.new result }
 {
+    let Setting {
+        stations: n,
+        slots: t,
+        keeping: h,
+        ..
+    } = setting;
     let depth = forward::depth(work, plan, n, t, h);
-    let block = forward::most_columns(n, t, g, h, depth, 4 * (t + 1) - 2);
+    let block = forward::most_columns(setting, depth, 4 * (t + 1) - 2);
     let base = tallies::base_of(n, t);
-    strike_sources(work, plan, out, n, t, g, h, depth, base, block)
+    strike_sources(work, plan, out, setting, depth, base, block)
 }
 
 // Works on one source without the record at position out, whole where there is none, from what is known of it: its tallies are kept at a place
@@ -179,10 +167,7 @@ fn tally_parked(
     work: &mut [u64],
     plan: &[u8],
     out: usize,
-    n: usize,
-    t: usize,
-    g: usize,
-    h: usize,
+    setting: Setting,
     depth: usize,
     base: usize,
     block: usize,
@@ -190,15 +175,14 @@ fn tally_parked(
     source: usize,
     width: usize,
 ) -> bool
-    requires { ParkReady (lacking_record plan.now out) n t (units g h) depth base block park source work.old ×
-        Known (lacking_record plan.now out) n t (units g h) source width }
-    ensures { ParkDone (lacking_record plan.now out) n t (units g h) base park source
+    requires { ParkReady (lacking_record plan.now out) setting.stations setting.slots (terms_of setting) depth base block park source work.old ×
+        Known (lacking_record plan.now out) setting.stations setting.slots (terms_of setting) source width }
+    ensures { ParkDone (lacking_record plan.now out) setting.stations setting.slots (terms_of setting) base park source
         work.old work.new result }
 {
+    let Setting { stations: n, .. } = setting;
     pass::copy_row(work, base, park, 2 * n);
-    if tallies::tally_source(
-        work, plan, out, n, t, g, h, depth, base, block, source, width,
-    ) {
+    if tallies::tally_source(work, plan, out, setting, depth, base, block, source, width) {
         return true;
     }
     pass::copy_row(work, park, base, 2 * n);
@@ -210,10 +194,7 @@ fn strike_both(
     work: &mut [u64],
     plan: &[u8],
     out: usize,
-    n: usize,
-    t: usize,
-    g: usize,
-    h: usize,
+    setting: Setting,
     depth: usize,
     base: usize,
     block: usize,
@@ -221,10 +202,11 @@ fn strike_both(
     whole: usize,
     lacking: usize,
 ) -> Option<usize>
-    requires { BothReady plan.now out n t (units g h) depth base block source work.old ×
-        BothKnown plan.now out n t (units g h) source whole lacking }
-    ensures { BothStruck plan.now out n t (units g h) base source work.old work.new result }
+    requires { BothReady plan.now out setting.stations setting.slots (terms_of setting) depth base block source work.old ×
+        BothKnown plan.now out setting.stations setting.slots (terms_of setting) source whole lacking }
+    ensures { BothStruck plan.now out setting.stations setting.slots (terms_of setting) base source work.old work.new result }
 {
+    let Setting { stations: n, .. } = setting;
     let with = base + 2 * n;
     let without = base + 4 * n;
     let kept = base + 6 * n;
@@ -232,10 +214,7 @@ fn strike_both(
         work,
         plan,
         plan.len(),
-        n,
-        t,
-        g,
-        h,
+        setting,
         depth,
         base,
         block,
@@ -247,7 +226,7 @@ fn strike_both(
     }
     pass::copy_row(work, kept, 0, 2 * n);
     if tally_parked(
-        work, plan, out, n, t, g, h, depth, base, block, without, source, lacking,
+        work, plan, out, setting, depth, base, block, without, source, lacking,
     ) {
         return None;
     }
@@ -259,33 +238,28 @@ fn strike_roomy(
     work: &mut [u64],
     plan: &[u8],
     out: usize,
-    n: usize,
-    t: usize,
-    g: usize,
-    h: usize,
+    setting: Setting,
     depth: usize,
     base: usize,
     block: usize,
 ) -> Option<usize>
-    requires { RoomReady plan.now n t (units g h) depth base block work.old }
-    ensures { RoomStruck plan.now out n t (units g h) base work.old work.new result }
+    requires { RoomReady plan.now setting.stations setting.slots (terms_of setting) depth base block work.old }
+    ensures { RoomStruck plan.now out setting.stations setting.slots (terms_of setting) base work.old work.new result }
 {
+    let Setting { stations: n, .. } = setting;
     let with = base + 2 * n;
     memory::fill_part(work, with, 4 * n, 0);
     let mut whole = forward::no_splits();
     let mut lacking = forward::no_splits();
     let mut pairs = 0;
     for source in 0..n {
-        whole = forward::refilled(work, plan, plan.len(), n, t, g, h, base, source, n, whole);
-        lacking = forward::refilled(work, plan, out, n, t, g, h, base, source, n, lacking);
+        whole = forward::refilled(work, plan, plan.len(), setting, base, source, n, whole);
+        lacking = forward::refilled(work, plan, out, setting, base, source, n, lacking);
         let used = strike_both(
             work,
             plan,
             out,
-            n,
-            t,
-            g,
-            h,
+            setting,
             depth,
             base,
             block,
@@ -317,22 +291,24 @@ fn struck_narrow(
     changes: &mut [i64],
     work: &mut [u64],
     plan: &[u8],
-    n: usize,
-    t: usize,
-    g: usize,
-    h: usize,
+    setting: Setting,
     position: usize,
 ) -> Result<u64, Fault>
-    requires { StruckReady plan.now n t (units g h) changes.old work.old }
+    requires { StruckReady plan.now setting.stations setting.slots (terms_of setting) changes.old work.old }
     ensures { struck_outcome result (struck_buffers changes.new work.new) ≡
-        struck_off (plan_of plan.now n t (units g h)) position (struck_buffers changes.old work.old) }
+        struck_off (plan_in plan.now setting) position (struck_buffers changes.old work.old) }
 {
-    if tallies::tally(work, plan, n, t, g, h, n) {
+    let Setting {
+        stations: n,
+        slots: t,
+        ..
+    } = setting;
+    if tallies::tally(work, plan, setting, n) {
         return refuse_too_many(changes, work, n, t);
     }
     let loads = tallies::base_of(n, t) + n;
     changes::write_loads(changes, work, loads, n);
-    let Some(pairs) = strike(work, plan, position, n, t, g, h) else {
+    let Some(pairs) = strike(work, plan, position, setting) else {
         return refuse_too_many(changes, work, n, t);
     };
     changes::subtract_loads(changes, work, loads, n);
@@ -342,19 +318,12 @@ fn struck_narrow(
 
 // A block of columns with which both plans' tallies and a source's hops and counts fit, from one that fits before the tallies of one plan: the
 // same, or 3 fewer where that adds few passes; else none.
-fn room_block(
-    n: usize,
-    t: usize,
-    g: usize,
-    h: usize,
-    depth: usize,
-    base: usize,
-    block: usize,
-) -> Option<usize>
-    requires { (n ≤ 256) × ((h ≤ 255) × ((depth ≤ 255) × RoomAsked n t (units g h) depth base block)) }
-    ensures { RoomFor n t (units g h) depth base block result }
+fn room_block(setting: Setting, depth: usize, base: usize, block: usize) -> Option<usize>
+    requires { (setting.stations ≤ 256) × ((setting.keeping ≤ 255) × ((depth ≤ 255) × RoomAsked setting.stations setting.slots (terms_of setting) depth base block)) }
+    ensures { RoomFor setting.stations setting.slots (terms_of setting) depth base block result }
 {
-    let size = forward::pass_size(n, t, g, h, depth, block);
+    let Setting { stations: n, .. } = setting;
+    let size = forward::pass_size(setting, depth, block);
     let more = 6 * n;
     if more <= base && size <= base - more {
         return Some(block);
@@ -370,22 +339,24 @@ fn struck_roomy(
     changes: &mut [i64],
     work: &mut [u64],
     plan: &[u8],
-    n: usize,
-    t: usize,
-    g: usize,
-    h: usize,
+    setting: Setting,
     position: usize,
     depth: usize,
     base: usize,
     block: usize,
 ) -> Result<u64, Fault>
-    requires { RoomyReady plan.now n t (units g h) depth base block changes.old work.old }
+    requires { RoomyReady plan.now setting.stations setting.slots (terms_of setting) depth base block changes.old work.old }
     ensures { struck_outcome result (struck_buffers changes.new work.new) ≡
-        struck_off (plan_of plan.now n t (units g h)) position (struck_buffers changes.old work.old) }
+        struck_off (plan_in plan.now setting) position (struck_buffers changes.old work.old) }
 {
+    let Setting {
+        stations: n,
+        slots: t,
+        ..
+    } = setting;
     let with = base + 3 * n;
     let without = base + 5 * n;
-    let Some(pairs) = strike_roomy(work, plan, position, n, t, g, h, depth, base, block) else {
+    let Some(pairs) = strike_roomy(work, plan, position, setting, depth, base, block) else {
         return refuse_too_many(changes, work, n, t);
     };
     changes::write_loads(changes, work, with, n);
@@ -399,30 +370,30 @@ fn struck_work(
     changes: &mut [i64],
     work: &mut [u64],
     plan: &[u8],
-    n: usize,
-    t: usize,
-    g: usize,
-    h: usize,
+    setting: Setting,
     position: usize,
 ) -> Result<u64, Fault>
-    requires { StruckReady plan.now n t (units g h) changes.old work.old }
+    requires { StruckReady plan.now setting.stations setting.slots (terms_of setting) changes.old work.old }
     ensures { struck_outcome result (struck_buffers changes.new work.new) ≡
-        struck_off (plan_of plan.now n t (units g h)) position (struck_buffers changes.old work.old) }
+        struck_off (plan_in plan.now setting) position (struck_buffers changes.old work.old) }
 {
+    let Setting {
+        stations: n,
+        slots: t,
+        keeping: h,
+        ..
+    } = setting;
     let depth = forward::depth(work, plan, n, t, h);
-    let most = forward::most_columns(n, t, g, h, depth, 4 * (t + 1) - 2);
+    let most = forward::most_columns(setting, depth, 4 * (t + 1) - 2);
     let base = tallies::base_of(n, t);
-    let Some(block) = room_block(n, t, g, h, depth, base, most) else {
-        return struck_narrow(changes, work, plan, n, t, g, h, position);
+    let Some(block) = room_block(setting, depth, base, most) else {
+        return struck_narrow(changes, work, plan, setting, position);
     };
     struck_roomy(
         changes,
         work,
         plan,
-        n,
-        t,
-        g,
-        h,
+        setting,
         position,
         depth,
         base - 6 * n,
@@ -435,23 +406,25 @@ fn struck_asked(
     changes: &mut [i64],
     work: &mut [u64],
     plan: &[u8],
-    n: usize,
-    t: usize,
-    g: usize,
-    h: usize,
+    setting: Setting,
     position: usize,
 ) -> Result<u64, Fault>
-    requires { (plan_fault plan.now n t ≡ 0) × (first (terms_causes (units g h)) ≡ 0) }
+    requires { (plan_fault plan.now setting.stations setting.slots ≡ 0) × (first (terms_causes (terms_of setting)) ≡ 0) }
     ensures { struck_outcome result (struck_buffers changes.new work.new) ≡
-        struck plan.now n t (units g h) position (struck_buffers changes.old work.old) }
+        struck plan.now setting.stations setting.slots (terms_of setting) position (struck_buffers changes.old work.old) }
 {
+    let Setting {
+        stations: n,
+        slots: t,
+        ..
+    } = setting;
     if changes.len() < n || work.len() < 4 * (n * (t + 1)) {
         return Err(Fault::Call(CallFault::Short));
     }
     if plan.len() / 6 <= position {
         return Err(Fault::Call(CallFault::Position));
     }
-    struck_work(changes, work, plan, n, t, g, h, position)
+    struck_work(changes, work, plan, setting, position)
 }
 
 // Every station's change of load if the contact at a position is struck out, and how many ordered pairs have a shortest walk that uses it.
@@ -471,7 +444,13 @@ pub fn struck_out(
     // let .. else is the form that document 01 names for the check's answer.
     let Err(fault) = plan::check(plan, n, t) else {
         calls::terms_call(g, h)?;
-        return struck_asked(changes, work, plan, n, t, g, h, position);
+        let setting = Setting {
+            stations: n,
+            slots: t,
+            turnaround: g,
+            keeping: h,
+        };
+        return struck_asked(changes, work, plan, setting, position);
     };
     Err(Fault::Plan(fault))
 }

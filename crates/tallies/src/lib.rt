@@ -3,10 +3,9 @@
 #![tactic(auto)]
 
 ghost use Rattle.std.specs.Prelude.{◌≡◌, true, false, ◌+◌, ◌*◌, ◌^◌, ◌<◌, ◌≤◌, min, length, get_or};
-ghost use Rattle.temporal.specs.Plan.{units};
-ghost use Rattle.temporal.specs.Bytes.{plan_of};
 ghost use Rattle.temporal.specs.Cause.{is_too_many};
 ghost use Rattle.temporal.specs.Struck.{lacking_record};
+ghost use Rattle.plan.specs.Setting.{terms_of, plan_in};
 ghost use Rattle.tallies.specs.Tally.{tally_base, Tallyable, Tallied};
 ghost use Rattle.lanes.specs.Lane.{ones, lanes_of, width_of};
 ghost use Rattle.pass.specs.Column.{lanes_by, column_at};
@@ -33,6 +32,7 @@ ghost use Rattle.tallies.specs.Sources.{
 };
 
 use forward::Unpacked;
+use plan::Setting;
 
 // What column j of the row that begins at a place holds.
 fn column(work: &[u64], row: usize, j: usize, split: usize) -> u64
@@ -173,10 +173,7 @@ fn tally_block(
     plan: &[u8],
     out: usize,
     known: bool,
-    n: usize,
-    t: usize,
-    g: usize,
-    h: usize,
+    setting: Setting,
     depth: usize,
     base: usize,
     source: usize,
@@ -185,13 +182,14 @@ fn tally_block(
     split: usize,
     stations: usize,
 ) -> Result<(), Unpacked>
-    requires { BlockReady (lacking_record plan.now out) n t (units g h) depth base source low (rows_of stations block split) work.old ×
-        (known ≡ true → is_too_many (plan_of (lacking_record plan.now out) n t (units g h)) source ≡ false) }
-    ensures { BlockDone (lacking_record plan.now out) n t (units g h) base source low (rows_of stations block split)
+    requires { BlockReady (lacking_record plan.now out) setting.stations setting.slots (terms_of setting) depth base source low (rows_of stations block split) work.old ×
+        (known ≡ true → is_too_many (plan_in (lacking_record plan.now out) setting) source ≡ false) }
+    ensures { BlockDone (lacking_record plan.now out) setting.stations setting.slots (terms_of setting) base source low (rows_of stations block split)
         work.old work.new result }
 {
+    let Setting { stations: n, .. } = setting;
     forward::pass_packed(
-        work, plan, out, known, n, t, g, h, depth, source, low, block, split,
+        work, plan, out, known, setting, depth, source, low, block, split,
     )?;
     add_rows(work, n, base, source, low, block, split, stations);
     Ok(())
@@ -240,20 +238,23 @@ pub fn tally_source(
     work: &mut [u64],
     plan: &[u8],
     out: usize,
-    n: usize,
-    t: usize,
-    g: usize,
-    h: usize,
+    setting: Setting,
     depth: usize,
     base: usize,
     block: usize,
     source: usize,
     width: usize,
 ) -> bool
-    requires { SourceReady (lacking_record plan.now out) n t (units g h) depth base block source work.old ×
-        Known (lacking_record plan.now out) n t (units g h) source width }
-    ensures { SourceDone (lacking_record plan.now out) n t (units g h) base source work.old work.new result }
+    requires { SourceReady (lacking_record plan.now out) setting.stations setting.slots (terms_of setting) depth base block source work.old ×
+        Known (lacking_record plan.now out) setting.stations setting.slots (terms_of setting) source width }
+    ensures { SourceDone (lacking_record plan.now out) setting.stations setting.slots (terms_of setting) base source work.old work.new result }
 {
+    let Setting {
+        stations: n,
+        slots: t,
+        keeping: h,
+        ..
+    } = setting;
     let mut known = 0 < width;
     let mut split = first_split(t, h, width);
     let mut low = 0;
@@ -262,7 +263,7 @@ pub fn tally_source(
         let entries = next_entries(known, n - low, block, split);
         let stations = lanes::columns_of(entries, split).min(n - low);
         match tally_block(
-            work, plan, out, known, n, t, g, h, depth, base, source, low, entries, split, stations,
+            work, plan, out, known, setting, depth, base, source, low, entries, split, stations,
         ) {
             Ok(()) => {
                 known = true;
@@ -283,31 +284,26 @@ pub fn tally_source(
 fn tally_sources(
     work: &mut [u64],
     plan: &[u8],
-    n: usize,
-    t: usize,
-    g: usize,
-    h: usize,
+    setting: Setting,
     depth: usize,
     k: usize,
     base: usize,
     block: usize,
 ) -> bool
-    requires { AllReady plan.now n t (units g h) depth k base block work.old }
-    ensures { Tallied plan.now n t (units g h) k work.old work.new result }
+    requires { AllReady plan.now setting.stations setting.slots (terms_of setting) depth k base block work.old }
+    ensures { Tallied plan.now setting.stations setting.slots (terms_of setting) k work.old work.new result }
 {
+    let Setting { stations: n, .. } = setting;
     memory::fill_part(work, base, 2 * n, 0);
     let mut splits = forward::no_splits();
     for source in 0..k {
-        splits = forward::refilled(work, plan, plan.len(), n, t, g, h, base, source, k, splits);
+        splits = forward::refilled(work, plan, plan.len(), setting, base, source, k, splits);
         let width = forward::next_split(splits);
         if tally_source(
             work,
             plan,
             plan.len(),
-            n,
-            t,
-            g,
-            h,
+            setting,
             depth,
             base,
             block,
@@ -330,20 +326,18 @@ pub fn base_of(n: usize, t: usize) -> usize
 }
 
 // Adds up the pairs and the load of every station over the sources below k. True where a count is over 2^64 - 1.
-pub fn tally(
-    work: &mut [u64],
-    plan: &[u8],
-    n: usize,
-    t: usize,
-    g: usize,
-    h: usize,
-    k: usize,
-) -> bool
-    requires { Tallyable plan.now n t (units g h) k work.old }
-    ensures { Tallied plan.now n t (units g h) k work.old work.new result }
+pub fn tally(work: &mut [u64], plan: &[u8], setting: Setting, k: usize) -> bool
+    requires { Tallyable plan.now setting.stations setting.slots (terms_of setting) k work.old }
+    ensures { Tallied plan.now setting.stations setting.slots (terms_of setting) k work.old work.new result }
 {
+    let Setting {
+        stations: n,
+        slots: t,
+        keeping: h,
+        ..
+    } = setting;
     let depth = forward::depth(work, plan, n, t, h);
-    let block = forward::most_columns(n, t, g, h, depth, 4 * (t + 1) - 2);
+    let block = forward::most_columns(setting, depth, 4 * (t + 1) - 2);
     let base = base_of(n, t);
-    tally_sources(work, plan, n, t, g, h, depth, k, base, block)
+    tally_sources(work, plan, setting, depth, k, base, block)
 }

@@ -27,33 +27,14 @@ fn verdict_work(question: &Question<'_>, list: &[u16], work: &mut [u64]) -> Resu
         source,
         destination,
     } = *question;
-    if forward::pass(
-        work,
-        plan,
-        setting.stations,
-        setting.slots,
-        setting.turnaround,
-        setting.keeping,
-        setting.keeping,
-        source,
-        0,
-        0,
-    ) {
+    if forward::pass(work, plan, setting, setting.keeping, source, 0, 0) {
         return Err(Fault::Call(CallFault::TooMany));
     }
     let hops = work[destination] as usize;
     if hops == 65535 {
         return Ok(judging::judge_none(list));
     }
-    ways::complete(
-        work,
-        plan,
-        setting.stations,
-        setting.slots,
-        setting.turnaround,
-        setting.keeping,
-        destination,
-    );
+    ways::complete(work, plan, setting, destination);
     let pair = Pair {
         stations: setting.stations,
         slots: setting.slots,

@@ -7,6 +7,7 @@ ghost use Rattle.temporal.specs.Plan.{Plan, units, Keeps, start, may_follow};
 ghost use Rattle.temporal.specs.Walk.{step};
 ghost use Rattle.temporal.specs.Bytes.{contact_at, records, plan_of};
 ghost use Rattle.temporal.specs.Outcome.{over};
+ghost use Rattle.plan.specs.Setting.{terms_of};
 ghost use Rattle.ways.specs.Home.{Completable, Completed};
 ghost use Rattle.ways.specs.Column.{lowered, folded_back, stored_back, is_due, Begun, RecordWithin};
 ghost use Rattle.ways.specs.Window.{lowered_run, folded_window, begun_window, FoldableWindow};
@@ -32,6 +33,8 @@ ghost use Rattle.ways.specs.Found.{
   Continuable,
   Stepped,
 };
+
+use plan::Setting;
 
 // What a listing is about: the numbers of an accepted plan, its units' turnaround and for how many slots they keep a reading, a pair
 // of its stations, and the pair's hops.
@@ -113,10 +116,16 @@ fn is_due(plan: &[u8], g: usize, i: usize, j: usize) -> bool
 
 // Fills the completion table of destination z where nothing goes stale: one pass back over the records. The start's column holds what
 // starts with the records from j on; those from i on are stored, each before any is folded in that may not follow it.
-fn complete_lasting(work: &mut [u64], plan: &[u8], n: usize, t: usize, g: usize, h: usize, z: usize)
-    requires { Completable plan.now n t (units g h) z work.old × Keeps t (units g h) }
-    ensures { Completed plan.now n t (units g h) z work.old work.new }
+fn complete_lasting(work: &mut [u64], plan: &[u8], setting: Setting, z: usize)
+    requires { Completable plan.now setting.stations setting.slots (terms_of setting) z work.old × Keeps setting.slots (terms_of setting) }
+    ensures { Completed plan.now setting.stations setting.slots (terms_of setting) z work.old work.new }
 {
+    let Setting {
+        stations: n,
+        slots: t,
+        turnaround: g,
+        ..
+    } = setting;
     let width = t + 1;
     begin_back(work, n, width, z);
     let mut i = plan.len() / 6;
@@ -169,10 +178,16 @@ fn begin_window(work: &mut [u64], n: usize, width: usize, z: usize)
 
 // Fills the completion table of destination z where a reading goes stale: a contact in slot k may follow what is heard in slot u only
 // where u + g <= k <= u + h. One pass back over the records.
-fn complete_window(work: &mut [u64], plan: &[u8], n: usize, t: usize, g: usize, h: usize, z: usize)
-    requires { Completable plan.now n t (units g h) z work.old }
-    ensures { Completed plan.now n t (units g h) z work.old work.new }
+fn complete_window(work: &mut [u64], plan: &[u8], setting: Setting, z: usize)
+    requires { Completable plan.now setting.stations setting.slots (terms_of setting) z work.old }
+    ensures { Completed plan.now setting.stations setting.slots (terms_of setting) z work.old work.new }
 {
+    let Setting {
+        stations: n,
+        slots: t,
+        turnaround: g,
+        keeping: h,
+    } = setting;
     let width = t + 1;
     begin_window(work, n, width, z);
     for j in (0..plan.len() / 6).rev() {
@@ -181,14 +196,19 @@ fn complete_window(work: &mut [u64], plan: &[u8], n: usize, t: usize, g: usize, 
 }
 
 // Fills the completion table of destination z.
-pub fn complete(work: &mut [u64], plan: &[u8], n: usize, t: usize, g: usize, h: usize, z: usize)
-    requires { Completable plan.now n t (units g h) z work.old }
-    ensures { Completed plan.now n t (units g h) z work.old work.new }
+pub fn complete(work: &mut [u64], plan: &[u8], setting: Setting, z: usize)
+    requires { Completable plan.now setting.stations setting.slots (terms_of setting) z work.old }
+    ensures { Completed plan.now setting.stations setting.slots (terms_of setting) z work.old work.new }
 {
+    let Setting {
+        slots: t,
+        keeping: h,
+        ..
+    } = setting;
     if t <= h + 1 {
-        complete_lasting(work, plan, n, t, g, h, z);
+        complete_lasting(work, plan, setting, z);
     } else {
-        complete_window(work, plan, n, t, g, h, z);
+        complete_window(work, plan, setting, z);
     }
 }
 

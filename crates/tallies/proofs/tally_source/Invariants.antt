@@ -4,8 +4,7 @@
 use Prim.Native.Nat.{◌+◌, ◌-◌, ◌*◌, ◌≤◌}
 use mathlib.Core.Path.{◌≡◌}
 use mathlib.Core.Bool.{true, false, cond}
-use Rattle.temporal.specs.Plan.{units}
-use Rattle.temporal.specs.Bytes.{plan_of}
+use Rattle.plan.specs.Setting.{terms_of, plan_in}
 use Rattle.temporal.specs.Cause.{is_too_many}
 use Rattle.temporal.specs.Struck.{lacking_record}
 use Rattle.tallies.proofs.BlockLaws.{Blocking}
@@ -13,8 +12,8 @@ use Rattle.tallies.proofs.tally_source.Given as goal
 
 abbrev pub invariant-loop-low : goal.invariant-loop-low
 invariant-loop-low l =
-    (l.split ≤ 3) × (l.known ≡ true → is_too_many (plan_of (lacking_record l.plan l.out) l.n l.t (units l.g l.h)) l.source ≡ false) ×
-    Blocking (lacking_record l.plan l.out) l.n l.t (units l.g l.h) l.base l.source l.initial.work l.low l.work
+    (l.split ≤ 3) × (l.known ≡ true → is_too_many (plan_in (lacking_record l.plan l.out) l.setting) l.source ≡ false) ×
+    Blocking (lacking_record l.plan l.out) l.setting.stations l.setting.slots (terms_of l.setting) l.base l.source l.initial.work l.low l.work
 
 abbrev pub decreases-loop-low : goal.decreases-loop-low
-decreases-loop-low l = 4 * (l.n - l.low) + l.split + cond l.known 0 1
+decreases-loop-low l = 4 * (l.setting.stations - l.low) + l.split + cond l.known 0 1
