@@ -119,7 +119,8 @@ fn window_size(n: usize, depth: usize, block: usize) -> usize
 
 // How many entries of the work area the pass uses, with blocks of so many columns.
 pub fn pass_size(setting: Setting, depth: usize, block: usize) -> usize
-    requires { (setting.keeping ≤ 255) × ((depth ≤ 255) × (pass_size setting.stations setting.slots (terms_of setting) depth block < 18446744073709551616)) }
+    requires { (setting.keeping ≤ 255) × ((depth ≤ 255) ×
+        (pass_size setting.stations setting.slots (terms_of setting) depth block < 18446744073709551616)) }
     ensures { result ≡ pass_size setting.stations setting.slots (terms_of setting) depth block }
 {
     let Setting {
@@ -150,9 +151,11 @@ fn pass_slots(
     block: usize,
     until: usize,
 ) -> Result<usize, Stopped>
-    requires { UntilReady (lacking_record plan.now out) setting.stations setting.slots (terms_of setting) depth source until block work.old × (split_of columns ≤ 3) ×
+    requires { UntilReady (lacking_record plan.now out) setting.stations setting.slots (terms_of setting) depth source until
+        block work.old × (split_of columns ≤ 3) ×
         Spared known (lacking_record plan.now out) setting.stations setting.slots (terms_of setting) source }
-    ensures { ColumnsPassed (lacking_record plan.now out) setting.stations setting.slots (terms_of setting) source until (lanes_by (split_of columns))
+    ensures { ColumnsPassed (lacking_record plan.now out) setting.stations setting.slots (terms_of setting) source until
+        (lanes_by (split_of columns))
         (column_of columns set.now (block * 2 ^ split_of columns)) block
         (pass_size setting.stations setting.slots (terms_of setting) depth block) work.old work.new result }
 {
@@ -222,7 +225,8 @@ pub fn pass_packed(
     block: usize,
     split: usize,
 ) -> Result<(), Unpacked>
-    requires { PackedReady (lacking_record plan.now out) setting.stations setting.slots (terms_of setting) depth source block split work.old ×
+    requires { PackedReady (lacking_record plan.now out) setting.stations setting.slots (terms_of setting) depth source
+        block split work.old ×
         (known ≡ true → is_too_many (plan_in (lacking_record plan.now out) setting) source ≡ false) }
     ensures { PackedPassed (lacking_record plan.now out) setting.stations setting.slots (terms_of setting) depth source low block split
         work.old work.new result }
@@ -395,7 +399,8 @@ pub fn refilled(
     end: usize,
     splits: Splits,
 ) -> Splits
-    requires { RefillReady (lacking_record plan.now out) setting.stations setting.slots (terms_of setting) base source end splits work.old }
+    requires { RefillReady (lacking_record plan.now out) setting.stations setting.slots (terms_of setting) base source end
+        splits work.old }
     ensures { Refilled (lacking_record plan.now out) setting.stations setting.slots (terms_of setting) base source end
         work.old work.new result }
 {

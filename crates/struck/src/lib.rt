@@ -175,7 +175,8 @@ fn tally_parked(
     source: usize,
     width: usize,
 ) -> bool
-    requires { ParkReady (lacking_record plan.now out) setting.stations setting.slots (terms_of setting) depth base block park source work.old ×
+    requires { ParkReady (lacking_record plan.now out) setting.stations setting.slots (terms_of setting) depth base block
+        park source work.old ×
         Known (lacking_record plan.now out) setting.stations setting.slots (terms_of setting) source width }
     ensures { ParkDone (lacking_record plan.now out) setting.stations setting.slots (terms_of setting) base park source
         work.old work.new result }
@@ -319,7 +320,8 @@ fn struck_narrow(
 // A block of columns with which both plans' tallies and a source's hops and counts fit, from one that fits before the tallies of one plan: the
 // same, or 3 fewer where that adds few passes; else none.
 fn room_block(setting: Setting, depth: usize, base: usize, block: usize) -> Option<usize>
-    requires { (setting.stations ≤ 256) × ((setting.keeping ≤ 255) × ((depth ≤ 255) × RoomAsked setting.stations setting.slots (terms_of setting) depth base block)) }
+    requires { (setting.stations ≤ 256) × ((setting.keeping ≤ 255) × ((depth ≤ 255) ×
+        RoomAsked setting.stations setting.slots (terms_of setting) depth base block)) }
     ensures { RoomFor setting.stations setting.slots (terms_of setting) depth base block result }
 {
     let Setting { stations: n, .. } = setting;

@@ -182,10 +182,11 @@ fn tally_block(
     split: usize,
     stations: usize,
 ) -> Result<(), Unpacked>
-    requires { BlockReady (lacking_record plan.now out) setting.stations setting.slots (terms_of setting) depth base source low (rows_of stations block split) work.old ×
+    requires { BlockReady (lacking_record plan.now out) setting.stations setting.slots (terms_of setting) depth base source low
+        (rows_of stations block split) work.old ×
         (known ≡ true → is_too_many (plan_in (lacking_record plan.now out) setting) source ≡ false) }
-    ensures { BlockDone (lacking_record plan.now out) setting.stations setting.slots (terms_of setting) base source low (rows_of stations block split)
-        work.old work.new result }
+    ensures { BlockDone (lacking_record plan.now out) setting.stations setting.slots (terms_of setting) base source low
+        (rows_of stations block split) work.old work.new result }
 {
     let Setting { stations: n, .. } = setting;
     forward::pass_packed(
@@ -245,9 +246,11 @@ pub fn tally_source(
     source: usize,
     width: usize,
 ) -> bool
-    requires { SourceReady (lacking_record plan.now out) setting.stations setting.slots (terms_of setting) depth base block source work.old ×
+    requires { SourceReady (lacking_record plan.now out) setting.stations setting.slots (terms_of setting) depth base block source
+        work.old ×
         Known (lacking_record plan.now out) setting.stations setting.slots (terms_of setting) source width }
-    ensures { SourceDone (lacking_record plan.now out) setting.stations setting.slots (terms_of setting) base source work.old work.new result }
+    ensures { SourceDone (lacking_record plan.now out) setting.stations setting.slots (terms_of setting) base source
+        work.old work.new result }
 {
     let Setting {
         stations: n,

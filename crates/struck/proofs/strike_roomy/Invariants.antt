@@ -10,5 +10,6 @@ use Rattle.struck.proofs.strike_roomy.Given as goal
 
 abbrev pub invariant-loop-source : goal.invariant-loop-source
 invariant-loop-source l =
-    Pairing l.plan l.out l.setting.stations l.setting.slots (terms_of l.setting) l.base l.initial.work l.source l.work l.pairs × Knows (lacking_record l.plan (length l.plan)) l.setting.stations l.setting.slots (terms_of l.setting) l.source l.setting.stations l.whole ×
+    Pairing l.plan l.out l.setting.stations l.setting.slots (terms_of l.setting) l.base l.initial.work l.source l.work l.pairs ×
+    Knows (lacking_record l.plan (length l.plan)) l.setting.stations l.setting.slots (terms_of l.setting) l.source l.setting.stations l.whole ×
     Knows (lacking_record l.plan l.out) l.setting.stations l.setting.slots (terms_of l.setting) l.source l.setting.stations l.lacking

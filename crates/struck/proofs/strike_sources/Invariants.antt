@@ -9,4 +9,5 @@ use Rattle.struck.proofs.strike_sources.Given as goal
 
 abbrev pub invariant-loop-source : goal.invariant-loop-source
 invariant-loop-source l =
-    Striking l.plan l.out l.setting.stations l.setting.slots (terms_of l.setting) l.base l.initial.work l.source l.work l.pairs × Knows (lacking_record l.plan l.out) l.setting.stations l.setting.slots (terms_of l.setting) l.source l.setting.stations l.splits
+    Striking l.plan l.out l.setting.stations l.setting.slots (terms_of l.setting) l.base l.initial.work l.source l.work l.pairs ×
+    Knows (lacking_record l.plan l.out) l.setting.stations l.setting.slots (terms_of l.setting) l.source l.setting.stations l.splits

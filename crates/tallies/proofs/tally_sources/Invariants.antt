@@ -10,4 +10,5 @@ use Rattle.tallies.proofs.tally_sources.Given as goal
 
 abbrev pub invariant-loop-source : goal.invariant-loop-source
 invariant-loop-source l =
-    Summing l.plan l.setting.stations l.setting.slots (terms_of l.setting) l.k l.base l.initial.work l.source l.work × Knows (lacking_record l.plan (length l.plan)) l.setting.stations l.setting.slots (terms_of l.setting) l.source l.k l.splits
+    Summing l.plan l.setting.stations l.setting.slots (terms_of l.setting) l.k l.base l.initial.work l.source l.work ×
+    Knows (lacking_record l.plan (length l.plan)) l.setting.stations l.setting.slots (terms_of l.setting) l.source l.k l.splits
