@@ -98,6 +98,7 @@ fn put_leg(out: &mut [u8], at: usize, layered: &[u8], n: usize, q: usize, last: 
     let slot = c.slot as u64;
     let sender = c.sender as u64;
     let hearer = c.hearer as u64;
+    // Two calls: what stands behind is known in each branch, and no more where they join.
     if last {
         return text::put_fields(out, at, slot, b" ", sender, b" ", hearer, b"\n");
     }

@@ -47,6 +47,7 @@ fn changed(taking: Taking, entry: u16, more: usize) -> u16
     ensures { result ≡ changed taking entry more }
 {
     match taking {
+        // The check proves that `as` loses no bits; try_from would need an unwrap.
         Taking::In(c) => entry + more as u16,
         Taking::Out => entry - more as u16,
     }

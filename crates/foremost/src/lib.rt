@@ -55,8 +55,8 @@ fn appearance_too_many(work: &mut [u64], plan: &[u8], setting: Setting, s: usize
     met_appearance(ended)
 }
 
-// The through counts of the shortest foremost paths, where nothing goes stale, and in the work area their hops and count. The slot in which z is reached, or
-// the last where it is not; none where an appearance has over 2^64 - 1 shortest walks.
+// The through counts of the shortest foremost paths, where nothing goes stale, and in the work area their hops and count. The slot in which
+// z is reached, or the last where it is not; none where an appearance has over 2^64 - 1 shortest walks.
 fn foremost_throughs(
     question: &Question<'_>,
     through: &mut [u64],

@@ -56,7 +56,7 @@ pub fn read_all<R: Read>(reader: &mut R, buf: &mut [u8]) -> Result<usize, ReadFa
             Ok(0) => return Ok(done),
             Ok(more) => done += more,
             Err(ReadFault::Interrupted) if 0 < left => left -= 1,
-            Err(fault) => return Err(fault),
+            Err(_) => return Err(ReadFault::Failed),
         }
     }
     Ok(done)

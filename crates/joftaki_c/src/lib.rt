@@ -1,5 +1,5 @@
 // The operations for C: numbers as themselves, a slice as pointer and length, the papers' number as the answer (0: accepted),
-// and the values beside it in lent slots, 0 on refusal. include/joftaki.h declares them.
+// and the values beside it in lent slots, 0 on refusal, since C has no Result. include/joftaki.h declares them.
 #![tactic(auto)]
 
 ghost use Rattle.std.specs.Prelude.{◌≡◌};

@@ -93,7 +93,8 @@ fn next_leg(a: &[u16], b: &[u16], work: &[u64], plan: &[u8], q: Pair, k: usize) 
     is_found(a, work, plan, q, k, from, usize::from(b[k]))
 }
 
-// Whether each leg of a way from a given one on is the first position that leads home behind the legs before it.
+// Whether each leg of a way from a given one on is the first position that leads home behind the legs before it. One function for it and for
+// last_legs would take the test of a leg as a closure, whose contract is as long as the function.
 fn first_legs(way: &[u16], work: &[u64], plan: &[u8], q: Pair, from: usize) -> bool
     requires { WayJudgeable plan.now q work.now way.now }
     ensures { Tells result (FirstLegs (begins plan.now q) q.hops from way.now) }

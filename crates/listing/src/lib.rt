@@ -67,7 +67,8 @@ fn first_work(
     Ok(WayAnswer::Path(hops))
 }
 
-// The work, and the work area cleared after it.
+// The work, and the work area cleared after it. One function for it and for next_cleared would take the work as a closure, whose contract is
+// as long as the function.
 fn first_cleared(
     question: &Question<'_>,
     way: &mut [u16],

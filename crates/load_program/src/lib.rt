@@ -8,7 +8,7 @@ ghost use Rattle.report.specs.Report.{Texted};
 use std::io::Read;
 
 // The text of an input for units that turn round in G slots; its length.
-fn text_of<const G: usize>(input: &[u8], out: &mut [u8; 697]) -> usize
+pub fn text_of<const G: usize>(input: &[u8], out: &mut [u8; 697]) -> usize
     ensures { Texted input.now (turning G) out.old result out.new }
 {
     let mut pairs = [0u64; 32];
@@ -17,8 +17,15 @@ fn text_of<const G: usize>(input: &[u8], out: &mut [u8; 697]) -> usize
     report::report(input, G, out, &mut pairs, &mut sums, &mut work)
 }
 
-// The program for units that turn round in G slots.
-pub fn run<const G: usize>(reader: &mut impl Read, output: &impl Print, errors: &impl Print) {
+// The program whose text of an input is this one.
+pub fn run<F: FnOnce(&[u8], &mut [u8; 697]) -> usize>(
+    reader: &mut impl Read,
+    output: &impl Print,
+    errors: &impl Print,
+    text_of: F,
+)
+    requires { F.IsAlwaysCallable text_of }
+{
     let mut bytes = [0u8; 6145];
     let mut out = [0u8; 697];
     let Ok(got) = load::read_records(
@@ -29,7 +36,7 @@ pub fn run<const G: usize>(reader: &mut impl Read, output: &impl Print, errors: 
     ) else {
         return;
     };
-    let size = text_of::<G>(&bytes[..got], &mut out);
+    let size = text_of(&bytes[..got], &mut out).min(out.len());
     load::write_text(
         output,
         errors,

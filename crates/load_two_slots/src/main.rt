@@ -2,6 +2,16 @@
 // input, loads on standard output.
 #![tactic(auto)]
 
+ghost use Rattle.temporal.specs.Plan.{turning};
+ghost use Rattle.report.specs.Report.{Texted};
+
+// The text of an input for these units; its length.
+fn text_of(input: &[u8], out: &mut [u8; 697]) -> usize
+    ensures { Texted input.now (turning 2) out.old result out.new }
+{
+    load_program::text_of::<2>(input, out)
+}
+
 fn main(rt: HostRuntime) {
-    load_program::run::<2>(&mut rt.stdin(), &rt.stdout(), &rt.stderr());
+    load_program::run(&mut rt.stdin(), &rt.stdout(), &rt.stderr(), text_of);
 }

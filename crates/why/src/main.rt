@@ -2,6 +2,16 @@
 // input and at most so many walks under each pair, gives the account on standard output.
 #![tactic(auto)]
 
+ghost use Rattle.temporal.specs.Plan.{turning};
+ghost use Rattle.account.specs.Account.{Accounted};
+
+// The account's text for these units; its length.
+fn text_of(input: &[u8], station: usize, walks: usize, out: &mut [u8; 2598088]) -> usize
+    ensures { Accounted input.now (turning 2) station walks out.old result out.new }
+{
+    why_program::text_of::<2>(input, station, walks, out)
+}
+
 fn main(rt: HostRuntime) {
-    why_program::run::<2>(&rt, &mut rt.stdin(), &rt.stdout(), &rt.stderr());
+    why_program::run(&rt, &mut rt.stdin(), &rt.stdout(), &rt.stderr(), text_of);
 }

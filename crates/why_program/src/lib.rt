@@ -11,7 +11,7 @@ use std::env::Env;
 use std::io::Read;
 
 // The account's text for units that turn round in G slots; its length.
-fn text_of<const G: usize>(
+pub fn text_of<const G: usize>(
     input: &[u8],
     station: usize,
     walks: usize,
@@ -38,13 +38,16 @@ fn text_of<const G: usize>(
     )
 }
 
-// The program for units that turn round in G slots.
-pub fn run<const G: usize>(
+// The program whose account's text is this one.
+pub fn run<F: FnOnce(&[u8], usize, usize, &mut [u8; 2598088]) -> usize>(
     environment: &impl Env,
     reader: &mut impl Read,
     output: &impl Print,
     errors: &impl Print,
-) {
+    text_of: F,
+)
+    requires { F.IsAlwaysCallable text_of }
+{
     let Some(request) = asked::arguments(
         environment,
         errors,
@@ -62,7 +65,7 @@ pub fn run<const G: usize>(
     ) else {
         return;
     };
-    let size = text_of::<G>(&bytes[..got], request.station, request.walks, &mut out);
+    let size = text_of(&bytes[..got], request.station, request.walks, &mut out).min(out.len());
     load::write_text(
         output,
         errors,
