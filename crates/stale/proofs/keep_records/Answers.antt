@@ -1,5 +1,4 @@
--- `stale::keep_records` meets its contract. The loop's invariant: keeping from record i on gives what keeping for all gives. The measure is
--- the number of records left.
+-- `stale::keep_records` meets its contract. The loop's invariant: keeping from record i on gives what keeping for all gives.
 -- Assumes nothing.
 use Rattle.std.proofs.Common.{arith}
 use Rattle.stale.proofs.WindowSteps.{keeping_stop, keeping_more, keeping_all}

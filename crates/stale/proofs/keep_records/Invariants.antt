@@ -1,5 +1,4 @@
--- `stale::keep_records` meets its contract. The loop's invariant: keeping from record i on gives what keeping for all gives. The measure is
--- the number of records left.
+-- `stale::keep_records` meets its contract. The loop's invariant: keeping from record i on gives what keeping for all gives.
 -- Assumes nothing.
 use Rattle.temporal.specs.Struck.{lacking_record}
 use Rattle.pass.specs.Column.{lanes_by, split_of}
