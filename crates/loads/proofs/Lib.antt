@@ -1,3 +1,4 @@
 -- a search for the largest, and what loads and busiest leave
 mod LargestLaws
 pub mod LoadLaws
+mod CopyLaws
