@@ -1,0 +1,2 @@
+-- what the answer to a read is
+mod PartLaws
