@@ -12,6 +12,7 @@ fn text_of(input: &[u8], out: &mut [u8; 697]) -> usize
     load_program::text_of::<1>(input, out)
 }
 
+#[tactic(auto, using(report::proofs::ReportLaws::texted_within))]
 fn main(rt: HostRuntime) {
     load_program::run(&mut rt.stdin(), &rt.stdout(), &rt.stderr(), text_of);
 }

@@ -2,6 +2,7 @@
 // program reads no more than one byte over the largest input, which is enough to refuse. After a failed read nothing is written.
 #![tactic(auto)]
 
+ghost use Rattle.std.specs.Prelude.{◌≤◌, length};
 ghost use Rattle.temporal.specs.Plan.{turning};
 ghost use Rattle.report.specs.Report.{Texted};
 
@@ -17,14 +18,15 @@ pub fn text_of<const G: usize>(input: &[u8], out: &mut [u8; 697]) -> usize
     report::report(input, G, out, &mut pairs, &mut sums, &mut work)
 }
 
-// The program whose text of an input is this one.
+// The program whose text of an input is this one. The text lies within its buffer.
 pub fn run<F: FnOnce(&[u8], &mut [u8; 697]) -> usize>(
     reader: &mut impl Read,
     output: &impl Print,
     errors: &impl Print,
     text_of: F,
 )
-    requires { F.IsAlwaysCallable text_of }
+    requires callable { F.IsAlwaysCallable text_of }
+    requires within { (input : _) (old : _) (size : _) (new : _) → F.post text_of input old size new → size ≤ length new.now }
 {
     let mut bytes = [0u8; 6145];
     let mut out = [0u8; 697];
@@ -36,7 +38,7 @@ pub fn run<F: FnOnce(&[u8], &mut [u8; 697]) -> usize>(
     ) else {
         return;
     };
-    let size = text_of(&bytes[..got], &mut out).min(out.len());
+    let size = text_of(&bytes[..got], &mut out);
     load::write_text(
         output,
         errors,

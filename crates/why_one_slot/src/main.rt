@@ -12,6 +12,7 @@ fn text_of(input: &[u8], station: usize, walks: usize, out: &mut [u8; 2598088]) 
     why_program::text_of::<1>(input, station, walks, out)
 }
 
+#[tactic(auto, using(account::proofs::AccountedLaws::accounted_within))]
 fn main(rt: HostRuntime) {
     why_program::run(&rt, &mut rt.stdin(), &rt.stdout(), &rt.stderr(), text_of);
 }

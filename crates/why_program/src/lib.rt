@@ -4,6 +4,7 @@
 // nothing is written.
 #![tactic(auto)]
 
+ghost use Rattle.std.specs.Prelude.{◌≤◌, length};
 ghost use Rattle.temporal.specs.Plan.{turning};
 ghost use Rattle.account.specs.Account.{Accounted};
 
@@ -38,7 +39,7 @@ pub fn text_of<const G: usize>(
     )
 }
 
-// The program whose account's text is this one.
+// The program whose account's text is this one. The text lies within its buffer.
 pub fn run<F: FnOnce(&[u8], usize, usize, &mut [u8; 2598088]) -> usize>(
     environment: &impl Env,
     reader: &mut impl Read,
@@ -46,7 +47,9 @@ pub fn run<F: FnOnce(&[u8], usize, usize, &mut [u8; 2598088]) -> usize>(
     errors: &impl Print,
     text_of: F,
 )
-    requires { F.IsAlwaysCallable text_of }
+    requires callable { F.IsAlwaysCallable text_of }
+    requires within { (input : _) (station walks : _) (old : _) (size : _) (new : _) →
+        F.post text_of input station walks old size new → size ≤ length new.now }
 {
     let Some(request) = asked::arguments(
         environment,
@@ -65,7 +68,7 @@ pub fn run<F: FnOnce(&[u8], usize, usize, &mut [u8; 2598088]) -> usize>(
     ) else {
         return;
     };
-    let size = text_of(&bytes[..got], request.station, request.walks, &mut out).min(out.len());
+    let size = text_of(&bytes[..got], request.station, request.walks, &mut out);
     load::write_text(
         output,
         errors,
