@@ -1,4 +1,3 @@
 -- a search for the largest, and what loads and busiest leave
 mod LargestLaws
 pub mod LoadLaws
-mod CopyLaws

@@ -5,7 +5,6 @@ ghost use Rattle.std.specs.Prelude.{◌≡◌, ◌+◌, ◌<◌, ◌≤◌, leng
 ghost use Rattle.temporal.specs.Plan.{units};
 ghost use Rattle.temporal.specs.Cause.{first, terms_causes, plan_fault};
 ghost use Rattle.temporal.specs.OutcomePair.{partly_loaded, partial_loads, loads, compared, busiest};
-ghost use Rattle.memory.specs.Copy.{Copyable, Copied};
 ghost use Rattle.plan.specs.Setting.{terms_of, plan_in};
 ghost use Rattle.loads.specs.Answer.{loads_outcome, load_buffers, busiest_outcome};
 ghost use Rattle.loads.specs.Largest.{better_of, Largest, LoadsReady, BusiestReady};
@@ -35,17 +34,6 @@ fn largest(list: &[u64], from: usize, k: usize) -> usize
     best
 }
 
-// Copies k entries of a list, from a place on, to the beginning of a table. Entry by entry: copy_from_slice calls memmove, and the C interface
-// promises that the library needs memset alone.
-fn copy(table: &mut [u64], list: &[u64], from: usize, k: usize)
-    requires { Copyable list.now from k table.old }
-    ensures { Copied list.now from k table.old table.new }
-{
-    for i in 0..k {
-        table[i] = list[from + i];
-    }
-}
-
 // Partial loads once 1 to 8, 12, 14 and 13 are excluded.
 pub fn partial_loads_work(
     pairs: &mut [u64],
@@ -71,8 +59,8 @@ pub fn partial_loads_work(
         return Err(Fault::Call(CallFault::TooMany));
     }
     let base = tallies::base_of(n, t);
-    copy(pairs, work, base, n);
-    copy(sums, work, base + n, n);
+    memory::copy(pairs, work, base, n);
+    memory::copy(sums, work, base + n, n);
     memory::clear(work, 4 * (n * (t + 1)));
     Ok(())
 }

@@ -32,10 +32,13 @@ pub fn clear(table: &mut [u64], k: usize)
     table[..k].fill(0);
 }
 
-// Copies k entries of a list, from a place on, to the beginning of a table.
+// Copies k entries of a list, from a place on, to the beginning of a table. Entry by entry: copy_from_slice calls memmove, and the C interface
+// promises that the library needs memset alone.
 pub fn copy(table: &mut [u64], list: &[u64], from: usize, k: usize)
     requires { Copyable list.now from k table.old }
     ensures { Copied list.now from k table.old table.new }
 {
-    table[..k].copy_from_slice(&list[from..from + k]);
+    for i in 0..k {
+        table[i] = list[from + i];
+    }
 }

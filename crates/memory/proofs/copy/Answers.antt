@@ -1,8 +1,8 @@
--- `loads::copy` meets its contract. The loop's invariant: the first i entries are copied.
+-- `memory::copy` meets its contract. The loop's invariant: the first i entries are copied.
 -- Assumes nothing.
 use native.Mathlib.Omega.{arith}
-use Rattle.loads.proofs.CopyLaws.{copying_none, copying_more, copying_all}
-use Rattle.loads.proofs.copy.Goals as goal
+use Rattle.memory.proofs.CopyLaws.{copying_none, copying_more, copying_all}
+use Rattle.memory.proofs.copy.Goals as goal
 
 pub loop-i-init : goal.loop-i-init
 loop-i-init c = copying_none _ _ _ _

@@ -1,7 +1,0 @@
--- `loads::copy` meets its contract. The loop's invariant: the first i entries are copied.
--- Assumes nothing.
-use Rattle.loads.proofs.CopyLaws.{Copying}
-use Rattle.loads.proofs.copy.Given as goal
-
-abbrev pub invariant-loop-i : goal.invariant-loop-i
-invariant-loop-i l = Copying l.list l.from l.k l.i l.initial.table l.table
