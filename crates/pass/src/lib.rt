@@ -450,7 +450,8 @@ pub fn begin(work: &mut [u64], n: usize, block: usize, q: usize, source: usize, 
     memory::fill_part(work, row, block, one);
 }
 
-// The same with 1 in every column of the source's row.
+// The same with 1 in every column of the source's row. Inlined: as a call of its own it takes 160 bytes of stack in every pass.
+#[inline]
 #[tactic(auto, using(crate::proofs::WidthLaws::begun_split))]
 pub fn begin_columns(
     work: &mut [u64],
