@@ -25,7 +25,7 @@ abbrev pub PartWithin : Result ℕ ReadFault → ℕ → Type 0
 PartWithin (Ok k) size = k ≤ size
 PartWithin (Err f) size = Unit {0}
 
--- the bytes read are the first bytes of the buffer; or reading failed, which no interruption says
+-- the bytes read are the first bytes of the buffer; an error says that reading failed, never that it was interrupted
 abbrev pub InputWithin : Result ℕ ReadFault → List ℕ → Type 0
 InputWithin (Ok k) buf = IsPrefixLen k buf
 InputWithin (Err f) buf = f ≡ fault.Failed
